@@ -1,0 +1,1 @@
+// Laws of numbers and lists, with no code.

@@ -1,0 +1,77 @@
+-- What each call promises: its answer, and what every lent list holds when it returns. The contracts cite these records.
+use mathlib.Core.Path.{_≡_}
+use mathlib.Core.List.{List, _++_}
+use mathlib.Core.Bool.{Bool, true, false}
+use Prim.Native.Nat.{ℕ, _*_, _/_, min}
+use lib.IntN.{ℤ}
+use lib.Ieee.{Float}
+use lib.ListN.{length, take, drop, replicate}
+use Rattle.reference.specs.Frames.{Run}
+use Rattle.reference.specs.Scaling.{db-to-linear}
+use Rattle.reference.specs.Output.{samples, stats, per-frame-clips, s24le}
+use Rattle.reference.specs.Refusals.{Decision, accepted, refused, Place, decide, decision, gain-decision, gain-places, opening-places, convert-run-places, convert-places, convert-frame-places}
+use Rattle.reference.specs.declared.Gain.{Gain}
+use Rattle.reference.specs.declared.Converter.{Converter}
+use Rattle.reference.specs.declared.ConvertStats.{ConvertStats}
+use Rattle.reference.specs.declared.FromDb.{FromDb}
+use Rattle.reference.specs.declared.FromDb.the-variants.{Made}
+use Rattle.reference.specs.declared.Opened.{Opened}
+use Rattle.reference.specs.declared.Converted.{Converted}
+
+-- the one where the call is accepted, the other where it is refused
+unfoldable pub by-decision : {A : Type 0} → Decision → A → A → A
+by-decision accepted new old = new
+by-decision (refused n d) new old = old
+
+-- ---- gain and opening
+
+pub record GainPromise (db : Float) (answer : FromDb) : Type 0 where
+  pub decided : gain-decision answer ≡ decide (gain-places db)
+  pub made : decide (gain-places db) ≡ accepted → answer ≡ Made (record { db = db; linear = db-to-linear db })
+
+pub record OpeningPromise (settings : Converter) (answer : Opened) : Type 0 where
+  pub decided : decision (answer .verdict) ≡ decide (opening-places settings)
+  pub converter : answer .converter ≡ settings
+
+-- ---- conversions: `out` and `counts` are the lent lists at entry, `out'` and `counts'` at exit
+
+unfoldable pub no-clips : ConvertStats
+no-clips = record { clipped = replicate 6 0 }
+
+-- the answer of a conversion that tries these places
+pub record Answered (places : List Place) (conv : Converter) (r : Run) (answer : Converted) : Type 0 where
+  pub decided : decision (answer .verdict) ≡ decide places
+  pub counted : answer .stats ≡ by-decision (decide places) (stats conv r) no-clips
+
+-- 32-bit output
+pub record SamplesPromise (places : List Place) (conv : Converter) (r : Run) (out out' : List ℤ) (answer : Converted) : Type 0 where
+  pub answered : Answered places conv r answer
+  pub written : out' ≡ by-decision (decide places) (samples conv r) out
+
+abbrev pub ConvertRunPromise : Converter → Run → List ℤ → List ℤ → Converted → Type 0
+ConvertRunPromise conv r out = SamplesPromise (convert-run-places conv r out) conv r out
+
+abbrev pub ConvertFramePromise : Converter → Run → List ℤ → List ℤ → Converted → Type 0
+ConvertFramePromise conv r out = SamplesPromise (convert-frame-places conv r out) conv r out
+
+-- a list of per-frame counts that is not lent keeps its contents
+unfoldable pub if-lent : Bool → List ℕ → List ℕ → List ℕ
+if-lent true new old = new
+if-lent false new old = old
+
+-- byte output
+pub record ConvertPromise (conv : Converter) (r : Run) (lent : Bool) (out counts out' counts' : List ℕ) (answer : Converted) : Type 0 where
+  pub answered : Answered (convert-places conv r out lent counts) conv r answer
+  pub written : out' ≡ by-decision (decide (convert-places conv r out lent counts)) (s24le (samples conv r)) out
+  pub per-frame : counts' ≡ by-decision (decide (convert-places conv r out lent counts)) (if-lent lent (per-frame-clips conv r) counts) counts
+
+-- ---- `pack_s24le`
+
+-- min(samples, bytes / 3) samples are packed, and the bytes past them kept
+unfoldable pub packed : List ℤ → List ℕ → List ℕ
+packed zs bytes =
+    let n = min (length zs) (length bytes / 3) in
+    s24le (take n zs) ++ drop (3 * n) bytes
+
+pub record PackPromise (zs : List ℤ) (bytes bytes' : List ℕ) : Type 0 where
+  pub written : bytes' ≡ packed zs bytes

@@ -1,0 +1,143 @@
+-- Where a call is turned down: document 01's table as data.
+use mathlib.Core.List.{List, [], _∷_, _++_}
+use mathlib.Core.Bool.{Bool, true, false, cond, not, _&&_}
+use Prim.Native.Nat.{ℕ, _*_, _%_}
+use lib.Dec.{eqb, ltb, leb}
+use lib.IntN.{ℤ}
+use lib.ListN.{length}
+use lib.Ieee.{Float}
+use Rattle.reference.specs.Frames.{Run, frame-length, frame-count}
+use Rattle.reference.specs.Scaling.{allowed, right-gain}
+use Rattle.reference.specs.Output.{all-samples}
+use Rattle.reference.specs.declared.PcmRate.{PcmRate}
+use Rattle.reference.specs.declared.PcmRate.the-variants.{Hz88200, Hz176400, Hz352800}
+use Rattle.reference.specs.declared.Cutoff.{Cutoff}
+use Rattle.reference.specs.declared.Cutoff.the-variants.{Standard, Low, Wide}
+use Rattle.reference.specs.declared.Converter.{Converter}
+use Rattle.reference.specs.declared.PcmError.{PcmError}
+use Rattle.reference.specs.declared.PcmError.the-variants as error
+use Rattle.reference.specs.declared.Verdict.{Verdict}
+use Rattle.reference.specs.declared.Verdict.the-variants as verdict
+use Rattle.reference.specs.declared.FromDb.{FromDb}
+use Rattle.reference.specs.declared.FromDb.the-variants as from-db
+
+-- ---- a decision
+
+-- what a refusal carries
+pub data Datum : Type 0 where
+  number : ℕ → Datum
+  rate : PcmRate → Datum
+  cutoff : Cutoff → Datum
+  decibels : Float → Datum
+
+-- accepted, or refused with a number and data of the table
+pub data Decision : Type 0 where
+  accepted : Decision
+  refused : ℕ → List Datum → Decision
+
+unfoldable pub is-accepted : Decision → Bool
+is-accepted accepted = true
+is-accepted (refused n d) = false
+
+-- number and data of each case of the answers' enums
+abbrev pub error-decision : PcmError → Decision
+error-decision (error.Channels n) = refused 1 (number n ∷ [])
+error-decision (error.Unsupported r c) = refused 2 (rate r ∷ cutoff c ∷ [])
+error-decision (error.Gain db) = refused 3 (decibels db ∷ [])
+error-decision (error.InputLength n kind) = refused 4 (number n ∷ number kind ∷ [])
+error-decision (error.Frames n) = refused 5 (number n ∷ [])
+error-decision (error.OutputLength n expected) = refused 6 (number n ∷ number expected ∷ [])
+error-decision (error.OutputBytes n expected) = refused 7 (number n ∷ number expected ∷ [])
+error-decision (error.FrameCounts n expected) = refused 8 (number n ∷ number expected ∷ [])
+
+abbrev pub decision : Verdict → Decision
+decision verdict.Accepted = accepted
+decision (verdict.Refused e) = error-decision e
+
+abbrev pub gain-decision : FromDb → Decision
+gain-decision (from-db.Made g) = accepted
+gain-decision (from-db.Refused e) = error-decision e
+
+-- ---- places
+
+-- document 01's place: a row of the table. Whether its condition holds, its number, its data
+pub record Place : Type 0 where
+  pub holds : Bool
+  pub refusal : ℕ
+  pub carried : List Datum
+
+abbrev pub place : Bool → ℕ → List Datum → Place
+place b n d = record { holds = b; refusal = n; carried = d }
+
+-- places are tried from top to bottom: the first whose condition holds
+unfoldable pub decide : List Place → Decision
+decide [] = accepted
+decide (p ∷ ps) = cond (p .holds) (refused (p .refusal) (p .carried)) (decide ps)
+
+-- the place of a slice that need not be there
+unfoldable pub if-present : Bool → Place → List Place
+if-present true p = p ∷ []
+if-present false p = []
+
+-- ---- the table
+
+-- the gain call
+unfoldable pub gain-places : Float → List Place
+gain-places db = place (not (allowed db)) 3 (decibels db ∷ []) ∷ []
+
+unfoldable pub unsupported : PcmRate → Cutoff → Bool
+unsupported Hz88200 Wide = true
+unsupported Hz88200 Standard = false
+unsupported Hz88200 Low = false
+unsupported Hz176400 c = false
+unsupported Hz352800 c = false
+
+-- opening, and again in each conversion
+unfoldable pub opening-places : Converter → List Place
+opening-places conv =
+    place (not (leb 1 (conv .channels) && leb (conv .channels) 6)) 1 (number (conv .channels) ∷ [])
+    ∷ place (unsupported (conv .rate) (conv .cutoff)) 2 (rate (conv .rate) ∷ cutoff (conv .cutoff) ∷ [])
+    ∷ place (not (right-gain (conv .gain))) 3 (decibels (conv .gain .db) ∷ [])
+    ∷ []
+
+-- a slice that is to be one frame: `convert_frame`'s run, and each neighbour
+unfoldable pub one-frame : ℕ → List ℕ → Place
+one-frame channels bytes = place (not (eqb (length bytes) (frame-length channels))) 4 (number (length bytes) ∷ number 1 ∷ [])
+
+-- run length
+unfoldable pub run-length : ℕ → List ℕ → List Place
+run-length channels frames =
+    place (not (eqb (length frames % frame-length channels) 0)) 4 (number (length frames) ∷ number 0 ∷ [])
+    ∷ place (ltb 540000 (frame-count channels frames)) 5 (number (frame-count channels frames) ∷ [])
+    ∷ []
+
+-- run length, before, after
+unfoldable pub input-places : Converter → Run → List Place
+input-places conv r =
+    run-length (conv .channels) (r .frames)
+    ++ (if-present (r .has-before) (one-frame (conv .channels) (r .before))
+    ++ if-present (r .has-after) (one-frame (conv .channels) (r .after)))
+
+-- a lent list of n items where `expected` are asked for
+unfoldable pub lent-length : ℕ → ℕ → ℕ → Place
+lent-length refusal n expected = place (not (eqb n expected)) refusal (number n ∷ number expected ∷ [])
+
+-- ---- what each conversion tries: from the run length on, and in all
+
+unfoldable pub run-lengths : Converter → Run → List ℤ → List Place
+run-lengths conv r out = input-places conv r ++ (lent-length 6 (length out) (all-samples conv r) ∷ [])
+
+unfoldable pub byte-lengths : Converter → Run → List ℕ → Bool → List ℕ → List Place
+byte-lengths conv r out lent counts =
+    input-places conv r
+    ++ (lent-length 7 (length out) (3 * all-samples conv r)
+    ∷ if-present lent (lent-length 8 (length counts) (frame-count (conv .channels) (r .frames))))
+
+unfoldable pub convert-run-places : Converter → Run → List ℤ → List Place
+convert-run-places conv r out = opening-places conv ++ run-lengths conv r out
+
+unfoldable pub convert-places : Converter → Run → List ℕ → Bool → List ℕ → List Place
+convert-places conv r out lent counts = opening-places conv ++ byte-lengths conv r out lent counts
+
+unfoldable pub convert-frame-places : Converter → Run → List ℤ → List Place
+convert-frame-places conv r out = opening-places conv ++ (one-frame (conv .channels) (r .frames) ∷ run-lengths conv r out)
