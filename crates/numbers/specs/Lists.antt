@@ -1,4 +1,4 @@
--- Stretches of a function: as a list, summed, counted.
+-- Stretches of a function: as a list, summed, counted; and a property of a list's elements.
 use mathlib.Core.List.{List, [], _∷_, _++_}
 use mathlib.Core.Bool.{Bool, cond}
 use Prim.Native.Nat.{ℕ, zero, suc, _+_}
@@ -16,3 +16,8 @@ total f a (suc n) = total f a n + f (a + n)
 -- how many k in a, …, a + n - 1 pass the test
 abbrev pub count : (ℕ → Bool) → ℕ → ℕ → ℕ
 count p a n = total (λ k. cond (p k) 1 0) a n
+
+-- every element has the property
+abbrev pub Each {ℓ} : {A : Type 0} → (A → Type ℓ) → List A → Type ℓ
+Each P [] = Unit {ℓ}
+Each P (x ∷ xs) = P x × Each P xs

@@ -2,3 +2,8 @@ pub mod Rounding
 pub mod Shift
 pub mod Locality
 pub mod Sizes
+pub mod Constant
+pub mod Frames
+pub mod Refusals
+pub mod Promises
+pub mod Figures

@@ -1,8 +1,8 @@
 -- Module 3, channel bytes: frames, a run with its neighbours, and the bytes of one channel by position.
 use mathlib.Core.List.{List, _++_}
 use mathlib.Core.Bool.{Bool, true, false}
-use Prim.Native.Nat.{ℕ, _+_, _*_, _/_}
-use lib.ListN.{length, getD, replicate}
+use Prim.Native.Nat.{ℕ, _*_, _+_, _/_}
+use lib.ListN.{length, getD, take, drop, replicate}
 
 -- bytes of a frame: of one channel, and of all
 abbrev pub frame-bytes : ℕ
@@ -14,6 +14,10 @@ frame-length channels = frame-bytes * channels
 -- how many whole frames the bytes hold
 unfoldable pub frame-count : ℕ → List ℕ → ℕ
 frame-count channels bytes = length bytes / frame-length channels
+
+-- frame k of a list of frames
+unfoldable pub frame : ℕ → List ℕ → ℕ → List ℕ
+frame channels bytes k = take (frame-length channels) (drop (k * frame-length channels) bytes)
 
 -- the byte that every position outside reads
 abbrev pub idle : ℕ
@@ -46,6 +50,6 @@ unfoldable pub sequence : ℕ → Run → List ℕ
 sequence channels r = before-frame channels r ++ (r .frames ++ after-frame channels r)
 
 -- the byte of channel c at position p. Positions count from the first byte of the frame before the run, so that they are natural
--- numbers: p here is p - 4,704 in document 01. No sample of a run reads a position before that frame (`no-earlier-byte`, proofs/Run)
+-- numbers: p here is p - 4,704 in document 01. No sample of a run reads a position before that frame (`no-earlier-byte`, proofs/Frames)
 unfoldable pub channel-byte : ℕ → List ℕ → ℕ → ℕ → ℕ
 channel-byte channels bytes c p = getD bytes (p * channels + c) idle

@@ -6,3 +6,4 @@ pub mod Scaling
 pub mod Output
 pub mod Refusals
 pub mod Promises
+pub mod Figures

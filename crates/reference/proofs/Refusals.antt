@@ -1,0 +1,132 @@
+-- What it takes to pass the table's places, and what a refusal says.
+use mathlib.Core.Path.{_≡_, refl}
+use mathlib.Core.List.{List, [], _∷_, _++_}
+use mathlib.Core.Bool.{Bool, true, false, cond, _&&_}
+use Prim.Native.Nat.{ℕ, _*_, _%_, _<_, _≤_}
+use native.Mathlib.Nat.{div-add-mod'}
+use native.Mathlib.Omega.{arith}
+use borrow.Author.Tests.{ltb-false, leb-true, eqb-true, not-false}
+use lib.Dec.{leb}
+use lib.ListN.{length, length-replicate}
+use Rattle.reference.specs.Frames.{Run, idle, frame-length, frame-count, neighbour, before-frame}
+use Rattle.reference.specs.Refusals.{Datum, Decision, accepted, refused, error-decision, is-accepted, Place, decide, opening-places, run-length, one-frame, if-present, input-places}
+use Rattle.reference.specs.declared.Converter.{Converter}
+use Rattle.reference.specs.declared.PcmError.{PcmError}
+use Rattle.reference.specs.declared.PcmError.the-variants as error
+
+-- ---- trying places in turn
+
+pub at-first : (p : Place) (ps : List Place) → p .holds ≡ true → decide (p ∷ ps) ≡ refused (p .refusal) (p .carried)
+unfolding decide
+at-first p ps e = rw e
+
+pub at-next : (p : Place) (ps : List Place) → p .holds ≡ false → decide (p ∷ ps) ≡ decide ps
+unfolding decide
+at-next p ps e = rw e
+
+pub at-end : decide [] ≡ accepted
+unfolding decide
+at-end = refl
+
+pub present-holds : (p : Place) (there : Bool) (ps : List Place) → there ≡ true → p .holds ≡ true → decide (if-present there p ++ ps) ≡ refused (p .refusal) (p .carried)
+unfolding if-present
+present-holds p there ps t e = rw t (at-first p ps e)
+
+pub present-passes : (p : Place) (there : Bool) (ps : List Place) → there ≡ true → p .holds ≡ false → decide (if-present there p ++ ps) ≡ decide ps
+unfolding if-present
+present-passes p there ps t e = rw t (at-next p ps e)
+
+pub absent-passes : (p : Place) (there : Bool) (ps : List Place) → there ≡ false → decide (if-present there p ++ ps) ≡ decide ps
+unfolding if-present
+absent-passes p there ps t = rw t
+
+-- ---- lists of places one after the other
+
+refused≢accepted : {A : Type 0} (n : ℕ) (d : List Datum) → refused n d ≡ accepted → A
+refused≢accepted n d e = let z : _≡_ {A = ℕ} 0 1 = cc in absurd (omega arith)
+
+pub pass : (p : Place) (ps : List Place) → decide (p ∷ ps) ≡ accepted → (p .holds ≡ false) × (decide ps ≡ accepted)
+unfolding decide
+pass p ps e = go (p .holds) e
+  where
+    go : (b : Bool) → cond b (refused (p .refusal) (p .carried)) (decide ps) ≡ accepted → (b ≡ false) × (decide ps ≡ accepted)
+    go true e = refused≢accepted _ _ e
+    go false e = (refl, e)
+
+pub decide-first : (ps qs : List Place) → decide (ps ++ qs) ≡ accepted → decide ps ≡ accepted
+unfolding decide
+decide-first [] qs e = refl
+decide-first (p ∷ ps) qs e =
+    let h = pass p (ps ++ qs) e in
+    rw (h .0) (decide-first ps qs (h .1))
+
+pub decide-skip : (ps qs : List Place) → decide ps ≡ accepted → decide (ps ++ qs) ≡ decide qs
+unfolding decide
+decide-skip [] qs e = refl
+decide-skip (p ∷ ps) qs e =
+    let h = pass p ps e in
+    rw (h .0) (decide-skip ps qs (h .1))
+
+-- a refusal stands, whatever places follow
+pub decide-stop : (ps qs : List Place) → is-accepted (decide ps) ≡ false → decide (ps ++ qs) ≡ decide ps
+unfolding decide is-accepted
+decide-stop [] qs e = let z : _≡_ {A = ℕ} 0 1 = cc in absurd (omega arith)
+decide-stop (p ∷ ps) qs e = go (p .holds) e (decide-stop ps qs)
+  where
+    go : (b : Bool) → is-accepted (cond b (refused (p .refusal) (p .carried)) (decide ps)) ≡ false → (is-accepted (decide ps) ≡ false → decide (ps ++ qs) ≡ decide ps)
+        → cond b (refused (p .refusal) (p .carried)) (decide (ps ++ qs)) ≡ cond b (refused (p .refusal) (p .carried)) (decide ps)
+    go true f h = refl
+    go false f h = h f
+
+pub error-refuses : (e : PcmError) → is-accepted (error-decision e) ≡ false
+unfolding is-accepted
+error-refuses (error.Channels n) = refl
+error-refuses (error.Unsupported r c) = refl
+error-refuses (error.Gain d) = refl
+error-refuses (error.InputLength n k) = refl
+error-refuses (error.Frames n) = refl
+error-refuses (error.OutputLength n k) = refl
+error-refuses (error.OutputBytes n k) = refl
+error-refuses (error.FrameCounts n k) = refl
+
+-- ---- what an accepted converter and an accepted run have
+
+and-left : (a b : Bool) → a && b ≡ true → a ≡ true
+and-left true b e = refl
+and-left false b e = e
+
+and-right : (a b : Bool) → a && b ≡ true → b ≡ true
+and-right true b e = e
+and-right false b e = let z : _≡_ {A = ℕ} 0 1 = cc in absurd (omega arith)
+
+module _ (conv : Converter) (opens : decide (opening-places conv) ≡ accepted) where
+  pub some-channel : 0 < conv .channels
+  unfolding opening-places
+  some-channel = leb-true 1 (conv .channels) (and-left (leb 1 (conv .channels)) (leb (conv .channels) 6) (not-false _ (pass _ _ opens .0)))
+
+  pub few-channels : conv .channels ≤ 6
+  unfolding opening-places
+  few-channels = leb-true (conv .channels) 6 (and-right (leb 1 (conv .channels)) (leb (conv .channels) 6) (not-false _ (pass _ _ opens .0)))
+
+neighbour-length : (ch : ℕ) (there : Bool) (bytes : List ℕ) (ps : List Place) → decide (if-present there (one-frame ch bytes) ++ ps) ≡ accepted → length (neighbour ch there bytes) ≡ frame-length ch
+unfolding if-present one-frame neighbour
+neighbour-length ch true bytes ps e = eqb-true _ _ (not-false _ (pass _ _ e .0))
+neighbour-length ch false bytes ps e = length-replicate (frame-length ch) idle
+
+module _ (conv : Converter) (r : Run) (fits : decide (input-places conv r) ≡ accepted) where
+  pub whole-frames : length (r .frames) ≡ frame-count (conv .channels) (r .frames) * frame-length (conv .channels)
+  unfolding input-places run-length frame-count
+  whole-frames =
+      let h : length (r .frames) % frame-length (conv .channels) ≡ 0 = eqb-true _ _ (not-false _ (pass _ _ fits .0)) in
+      omega (arith, div-add-mod' (length (r .frames)) (frame-length (conv .channels)))
+
+  pub few-frames : frame-count (conv .channels) (r .frames) ≤ 540000
+  unfolding input-places run-length
+  few-frames = ltb-false _ _ (pass _ _ (pass _ _ fits .1) .0)
+
+  after-run-length : decide (if-present (r .has-before) (one-frame (conv .channels) (r .before)) ++ if-present (r .has-after) (one-frame (conv .channels) (r .after))) ≡ accepted
+  unfolding input-places run-length
+  after-run-length = pass _ _ (pass _ _ fits .1) .1
+
+  pub one-before : length (before-frame (conv .channels) r) ≡ frame-length (conv .channels)
+  one-before = neighbour-length (conv .channels) (r .has-before) (r .before) _ after-run-length
