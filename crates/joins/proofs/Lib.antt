@@ -1,0 +1,4 @@
+pub mod Pieces
+pub mod Bytes
+pub mod Joins
+pub mod Cases

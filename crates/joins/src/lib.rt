@@ -1,0 +1,1 @@
+// Demand 3: that cut runs join. No code.
