@@ -1,13 +1,20 @@
--- Laws of `tabulate` and `total`: equal stretches, stretches joined, the element at a place.
+-- Laws of `tabulate` and `total`: equal stretches, stretches joined, the element at a place; and of a list that is filled from a place on.
 use mathlib.Core.Path.{_≡_, refl, ap, ap₂, sym, _∙_}
 use mathlib.Core.List.{List, [], _∷_, _++_, append-assoc, append-nil}
 use mathlib.Core.Bool.{Bool, true, false, cond, not}
+use mathlib.Core.Logic.{_⊎_, inl, inr, ⊎-elim}
 use Prim.Native.Nat.{ℕ, zero, suc, _+_, _≤_, _<_}
 use native.Mathlib.Omega.{arith}
 use lib.Dec.{T, leb, leb→le, nleb→lt}
-use lib.ListN.{length, getD, length-append, List·getD-append, replicate, length-replicate, getD-replicate}
-use lib.Seq.{getD-at, ext-getD}
-use Rattle.numbers.specs.Lists.{tabulate, total}
+use lib.ListN.{length, getD, set, length-set, length-append, List·getD-append, replicate, length-replicate, getD-replicate}
+use lib.Seq.{getD-at, ext-getD, getD-set-same, getD-set-other}
+use Rattle.numbers.specs.Lists.{tabulate, total, Wrote}
+
+-- what stands at a place of a list does not go by the default
+pub getD-any : {A : Type 0} (l : List A) (i : ℕ) (d e : A) → i < length l → getD l i d ≡ getD l i e
+getD-any [] i d e h = absurd (omega arith)
+getD-any (x ∷ l) zero d e h = refl
+getD-any (x ∷ l) (suc i) d e h = getD-any l i d e (omega arith)
 
 module _ {A : Type 0} where
   -- f from a on and g from b on agree at n places
@@ -70,3 +77,26 @@ pub total-none : (f : ℕ → ℕ) (a n : ℕ) → ((k : ℕ) → k < n → f (a
 unfolding total
 total-none f a zero h = refl
 total-none f a (suc n) h = omega (arith, total-none f a n (λ k l. h k (omega arith)), h n (omega arith))
+
+-- ---- a list filled from a place on
+
+pub below-or : (m n : ℕ) → (m < n) ⊎ (n ≤ m)
+below-or m n = go (leb n m) (leb→le n m) (nleb→lt n m)
+  where
+    go : (b : Bool) → (T b → n ≤ m) → (T (not b) → m < n) → (m < n) ⊎ (n ≤ m)
+    go true p q = inr (p tt)
+    go false p q = inl (q tt)
+
+module _ {A : Type 0} {d : A} {f : ℕ → A} {start : ℕ} {old : List A} where
+  pub wrote-none : Wrote d f start 0 old old
+  wrote-none = record { same = refl; kept = λ k l. refl; done = λ k l. absurd (omega arith) }
+
+  pub wrote-more : {new : List A} {n : ℕ} {v : A} → Wrote d f start n old new → start + n < length old → v ≡ f n → Wrote d f start (n + 1) old (set new (start + n) v)
+  wrote-more {new} {n} {v} w l e =
+      record {
+        same = length-set new (start + n) v ∙ w .same;
+        kept = λ k m. getD-set-other new (start + n) k v d (omega arith) ∙ w .kept k m;
+        done = λ k m. ⊎-elim (λ b. getD-set-other new (start + n) (start + k) v d (omega arith) ∙ w .done k b) (λ b.
+            let i : k ≡ n = omega arith in
+            rw i (getD-set-same new (start + n) v d (omega (arith, w .same)) ∙ e)) (below-or k n);
+      }
