@@ -1,3 +1,4 @@
 pub mod Integers
 pub mod Lists
 pub mod Sums
+pub mod Machine

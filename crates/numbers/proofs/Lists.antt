@@ -8,7 +8,7 @@ use native.Mathlib.Omega.{arith}
 use lib.Dec.{T, leb, leb→le, nleb→lt}
 use lib.ListN.{length, getD, set, length-set, length-append, List·getD-append, replicate, length-replicate, getD-replicate}
 use lib.Seq.{getD-at, ext-getD, getD-set-same, getD-set-other}
-use Rattle.numbers.specs.Lists.{tabulate, total, Wrote}
+use Rattle.numbers.specs.Lists.{tabulate, total, Held, Wrote}
 
 -- what stands at a place of a list does not go by the default
 pub getD-any : {A : Type 0} (l : List A) (i : ℕ) (d e : A) → i < length l → getD l i d ≡ getD l i e
@@ -78,7 +78,7 @@ unfolding total
 total-none f a zero h = refl
 total-none f a (suc n) h = omega (arith, total-none f a n (λ k l. h k (omega arith)), h n (omega arith))
 
--- ---- a list filled from a place on
+-- ---- a list filled from its front, or from a place on
 
 pub below-or : (m n : ℕ) → (m < n) ⊎ (n ≤ m)
 below-or m n = go (leb n m) (leb→le n m) (nleb→lt n m)
@@ -86,6 +86,22 @@ below-or m n = go (leb n m) (leb→le n m) (nleb→lt n m)
     go : (b : Bool) → (T b → n ≤ m) → (T (not b) → m < n) → (m < n) ⊎ (n ≤ m)
     go true p q = inr (p tt)
     go false p q = inl (q tt)
+
+module _ {A : Type 0} {d : A} {f : ℕ → A} {a : ℕ} {l : List A} where
+  pub held-none : Held d f a 0 l
+  held-none = record { is = λ k m. absurd (omega arith) }
+
+  pub held-more : {n : ℕ} {v : A} → Held d f a n l → n < length l → v ≡ f (a + n) → Held d f a (n + 1) (set l n v)
+  held-more {n} {v} h m e =
+      record {
+        is = λ k s. ⊎-elim (λ b. getD-set-other l n k v d (omega arith) ∙ h .is k b) (λ b.
+            let i : k ≡ n = omega arith in
+            rw i (getD-set-same l n v d m ∙ e)) (below-or k n);
+      }
+
+  -- fewer places
+  pub held-some : {n : ℕ} (m : ℕ) → m ≤ n → Held d f a n l → Held d f a m l
+  held-some m s h = record { is = λ k q. h .is k (omega arith) }
 
 module _ {A : Type 0} {d : A} {f : ℕ → A} {start : ℕ} {old : List A} where
   pub wrote-none : Wrote d f start 0 old old

@@ -1,0 +1,67 @@
+// Module 4: u by look-ups in the byte tables.
+ghost use mathlib.Core.Path.{_≡_};
+ghost use mathlib.Core.List.{List};
+ghost use Prim.Native.Nat.{ℕ, _+_, _*_, _≤_, _<_};
+ghost use lib.IntN.{ℤ, pos, natAbs, _+ℤ_};
+ghost use lib.ListN.{length, getD};
+ghost use Rattle.numbers.specs.Sums.{sumTo, at0};
+ghost use Rattle.numbers.specs.Lists.{Held};
+ghost use Rattle.reference.specs.Stages.{u};
+ghost use Rattle.tables.specs.Tables.{ByteTables};
+
+fn look(tables: &[i32], i: usize) -> i64
+    requires { ⌜ i < length (now tables) ⌝ }
+    ensures { λ r. ⌜ (r ≡ at0 (now (tables .entry)) i) × (natAbs r ≤ 2147483648) ⌝ }
+{
+    tables[i] as i64
+}
+
+fn byte(window: &[u8], i: usize) -> usize
+    requires { ⌜ i < length (now window) ⌝ }
+    ensures { λ r. ⌜ (r ≡ getD (now (window .entry)) i 0) × (r < 256) ⌝ }
+{
+    window[i] as usize
+}
+
+fn plus(a: i64, b: i64) -> i64
+    requires { ⌜ natAbs a + natAbs b < 9223372036854775808 ⌝ }
+    ensures { λ r. ⌜ r ≡ a +ℤ b ⌝ }
+{
+    a + b
+}
+
+// One table for each byte of the window.
+fn table_sum(tables: &[i32], window: &[u8]) -> i64
+    requires { ⌜ (length (now tables) ≡ 256 * length (now window)) × (length (now window) ≤ 12) ⌝ }
+    ensures { λ r. ⌜ r ≡ sumTo (length (now (window .entry))) (λ j. at0 (now (tables .entry)) (256 * j + getD (now (window .entry)) j 0)) ⌝ }
+{
+    let mut sum: i64 = 0;
+    let mut j: usize = 0;
+    while j < window.len() {
+        sum = plus(sum, look(tables, 256 * j + byte(window, j)));
+        j += 1;
+    }
+    sum
+}
+
+// u at every step-th place, by 2 × half tables: of bytes from position base on, the first value is the one at base + start + half.
+pub fn first_stage(
+    tables: &[i32],
+    half: usize,
+    bytes: &[u8],
+    start: usize,
+    step: usize,
+    out: &mut [i64],
+)
+    requires { ⌜ (length (now tables) ≡ 256 * (2 * half)) × (half ≤ 6) × (start + step * length (now out) + 2 * half ≤ length (now bytes) + step) × (length (now bytes) ≤ 512) × (step ≤ 2) ⌝ }
+    ensures { λ _. ⌜ ((h : List ℤ) (β : ℕ → ℕ) (base : ℕ) → length h ≡ 8 * half → 0 < half → ByteTables h (2 * half) (now (tables .entry)) → Held 0 β base (length (now (bytes .entry))) (now (bytes .entry)) → Held (pos 0) (λ k. u h β (base + start + half + step * k)) 0 (length (now (out .entry))) (now (out .exit))) ⌝ }
+{
+    let mut k: usize = 0;
+    while k < out.len() {
+        let at = start + step * k;
+        let end = at + 2 * half;
+        let sum = table_sum(tables, &bytes[at..end]);
+        out[k] = sum;
+        k += 1;
+    }
+}
