@@ -1,0 +1,5 @@
+pub mod Closest
+pub mod Bound
+pub mod Middle
+pub mod Eighth
+pub mod Interval

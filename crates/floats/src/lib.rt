@@ -1,0 +1,1 @@
+// No code: laws of binary64, and the words that state them.

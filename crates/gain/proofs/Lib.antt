@@ -1,0 +1,5 @@
+pub mod Sign
+pub mod Reach
+pub mod Records
+pub mod Tallies
+pub mod Scaling

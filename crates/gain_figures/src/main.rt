@@ -1,0 +1,192 @@
+// The gain and the scaling beside what the original gives (rust.rt) and the figures of document 01.
+use reference::FromDb;
+use reference::Gain;
+use reference::PcmError;
+
+mod rust;
+
+// A float by its bits, and its bits. Every NaN is one.
+fn float(n: u64) -> f64 {
+    if n % 0x8000_0000_0000_0000 > 0x7ff0_0000_0000_0000 {
+        return 0.0 / 0.0;
+    }
+    f64::from_bits(n)
+}
+
+fn bits(x: f64) -> u64 {
+    if x != x {
+        return 0x7ff8_0000_0000_0000;
+    }
+    f64::to_bits(x)
+}
+
+fn is_factor(db: u64, factor: u64) -> bool {
+    bits(gain::db_to_linear(float(db))) == factor
+}
+
+// Whether the gain call takes db and makes this factor of it.
+fn taken(db: u64, factor: u64) -> bool {
+    match gain::from_db(float(db)) {
+        FromDb::Made(g) => bits(g.db) == db && bits(g.linear) == factor,
+        FromDb::Refused(_) => false,
+    }
+}
+
+// Whether the gain call refuses db with number 3, handing db back.
+fn refused(db: u64) -> bool {
+    match gain::from_db(float(db)) {
+        FromDb::Made(_) => false,
+        FromDb::Refused(e) => match e {
+            PcmError::Gain(d) => bits(d) == db,
+            _ => false,
+        },
+    }
+}
+
+// Whether a record of db and factor is taken for right.
+fn right(db: u64, factor: u64) -> bool {
+    gain::right_gain(Gain {
+        db: float(db),
+        linear: float(factor),
+    })
+}
+
+fn answer(question: u8, db: u64, factor: u64) -> bool {
+    match question {
+        0 => is_factor(db, factor),
+        1 => taken(db, factor),
+        2 => refused(db),
+        _ => right(db, factor),
+    }
+}
+
+// What stands at i, and 0 past the end.
+fn at(s: &[u64], i: usize) -> u64 {
+    if i < s.len() { s[i] } else { 0 }
+}
+
+fn number_at(s: &[i32], i: usize) -> i32 {
+    if i < s.len() { s[i] } else { 0 }
+}
+
+// How many pairs are answered by yes.
+fn count(question: u8, db: &[u64], factor: &[u64]) -> u64 {
+    let mut n = 0u64;
+    let mut i = 0usize;
+    while i < db.len() {
+        if answer(question, at(db, i), at(factor, i)) {
+            n += 1;
+        }
+        i += 1;
+    }
+    n
+}
+
+// Whether y becomes this sample at db decibels, and is clipped so often.
+fn scales(y: i32, db: u64, sample: i32, clips: u64) -> bool {
+    match gain::from_db(float(db)) {
+        FromDb::Made(g) => {
+            let ys = [y as i64];
+            let mut out = [0i32; 1];
+            let t = gain::scale_block(&ys, g.linear, &mut out);
+            out[0] == sample && t.clipped == clips
+        }
+        FromDb::Refused(_) => false,
+    }
+}
+
+// How many of the numbers become these samples.
+fn count_scaled(ys: &[i32], db: &[u64], samples: &[i32], clips: &[u64]) -> u64 {
+    let mut n = 0u64;
+    let mut i = 0usize;
+    while i < ys.len() {
+        if scales(
+            number_at(ys, i),
+            at(db, i),
+            number_at(samples, i),
+            at(clips, i),
+        ) {
+            n += 1;
+        }
+        i += 1;
+    }
+    n
+}
+
+fn line(name: &[u8], all: usize, yes: u64) {
+    io::write_all(1, name);
+    io::print_decimal(1, all as u64);
+    io::write_all(1, b" right ");
+    io::print_decimal(1, yes);
+    io::write_all(1, b"\n");
+}
+
+// The original's lists.
+fn beside_rust() {
+    let db = rust::DECIBELS;
+    let factors = rust::FACTORS;
+    line(b"factors ", db.len(), count(0, &db, &factors));
+    let ys = rust::NUMBERS;
+    let gains = rust::GAINS;
+    let samples = rust::SAMPLES;
+    let clips = rust::CLIPS;
+    line(
+        b"samples ",
+        ys.len(),
+        count_scaled(&ys, &gains, &samples, &clips),
+    );
+}
+
+// The gain call's edges: 24, -120 and -0 are taken; the next float above 24, the next below -120, NaN and the infinities are not. The factors are the original's, 1 at -0.
+fn edges() {
+    let db = [
+        0x4038_0000_0000_0000,
+        0xc05e_0000_0000_0000,
+        0x8000_0000_0000_0000,
+    ];
+    let factors = [
+        0x402f_b2a7_3489_7856,
+        0x3eb0_c6f7_a0b5_ed86,
+        0x3ff0_0000_0000_0000,
+    ];
+    line(b"taken ", db.len(), count(1, &db, &factors));
+    line(b"records ", db.len(), count(3, &db, &factors));
+    let past = [
+        0x4038_0000_0000_0001,
+        0xc05e_0000_0000_0001,
+        0x7ff8_0000_0000_0000,
+        0x7ff0_0000_0000_0000,
+        0xfff0_0000_0000_0000,
+    ];
+    line(b"refused ", past.len(), count(2, &past, &past));
+    // Records with a factor a bit up, a bit down, NaN, and -0; and of decibels past the end.
+    let wrong_db = [db[0], db[1], db[0], db[0], past[0]];
+    let wrong = [factors[0] + 1, factors[1] - 1, past[2], db[2], factors[0]];
+    line(b"wrong records ", wrong.len(), count(3, &wrong_db, &wrong));
+}
+
+// Document 01's figures: y is 2^26 where all bits are 1, and minus that where all are 0. The last is 8,388,607.25 before the rounding.
+fn figures() {
+    let ys = [67108864, 67108864, 67108864, -67108864, -67108864, 67108858];
+    let db = [
+        0,
+        0xc034_0000_0000_0000,
+        0xc05e_0000_0000_0000,
+        0,
+        0x4038_0000_0000_0000,
+        0,
+    ];
+    let samples = [8388607, 838861, 8, -8388608, -8388608, 8388607];
+    let clips = [1, 0, 0, 0, 1, 0];
+    line(
+        b"figures ",
+        ys.len(),
+        count_scaled(&ys, &db, &samples, &clips),
+    );
+}
+
+fn main() {
+    beside_rust();
+    edges();
+    figures();
+}
