@@ -1,0 +1,120 @@
+-- The filters' sums by pairs of neighbours, and what the lift adds to them.
+use mathlib.Core.Path.{_≡_, refl, sym, _∙_, ap, ap₂}
+use mathlib.Core.List.{List}
+use Prim.Native.Nat.{ℕ, zero, suc, _+_, _-_, _*_, _^_, _<_, _≤_}
+use native.Mathlib.Nat.{mul-le-mul}
+use native.Mathlib.Omega.{arith}
+use lib.IntN.{ℤ, pos, natAbs, _+ℤ_, _*ℤ_, +ℤ-comm, +ℤ-assoc, zero-*ℤ}
+use lib.ListN.{length}
+use Rattle.numbers.specs.Sums.{sumTo, apart, at0}
+use Rattle.numbers.proofs.Integers.{abs-add, abs-mul, +ℤ-left-comm, mul-add, add-mul, *ℤ-assoc, sums}
+use Rattle.numbers.proofs.Sums.{sum-same, sum-head}
+use Rattle.reference.specs.Stages.{tap, M, fir}
+use Rattle.lanes.specs.Filters.{Small, between-by, ones}
+use Rattle.lanes.specs.Lanes.{lifted, arms}
+
+-- ---- sizes
+sum-each : (n : ℕ) (f : ℕ → ℤ) (m : ℕ) → ((k : ℕ) → natAbs (f k) ≤ m) → natAbs (sumTo n f) ≤ n * m
+unfolding sumTo
+sum-each zero f m h = omega arith
+sum-each (suc n) f m h = omega (arith, abs-add (sumTo n f) (f n), sum-each n f m h, h n)
+
+pub lifted-size : (x : List ℤ) (k : ℕ) → Small (2 ^ 29) x → natAbs (lifted x k) ≤ 2 ^ 30
+unfolding lifted
+lifted-size x k s = omega (arith, abs-add (at0 x k) (pos (2 ^ 29)), s .size k)
+
+pub centre-size : (h : ℤ) (x : List ℤ) (k : ℕ) → natAbs h ≤ 2 ^ 25 → Small (2 ^ 29) x → natAbs (h *ℤ lifted x k) ≤ 2 ^ 55
+centre-size h x k p s = omega (arith, abs-mul h (lifted x k), mul-le-mul p (lifted-size x k s))
+
+pub arms-size : (h x : List ℤ) (from down up n : ℕ) → Small (2 ^ 25) h → Small (2 ^ 29) x → natAbs (arms h (lifted x) from down up n) ≤ n * 2 ^ 56
+unfolding arms
+arms-size h x from down up n hs xs = sum-each n _ (2 ^ 56) (λ k. each (from + k))
+  where
+    two : (k : ℕ) → natAbs (lifted x (down - k) +ℤ lifted x (up + k)) ≤ 2 ^ 31
+    two k = omega (arith, abs-add (lifted x (down - k)) (lifted x (up + k)), lifted-size x (down - k) xs, lifted-size x (up + k) xs)
+
+    each : (k : ℕ) → natAbs (tap h k *ℤ (lifted x (down - k) +ℤ lifted x (up + k))) ≤ 2 ^ 56
+    each k = omega (arith, abs-mul (tap h k) (lifted x (down - k) +ℤ lifted x (up + k)), mul-le-mul (hs .size k) (two k))
+
+-- ---- no tap, and a tap more
+pub arms-none : (h : List ℤ) (s : ℕ → ℤ) (from down up n : ℕ) → n ≡ 0 → arms h s from down up n ≡ pos 0
+unfolding arms sumTo
+arms-none h s from down up n e = ap (arms h s from down up) e
+
+pub arms-more : (h : List ℤ) (s : ℕ → ℤ) (from end up j l : ℕ) → from ≤ j → j < end
+    → arms h s from (end + l - 1) (up + l) (j - from) +ℤ tap h j *ℤ (s (end - 1 - j + l) +ℤ s (up + j + l)) ≡ arms h s from (end + l - 1) (up + l) (j + 1 - from)
+unfolding arms sumTo
+arms-more h s from end up j l p q =
+    let e : j + 1 - from ≡ suc (j - from) = omega arith in
+    let f : from + (j - from) ≡ j = omega arith in
+    let u : up + l + j ≡ up + j + l = omega arith in
+    let d : end + l - 1 - j ≡ end - 1 - j + l = omega arith in
+    rw (e, f, u, d)
+
+-- ---- the filter's sum: the centre, and the pairs
+module _ (h : List ℤ) (s : ℕ → ℤ) (c : ℕ) where
+  abbrev around : ℕ → ℤ
+  around n = sumTo (n + n + 1) (λ k. tap h (apart k n) *ℤ s (c - n + k))
+
+  term : (a b i j : ℕ) → a ≡ i → b ≡ j → tap h a *ℤ s b ≡ tap h i *ℤ s j
+  term a b i j p q = ap₂ (λ (m n : ℕ). tap h m *ℤ s n) p q
+
+  regroup : (w a b g : ℤ) → g *ℤ a +ℤ w +ℤ g *ℤ b ≡ w +ℤ g *ℤ (a +ℤ b)
+  regroup w a b g = simp sums
+
+  around-suc : (n : ℕ) → suc n ≤ c → around (suc n) ≡ around n +ℤ tap h (suc n) *ℤ (s (c - suc n) +ℤ s (c + suc n))
+  unfolding sumTo
+  around-suc n l =
+      let long : suc n + suc n + 1 ≡ suc (suc (n + n + 1)) = omega arith in
+      ap (λ (m : ℕ). sumTo m (λ k. tap h (apart k (suc n)) *ℤ s (c - suc n + k))) long
+      ∙ ap₂ (λ (a b : ℤ). a +ℤ b)
+      (sum-head (n + n + 1) (λ k. tap h (apart k (suc n)) *ℤ s (c - suc n + k))
+      ∙ ap₂ (λ (a b : ℤ). a +ℤ b) (term _ _ (suc n) (c - suc n) (omega arith) (omega arith)) (sum-same (n + n + 1) _ _ (λ k m. term _ _ _ _ (omega arith) (omega arith))))
+      (term _ _ (suc n) (c + suc n) (omega arith) (omega arith))
+      ∙ regroup (around n) (s (c - suc n)) (s (c + suc n)) (tap h (suc n))
+
+  pub around-is : (n : ℕ) → n ≤ c → around n ≡ tap h 0 *ℤ s c +ℤ arms h s 1 c c n
+  unfolding sumTo arms
+  around-is zero l = +ℤ-comm (pos 0) (tap h (apart 0 0) *ℤ s (c - 0 + 0)) ∙ ap (λ (z : ℤ). z +ℤ pos 0) (term 0 (c - 0 + 0) 0 c refl (omega arith))
+  around-is (suc n) l =
+      let e : 1 + n ≡ suc n = omega arith in
+      around-suc n l
+      ∙ ap₂ (λ (a : ℤ) (m : ℕ). a +ℤ tap h m *ℤ (s (c - m) +ℤ s (c + m))) (around-is n (omega arith)) (sym e)
+      ∙ +ℤ-assoc (tap h 0 *ℤ s c) (arms h s 1 c c n) (tap h (1 + n) *ℤ (s (c - (1 + n)) +ℤ s (c + (1 + n))))
+
+  pub fir-is : M h ≤ c → fir h s c ≡ tap h 0 *ℤ s c +ℤ arms h s 1 c c (M h)
+  unfolding fir
+  fir-is l = around-is (M h) l
+
+-- the sum between two places has pairs only
+pub between-is : (h : List ℤ) (s : ℕ → ℤ) (k up : ℕ) → (0 < length h → up ≡ k + 1) → arms h s 0 k up (length h) ≡ between-by h s k
+unfolding arms between-by
+between-is h s k up e =
+    sum-same (length h) _ _
+    (λ j l.
+    let z : 0 + j ≡ j = omega arith in
+    let u : up ≡ k + 1 = e (omega arith) in
+    rw (z, u))
+
+-- ---- the lift adds the taps' sum times 2^29
+sum-lift : (n : ℕ) (g s u : ℕ → ℤ) (c : ℤ) → sumTo n (λ k. g k *ℤ (s k +ℤ u k *ℤ c)) ≡ sumTo n (λ k. g k *ℤ s k) +ℤ sumTo n (λ k. g k *ℤ u k) *ℤ c
+unfolding sumTo
+sum-lift zero g s u c = sym (ap (λ (z : ℤ). pos 0 +ℤ z) (zero-*ℤ c))
+sum-lift (suc n) g s u c = ap (λ (z : ℤ). z +ℤ g n *ℤ (s n +ℤ u n *ℤ c)) (sum-lift n g s u c) ∙ step (sumTo n (λ k. g k *ℤ s k)) (sumTo n (λ k. g k *ℤ u k)) (g n) (s n) (u n)
+  where
+    step : (p q a b d : ℤ) → p +ℤ q *ℤ c +ℤ a *ℤ (b +ℤ d *ℤ c) ≡ p +ℤ a *ℤ b +ℤ (q +ℤ a *ℤ d) *ℤ c
+    step p q a b d = simp (+ℤ-assoc, +ℤ-left-comm, mul-add, add-mul, *ℤ-assoc)
+
+pub fir-lift : (h x : List ℤ) (c : ℕ) → fir h (lifted x) c ≡ fir h (at0 x) c +ℤ fir h ones (M h) *ℤ pos (2 ^ 29)
+unfolding fir lifted
+fir-lift h x c = sum-lift (M h + M h + 1) (λ k. tap h (apart k (M h))) (λ k. at0 x (c - M h + k)) ones (pos (2 ^ 29))
+
+pub between-lift : (h x : List ℤ) (k : ℕ) → between-by h (lifted x) k ≡ between-by h (at0 x) k +ℤ between-by h ones (length h) *ℤ pos (2 ^ 29)
+unfolding between-by lifted
+between-lift h x k =
+    sum-same (length h) _ (λ j. tap h j *ℤ (at0 x (k - j) +ℤ at0 x (k + 1 + j) +ℤ (pos 1 +ℤ pos 1) *ℤ pos (2 ^ 29)))
+    (λ j l. ap (λ (z : ℤ). tap h j *ℤ z) (each (at0 x (k - j)) (at0 x (k + 1 + j)) (pos (2 ^ 29))))
+    ∙ sum-lift (length h) (tap h) (λ j. at0 x (k - j) +ℤ at0 x (k + 1 + j)) (λ j. pos 1 +ℤ pos 1) (pos (2 ^ 29))
+  where
+    each : (a b c : ℤ) → (a +ℤ c) +ℤ (b +ℤ c) ≡ a +ℤ b +ℤ (c +ℤ c)
+    each a b c = simp sums

@@ -1,0 +1,84 @@
+-- Loops that set places of a list one after the other, and what eight lanes hold then.
+use mathlib.Core.Path.{_≡_, refl, sym, _∙_, ap}
+use mathlib.Core.List.{List}
+use mathlib.Core.Logic.{⊎-elim}
+use Prim.Native.Nat.{ℕ, _+_, _<_, _≤_}
+use native.Mathlib.Nat.{eq-or-lt-of-le}
+use native.Mathlib.Omega.{arith}
+use lib.IntN.{ℤ, pos, natAbs, _+ℤ_, +ℤ-assoc, +ℤ-idr}
+use lib.ListN.{length, set, length-set}
+use lib.Seq.{getD-set-same, getD-set-other}
+use Rattle.numbers.specs.Sums.{at0}
+use Rattle.numbers.proofs.Integers.{abs-add}
+use Rattle.numbers.proofs.Lists.{below-or}
+use Rattle.lanes.specs.Filters.{Filled}
+use Rattle.lanes.specs.Lanes.{Written, Added, Hold, Lanes}
+
+pub written-none : {f : ℕ → ℤ} {a b : ℕ} {old : List ℤ} → b ≤ a → Written f a b old old
+written-none e = record { same = refl; done = λ k l m. absurd (omega arith); below = λ k l. refl; above = λ k l. refl }
+
+-- place i more
+pub written-more : {f : ℕ → ℤ} {a i j : ℕ} {old new : List ℤ} {v : ℤ} → Written f a i old new → a ≤ i → i < length new → v ≡ f i → j ≡ i + 1 → Written f a j old (set new i v)
+written-more {f} {a} {i} {j} {old} {new} {v} u low m e next =
+    record {
+      same = simp length-set (u .same);
+      done = λ k l n. ⊎-elim (λ q. here k q) (λ q. other k q ∙ u .done k l q) (eq-or-lt-of-le (up-to k n));
+      below = λ k l. other k (omega arith) ∙ u .below k l;
+      above = λ k l. getD-set-other new i k v (pos 0) (λ q. omega arith) ∙ u .above k (omega arith);
+    }
+  where
+    up-to : (k : ℕ) → k < j → k ≤ i
+    up-to k n = omega arith
+
+    here : (k : ℕ) → k ≡ i → at0 (set new i v) k ≡ f k
+    here k q = ap (at0 (set new i v)) q ∙ getD-set-same new i v (pos 0) m ∙ e ∙ ap f (sym q)
+
+    other : (k : ℕ) → k < i → at0 (set new i v) k ≡ at0 new k
+    other k n = getD-set-other new i k v (pos 0) (λ q. omega arith)
+
+-- one stretch after another; g and f agree on the second
+pub written-then : {f g : ℕ → ℤ} {a i j : ℕ} {old mid new : List ℤ} → Written f a i old mid → Written g i j mid new → a ≤ i → i ≤ j
+    → ((k : ℕ) → i ≤ k → k < j → g k ≡ f k) → Written f a j old new
+written-then {f} {a} {i} {j} {new} u w p q e =
+    record {
+      same = w .same ∙ u .same;
+      done = λ k l n. ⊎-elim (λ (m : k < i). w .below k m ∙ u .done k l m) (λ m. w .done k m n ∙ e k m n) (below-or k i);
+      below = λ k l. w .below k (omega arith) ∙ u .below k l;
+      above = λ k l. w .above k l ∙ u .above k (omega arith);
+    }
+
+pub written-filled : {f : ℕ → ℤ} {i : ℕ} {old new : List ℤ} → Written f 0 i old new → length old ≤ i → Filled f old new
+written-filled u l = record { same = u .same; is = λ k m. u .done k (omega arith) (omega arith) }
+
+-- ---- eight lanes
+pub written-hold : {f : ℕ → ℤ} {i : ℕ} {old new : List ℤ} → Written f 0 i old new → 8 ≤ i → Hold f new
+written-hold u l = record { is = λ k m. u .done k (omega arith) (omega arith) }
+
+pub hold-as : {f g : ℕ → ℤ} {s : List ℤ} → Hold f s → ((l : ℕ) → f l ≡ g l) → Hold g s
+hold-as a e = record { is = λ l m. a .is l m ∙ e l }
+
+pub written-added : {g : ℕ → ℤ} {i : ℕ} {old new : List ℤ} → Written (λ k. at0 old k +ℤ g k) 0 i old new → 8 ≤ i → Added g old new
+written-added u l = record { is = λ k m. u .done k (omega arith) (omega arith) }
+
+pub added-as : {g k : ℕ → ℤ} {old new : List ℤ} → Added g old new → ((l : ℕ) → g l ≡ k l) → Added k old new
+added-as {g} {k} {old} a e = record { is = λ l m. a .is l m ∙ ap (λ (z : ℤ). at0 old l +ℤ z) (e l) }
+
+pub added-none : {g : ℕ → ℤ} (a : List ℤ) → ((l : ℕ) → g l ≡ pos 0) → Added g a a
+added-none {g} a e = record { is = λ l n. sym (ap (λ (z : ℤ). at0 a l +ℤ z) (e l) ∙ +ℤ-idr (at0 a l)) }
+
+pub added-then : {g k m : ℕ → ℤ} {a b c : List ℤ} → Added g a b → Added k b c → ((l : ℕ) → g l +ℤ k l ≡ m l) → Added m a c
+added-then {g} {k} {m} {a} p q e =
+    record { is = λ l n. q .is l n ∙ ap (λ (z : ℤ). z +ℤ k l) (p .is l n) ∙ +ℤ-assoc (at0 a l) (g l) (k l) ∙ ap (λ (z : ℤ). at0 a l +ℤ z) (e l) }
+
+pub hold-then : {f g m : ℕ → ℤ} {a b : List ℤ} → Hold f a → Added g a b → ((l : ℕ) → f l +ℤ g l ≡ m l) → Hold m b
+hold-then {g} p q e = record { is = λ l n. q .is l n ∙ ap (λ (z : ℤ). z +ℤ g l) (p .is l n) ∙ e l }
+
+-- sizes
+pub hold-lanes : {f : ℕ → ℤ} {s : List ℤ} (B : ℕ) → Hold f s → ((l : ℕ) → natAbs (f l) ≤ B) → Lanes B s
+hold-lanes B p b = record { size = λ l n. rw (p .is l n) (b l) }
+
+pub lanes-then : {g : ℕ → ℤ} {a b : List ℤ} {A : ℕ} (G B : ℕ) → Added g a b → Lanes A a → ((l : ℕ) → natAbs (g l) ≤ G) → A + G ≤ B → Lanes B b
+lanes-then {g} {a} G B p s e m = record { size = λ l n. rw (p .is l n) (omega (arith, abs-add (at0 a l) (g l), s .size l n, e l)) }
+
+pub lanes-up : {A : ℕ} {s : List ℤ} (B : ℕ) → Lanes A s → A ≤ B → Lanes B s
+lanes-up B a l = record { size = λ k m. omega (arith, a .size k m) }

@@ -1,0 +1,44 @@
+-- Eight neighbouring places of the output at a time: the lanes. Every value is lifted by 2^29, so that the machine multiplies numbers that are not negative.
+use mathlib.Core.Path.{_≡_}
+use mathlib.Core.List.{List}
+use Prim.Native.Nat.{ℕ, _+_, _-_, _^_, _≤_, _<_}
+use lib.IntN.{ℤ, pos, natAbs, _+ℤ_, _-ℤ_, _*ℤ_}
+use lib.ListN.{length}
+use Rattle.numbers.specs.Sums.{sumTo, at0}
+use Rattle.reference.specs.Rounding.{R}
+use Rattle.reference.specs.Stages.{tap}
+
+unfoldable pub lifted : List ℤ → ℕ → ℤ
+lifted x k = at0 x k +ℤ pos (2 ^ 29)
+
+-- n taps of h from place `from` on, each with the two values at its distance below `down` and above `up`
+unfoldable pub arms : List ℤ → (ℕ → ℤ) → ℕ → ℕ → ℕ → ℕ → ℤ
+arms h s from down up n = sumTo n (λ k. tap h (from + k) *ℤ (s (down - (from + k)) +ℤ s (up + (from + k))))
+
+-- no lane is over B in size
+pub record Lanes (B : ℕ) (s : List ℤ) : Type 0 where
+  pub size : (l : ℕ) → l < 8 → natAbs (at0 s l) ≤ B
+
+-- eight lanes hold f
+pub record Hold (f : ℕ → ℤ) (s : List ℤ) : Type 0 where
+  pub is : (l : ℕ) → l < 8 → at0 s l ≡ f l
+
+-- eight lanes have gained g
+pub record Added (g : ℕ → ℤ) (old new : List ℤ) : Type 0 where
+  pub is : (l : ℕ) → l < 8 → at0 new l ≡ at0 old l +ℤ g l
+
+-- no lane is negative, or over 2^54
+pub record Sums (s : List ℤ) : Type 0 where
+  pub is : (l : ℕ) → l < 8 → at0 s l ≡ pos (natAbs (at0 s l))
+  pub size : (l : ℕ) → l < 8 → natAbs (at0 s l) ≤ 2 ^ 54
+
+-- lane l, the lift of 2^53 taken away, rounded
+unfoldable pub rounded : ℕ → List ℤ → ℕ → ℤ
+rounded q s l = R (at0 s l -ℤ pos (2 ^ 53)) q
+
+-- the places from a to b - 1 hold f, the others are as they were
+pub record Written (f : ℕ → ℤ) (a b : ℕ) (old new : List ℤ) : Type 0 where
+  pub same : length new ≡ length old
+  pub done : (k : ℕ) → a ≤ k → k < b → at0 new k ≡ f k
+  pub below : (k : ℕ) → k < a → at0 new k ≡ at0 old k
+  pub above : (k : ℕ) → b ≤ k → at0 new k ≡ at0 old k
