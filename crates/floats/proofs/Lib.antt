@@ -3,3 +3,4 @@ pub mod Bound
 pub mod Middle
 pub mod Eighth
 pub mod Interval
+pub mod Nearest
