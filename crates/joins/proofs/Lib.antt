@@ -2,3 +2,4 @@ pub mod Pieces
 pub mod Bytes
 pub mod Joins
 pub mod Cases
+pub mod Instance

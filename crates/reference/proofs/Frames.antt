@@ -35,7 +35,7 @@ channel-frame ch c bytes k p l h =
     rw i (getD-take (frame-length ch) (drop (k * frame-length ch) bytes) (p * ch + c) _ (digits-lt h l)
     ∙ getD-drop (k * frame-length ch) bytes (p * ch + c) _)
 
-some-samples : (rate : PcmRate) → 0 < samples-per-frame rate
+pub some-samples : (rate : PcmRate) → 0 < samples-per-frame rate
 unfolding samples-per-frame
 some-samples Hz88200 = lit< tt
 some-samples Hz176400 = lit< tt
