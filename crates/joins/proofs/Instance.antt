@@ -7,14 +7,17 @@ use Prim.Native.Nat.{ℕ, zero, suc, _+_, _-_, _*_, _/_, _%_, _≤_, _<_}
 use native.Mathlib.Nat.{div-eq-of-eq-mul-left, mod-self, mul-le-mul}
 use native.Mathlib.Omega.{arith}
 use borrow.Author.Tests.{eq-eqb, ne-eqb, le-ltb}
-use lib.Dec.{eqb, ltb, lit≤}
+use lib.Dec.{eqb, ltb, lit<}
+use lib.Ieee.{ofInt, ofBits, toBits, mul, div, add, lt, le}
 use lib.IntN.{ℤ, pos}
 use lib.ListN.{length, take, drop, replicate, length-append, length-replicate}
 use lib.Seq.{take-at, drop-at}
 use Rattle.numbers.specs.Lists.{Each}
 use Rattle.reference.specs.Frames.{Run, run, idle, frame-length, frame-count, frame, neighbour, sequence, channel-byte}
+use Rattle.reference.specs.Scaling.{LN-10, magnitude, exponent, series, squared, db-to-linear, allowed, right-gain}
+use Rattle.reference.specs.Figures.{mono}
 use Rattle.reference.specs.Output.{samples-per-frame, channel-samples, all-samples, samples, stats, s24le}
-use Rattle.reference.specs.Refusals.{number, accepted, refused, Place, decide, decision, is-accepted, opening-places, input-places, run-length, one-frame, if-present, lent-length, byte-lengths, run-lengths, convert-places, convert-run-places}
+use Rattle.reference.specs.Refusals.{number, accepted, refused, Place, decide, is-accepted, unsupported, opening-places, input-places, run-length, one-frame, if-present, lent-length, byte-lengths, run-lengths, convert-places, convert-run-places}
 use Rattle.reference.specs.Promises.{by-decision, if-lent, no-clips}
 use Rattle.reference.specs.declared.Converter.{Converter}
 use Rattle.reference.specs.declared.Converted.{Converted}
@@ -208,3 +211,20 @@ module _ (conv : Converter) (opens : decide (opening-places conv) ≡ accepted) 
   pub joined : JoinTo both calls
   unfolding flatMap first second both
   joined = record { bytes = ap (flatMap (λ p. p .frames)) pieces-are ∙ ap (λ z. A ++ z) (append-nil B); neighbours = rw pieces-are agree }
+
+-- ---- and there is such a converter: Standard 88,200, mono, 0 dB; with a frame of zeros and a frame of ones
+
+pub mono-opens : decide (opening-places mono) ≡ accepted
+unfolding decide opening-places mono unsupported right-gain allowed db-to-linear exponent magnitude series squared LN-10 ofInt ofBits toBits mul div add lt le
+mono-opens = refl
+
+pub some-mono : 0 < mono .channels
+unfolding mono
+some-mono = lit< tt
+
+pub byte-frame : (b : ℕ) → length (replicate 4704 b) ≡ frame-length (mono .channels)
+unfolding mono
+byte-frame b = length-replicate 4704 b
+
+pub cut-exists : JoinTo (both mono mono-opens some-mono (replicate 4704 0x00) (replicate 4704 0xff) (byte-frame 0x00) (byte-frame 0xff)) (calls mono mono-opens some-mono (replicate 4704 0x00) (replicate 4704 0xff) (byte-frame 0x00) (byte-frame 0xff))
+cut-exists = joined mono mono-opens some-mono (replicate 4704 0x00) (replicate 4704 0xff) (byte-frame 0x00) (byte-frame 0xff)
