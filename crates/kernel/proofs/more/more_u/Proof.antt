@@ -25,7 +25,7 @@ part-fill-u-end c = search needs
 fill-u-requires : tie.Need-fill-u-requires
 fill-u-requires c κs =
     let s = c .before .before .before .before .before .before in
-    (search needs, (search needs, (search needs, (omega (arith, part-length (s .args .m) (s .args .m + s .args .k) (now (s .args .s)) (omega arith)), omega (arith, part-length (s .args .m) (s .args .m + s .args .k) (now (s .args .s)) (omega arith)), omega (arith, part-length (s .args .m) (s .args .m + s .args .k) (now (s .args .s)) (omega arith)), omega (arith, part-length (s .args .m) (s .args .m + s .args .k) (now (s .args .s)) (omega arith))))))
+    (s .pre .0, (s .pre .1 .0, (s .pre .1 .1 .0, (omega (arith, part-length (s .args .m) (s .args .m + s .args .k) (now (s .args .s)) (omega arith)), omega (arith, part-length (s .args .m) (s .args .m + s .args .k) (now (s .args .s)) (omega arith)), omega (arith, part-length (s .args .m) (s .args .m + s .args .k) (now (s .args .s)) (omega arith)), omega (arith, part-length (s .args .m) (s .args .m + s .args .k) (now (s .args .s)) (omega arith))))))
 
 same-length : tie.Need-same-length
 same-length c = search needs

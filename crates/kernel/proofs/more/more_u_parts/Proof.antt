@@ -37,7 +37,7 @@ part-fill-u-parts-end-2 c = search needs
 fill-u-parts-requires : tie.Need-fill-u-parts-requires
 fill-u-parts-requires c κs =
     let s = c .before .before .before .before .before .before .before in
-    (search needs, (search needs, (search needs, (omega (arith, part-length (s .args .m) (s .args .m + s .args .k) (now (s .args .s)) (omega arith), part-length (s .args .m) (s .args .m + s .args .k) (now (s .args .t)) (omega arith)), omega (arith, part-length (s .args .m) (s .args .m + s .args .k) (now (s .args .s)) (omega arith), part-length (s .args .m) (s .args .m + s .args .k) (now (s .args .t)) (omega arith)), omega (arith, part-length (s .args .m) (s .args .m + s .args .k) (now (s .args .s)) (omega arith), part-length (s .args .m) (s .args .m + s .args .k) (now (s .args .t)) (omega arith)), omega (arith, part-length (s .args .m) (s .args .m + s .args .k) (now (s .args .s)) (omega arith), part-length (s .args .m) (s .args .m + s .args .k) (now (s .args .t)) (omega arith)), omega (arith, part-length (s .args .m) (s .args .m + s .args .k) (now (s .args .s)) (omega arith), part-length (s .args .m) (s .args .m + s .args .k) (now (s .args .t)) (omega arith))))))
+    (s .pre .0, (s .pre .1 .0, (s .pre .1 .1 .0, (omega (arith, part-length (s .args .m) (s .args .m + s .args .k) (now (s .args .s)) (omega arith), part-length (s .args .m) (s .args .m + s .args .k) (now (s .args .t)) (omega arith)), omega (arith, part-length (s .args .m) (s .args .m + s .args .k) (now (s .args .s)) (omega arith), part-length (s .args .m) (s .args .m + s .args .k) (now (s .args .t)) (omega arith)), omega (arith, part-length (s .args .m) (s .args .m + s .args .k) (now (s .args .s)) (omega arith), part-length (s .args .m) (s .args .m + s .args .k) (now (s .args .t)) (omega arith)), omega (arith, part-length (s .args .m) (s .args .m + s .args .k) (now (s .args .s)) (omega arith), part-length (s .args .m) (s .args .m + s .args .k) (now (s .args .t)) (omega arith)), omega (arith, part-length (s .args .m) (s .args .m + s .args .k) (now (s .args .s)) (omega arith), part-length (s .args .m) (s .args .m + s .args .k) (now (s .args .t)) (omega arith))))))
 
 same-length : tie.Need-same-length
 same-length c = search needs

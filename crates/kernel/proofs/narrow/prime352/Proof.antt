@@ -33,7 +33,7 @@ more-v-requires : tie.Need-more-v-requires
 more-v-requires c κs =
     let s = c .before .before .before .before .before .before .before .before in
     let f = s .pre .1 .1 .1 .1 .0 in
-    (search needs, (search needs, (search needs, (search needs, ((omega (arith, f .few, f .some), omega (arith, f .few, f .some), omega (arith, f .few, f .some), omega (arith, f .few, f .some), omega (arith, f .few, f .some), omega (arith, f .few, f .some), omega (arith, f .few, f .some), omega (arith, f .few, f .some), omega (arith, f .few, f .some)), held-none)))))
+    (s .pre .0, (s .pre .1 .0 .0, (s .pre .1 .1 .0, (s .pre .1 .1 .1 .0, ((omega (arith, f .few, f .some), omega (arith, f .few, f .some), omega (arith, f .few, f .some), omega (arith, f .few, f .some), omega (arith, f .few, f .some), omega (arith, f .few, f .some), omega (arith, f .few, f .some), omega (arith, f .few, f .some), omega (arith, f .few, f .some)), held-none)))))
 
 add-more-v : tie.Need-add-more-v
 add-more-v c = search needs

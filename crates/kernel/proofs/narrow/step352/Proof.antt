@@ -29,7 +29,7 @@ more-v-requires c κs =
     let s = c .before .before .before .before .before .before .before .before in
     let f = s .pre .1 .1 .1 .1 .0 in
     let m = s .pre .1 .1 .1 .1 .1 .1 .1 in
-    (search needs, (search needs, (search needs, (search needs, ((omega (arith, f .few, f .some, m .long), omega (arith, f .few, f .some, m .long), omega (arith, f .few, f .some, m .long), omega (arith, f .few, f .some, m .long), omega (arith, f .few, f .some, m .long), omega (arith, f .few, f .some, m .long), omega (arith, f .few, f .some, m .long), omega (arith, f .few, f .some, m .long), omega (arith, f .few, f .some, m .long)), held-at _ (omega (arith, f .few)) (m .held))))))
+    (s .pre .0, (s .pre .1 .0 .0, (s .pre .1 .1 .0, (s .pre .1 .1 .1 .0, ((omega (arith, f .few, f .some, m .long), omega (arith, f .few, f .some, m .long), omega (arith, f .few, f .some, m .long), omega (arith, f .few, f .some, m .long), omega (arith, f .few, f .some, m .long), omega (arith, f .few, f .some, m .long), omega (arith, f .few, f .some, m .long), omega (arith, f .few, f .some, m .long), omega (arith, f .few, f .some, m .long)), held-at _ (omega (arith, f .few)) (m .held))))))
 
 more-w-requires : tie.Need-more-w-requires
 unfolding NarrowState
