@@ -1,0 +1,131 @@
+// Document 01's figures: Standard at 88,200 Hz, mono.
+use crate::call;
+use crate::row;
+use crate::row::one;
+use reference::Converted;
+use reference::Converter;
+
+fn standard(db: u64) -> Converter {
+    let gain = call::made(db);
+    call::converter(0, 1, gain)
+}
+
+// Whether a call is accepted with this many clips, all of channel 0.
+fn clipped(done: Converted, clips: u64) -> bool {
+    call::accepted(done) && call::clips_are(done, clips)
+}
+
+// Whether a frame between two like it becomes one sample throughout.
+fn becomes(db: u64, frame: &[u8], out: &mut [i32], sample: i32, clips: u64) -> bool {
+    let done = scarletbook_pcm::convert_run_parts(
+        standard(db),
+        true,
+        frame,
+        frame,
+        true,
+        frame,
+        out,
+    );
+    clipped(done, clips) && row::all_are(sample, out)
+}
+
+fn constant(db: u64, byte: u8, sample: i32, clips: u64) -> bool {
+    let frame = [byte; 4704];
+    let mut out = [0i32; 1176];
+    becomes(db, &frame, &mut out, sample, clips)
+}
+
+// No frames: accepted, and nothing counted.
+fn none_taken(frame: &[u8], out: &mut [i32]) -> bool {
+    let done = scarletbook_pcm::convert_run_parts(
+        standard(0),
+        true,
+        frame,
+        &frame[..0],
+        true,
+        frame,
+        &mut out[..0],
+    );
+    clipped(done, 0)
+}
+
+fn none_taken_as_bytes(frame: &[u8], out: &mut [u8], counts: &mut [u64]) -> bool {
+    let done = scarletbook_pcm::convert_parts(
+        standard(0),
+        true,
+        frame,
+        &frame[..0],
+        true,
+        frame,
+        true,
+        &mut out[..0],
+        &mut counts[..0],
+    );
+    clipped(done, 0)
+}
+
+fn no_frames() -> u64 {
+    let frame = [0u8; 4704];
+    let mut out = [0i32; 1];
+    let mut raw = [0u8; 1];
+    let mut counts = [0u64; 1];
+    one(none_taken(&frame, &mut out)) + one(none_taken_as_bytes(&frame, &mut raw, &mut counts))
+}
+
+// Refusal 4, of length 0 where one frame is due.
+fn refused_as_empty<'a>(
+    before: &'a [u8],
+    frames: &'a [u8],
+    after: &'a [u8],
+    out: &mut [i32],
+) -> bool {
+    let done = scarletbook_pcm::convert_run_parts(
+        standard(0),
+        true,
+        before,
+        frames,
+        true,
+        after,
+        out,
+    );
+    let v = done.verdict;
+    call::is(call::verdict(v), 4, 0, 1)
+}
+
+// Neighbours that are present and empty.
+fn empty_refused(frame: &[u8], out: &mut [i32]) -> u64 {
+    one(refused_as_empty(&frame[..0], frame, frame, out))
+        + one(refused_as_empty(frame, frame, &frame[..0], out))
+}
+
+fn empty_neighbours() -> u64 {
+    let frame = [0u8; 4704];
+    let mut out = [0i32; 1176];
+    empty_refused(&frame, &mut out)
+}
+
+fn taken(db: u64) -> bool {
+    call::is(call::gain_call(db), 0, 0, 0)
+}
+
+fn refused(db: u64) -> bool {
+    call::is(call::gain_call(db), 3, db, 0)
+}
+
+pub fn figures() {
+    row::line(
+        b"one byte throughout ",
+        4,
+        one(constant(0, 0xff, 8388607, 1176))
+            + one(constant(0xc034_0000_0000_0000, 0xff, 838861, 0))
+            + one(constant(0xc05e_0000_0000_0000, 0xff, 8, 0))
+            + one(constant(0x4038_0000_0000_0000, 0, -8388608, 1176)),
+    );
+    row::line(b"no frames ", 2, no_frames());
+    row::line(b"empty neighbours ", 2, empty_neighbours());
+    row::line(
+        b"24 dB and past it ",
+        2,
+        one(taken(0x4038_0000_0000_0000)) + one(refused(0x4038_0000_0000_0001)),
+    );
+}

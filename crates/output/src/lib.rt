@@ -1,0 +1,65 @@
+// Module 7, output: a block's samples of one channel go to their places.
+ghost use mathlib.Core.Path.{_≡_};
+ghost use Prim.Native.Nat.{ℕ, _+_, _*_, _/_, _%_, _≤_, _<_};
+ghost use lib.IntN.{ℤ, pos, natAbs};
+ghost use lib.ListN.{length, getD};
+ghost use Rattle.numbers.specs.Lists.{Held};
+ghost use Rattle.reference.specs.Output.{low24};
+ghost use Rattle.output.specs.Fills.{FillsItems, FillsBytes, put24};
+
+// Samples n, n + 1, .. of channel c: sample n is item n * ch + c.
+pub fn store(samples: &[i32], n: usize, ch: usize, c: usize, out: &mut [i32])
+    requires { ⌜ (c < ch) × ((n + length (now samples)) * ch ≤ length (now out)) ⌝ }
+    ensures { λ _. ⌜ ((S : ℕ → ℕ → ℤ) → Held (pos 0) (S c) n (length (now (samples .entry))) (now (samples .entry)) → FillsItems S ch n (n + length (now (samples .entry))) c (c + 1) (now (out .entry)) (now (out .exit))) ⌝ }
+{
+    let m = samples.len();
+    let mut k: usize = 0;
+    while k < m {
+        out[(n + k) * ch + c] = samples[k];
+        k += 1;
+    }
+}
+
+// The low 24 bits of a sample.
+fn bits(v: i32) -> u32
+    requires { ⌜ natAbs v ≤ 8388608 ⌝ }
+    ensures { λ r. ⌜ r ≡ low24 v ⌝ }
+{
+    if v < 0 {
+        (v + 16777216) as u32
+    } else {
+        v as u32
+    }
+}
+
+// A byte of w, over its place value.
+fn byte(w: u32, value: u32) -> u8
+    requires { ⌜ 0 < value ⌝ }
+    ensures { λ r. ⌜ r ≡ w / value % 256 ⌝ }
+{
+    (w / value % 256) as u8
+}
+
+// A sample as three bytes from a place on, least first.
+fn put(raw: &mut [u8], at: usize, v: i32)
+    requires { ⌜ (natAbs v ≤ 8388608) × (at + 2 < length (now raw)) ⌝ }
+    ensures { λ _. ⌜ now (raw .exit) ≡ put24 (now (raw .entry)) at v ⌝ }
+{
+    let w = bits(v);
+    raw[at] = byte(w, 1);
+    raw[at + 1] = byte(w, 256);
+    raw[at + 2] = byte(w, 65536);
+}
+
+// The same as `store`, three bytes a sample.
+pub fn store24(samples: &[i32], n: usize, ch: usize, c: usize, raw: &mut [u8])
+    requires { ⌜ (c < ch) × (3 * ((n + length (now samples)) * ch) ≤ length (now raw)) ⌝ }
+    requires { ⌜ ((k : ℕ) → k < length (now samples) → natAbs (getD (now samples) k (pos 0)) ≤ 8388608) ⌝ }
+    ensures { λ _. ⌜ ((S : ℕ → ℕ → ℤ) → Held (pos 0) (S c) n (length (now (samples .entry))) (now (samples .entry)) → FillsBytes S ch n (n + length (now (samples .entry))) c (c + 1) (now (raw .entry)) (now (raw .exit))) ⌝ }
+{
+    let mut k: usize = 0;
+    while k < samples.len() {
+        put(raw, 3 * ((n + k) * ch + c), samples[k]);
+        k += 1;
+    }
+}

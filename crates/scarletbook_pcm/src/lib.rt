@@ -1,0 +1,152 @@
+// The converter's calls. None asks anything: a call that document 01's table turns down is refused, and all lent memory keeps its contents.
+ghost use mathlib.Core.Path.{_≡_};
+ghost use Prim.Native.Nat.{_≤_};
+ghost use Rattle.reference.specs.Frames.{run};
+ghost use Rattle.reference.specs.Output as output;
+ghost use Rattle.reference.specs.Stages.{reach};
+ghost use Rattle.reference.specs.Promises.{OpeningPromise, no-clips, ConvertRunPromise, ConvertFramePromise, ConvertPromise};
+use reference::ConvertStats;
+use reference::Converted;
+use reference::Converter;
+use reference::Cutoff;
+use reference::Opened;
+use reference::PcmRate;
+
+mod checks;
+mod work;
+
+// Samples of one channel in a frame.
+pub fn samples_per_frame(rate: PcmRate) -> usize
+    ensures { λ r. ⌜ r ≡ output.samples-per-frame rate ⌝ }
+{
+    blocks::samples_per_frame(rate)
+}
+
+// Bytes of each channel before and after a stretch of frames that its samples may depend on.
+pub fn context_bytes(conv: Converter) -> usize
+    ensures { λ r. ⌜ r ≡ reach (conv .rate) (conv .cutoff) ⌝ }
+{
+    let rate = conv.rate;
+    let cutoff = conv.cutoff;
+    match cutoff {
+        Cutoff::Standard => match rate {
+            PcmRate::Hz88200 => 139,
+            PcmRate::Hz176400 => 139,
+            PcmRate::Hz352800 => 155,
+        },
+        Cutoff::Low => match rate {
+            PcmRate::Hz88200 => 179,
+            PcmRate::Hz176400 => 179,
+            PcmRate::Hz352800 => 195,
+        },
+        Cutoff::Wide => match rate {
+            PcmRate::Hz88200 => 0,
+            PcmRate::Hz176400 => 122,
+            PcmRate::Hz352800 => 66,
+        },
+    }
+}
+
+pub fn open(settings: Converter) -> Opened
+    ensures { λ r. ⌜ OpeningPromise settings r ⌝ }
+{
+    let verdict = checks::opening(settings);
+    Opened {
+        verdict,
+        converter: settings,
+    }
+}
+
+fn nothing_counted() -> ConvertStats
+    ensures { λ r. ⌜ r ≡ no-clips ⌝ }
+{
+    ConvertStats { clipped: [0u64; 6] }
+}
+
+// 32-bit samples of a run. An absent neighbour's slice is neither read nor measured.
+pub fn convert_run_parts<'a>(
+    conv: Converter,
+    has_before: bool,
+    before: &'a [u8],
+    frames: &'a [u8],
+    has_after: bool,
+    after: &'a [u8],
+    out: &mut [i32],
+) -> Converted
+    ensures { λ r. ⌜ ConvertRunPromise conv (run «has_before» (now (before .entry)) (now (frames .entry)) «has_after» (now (after .entry))) (now (out .entry)) (now (out .exit)) r ⌝ }
+{
+    let verdict = checks::run_call(conv, has_before, before, frames, has_after, after, out);
+    if checks::accepted(verdict) {
+        let stats = work::items(conv, has_before, before, frames, has_after, after, out);
+        return Converted { verdict, stats };
+    }
+    let stats = nothing_counted();
+    Converted { verdict, stats }
+}
+
+// The same of one frame.
+pub fn convert_frame_parts<'a>(
+    conv: Converter,
+    has_before: bool,
+    before: &'a [u8],
+    frames: &'a [u8],
+    has_after: bool,
+    after: &'a [u8],
+    out: &mut [i32],
+) -> Converted
+    ensures { λ r. ⌜ ConvertFramePromise conv (run «has_before» (now (before .entry)) (now (frames .entry)) «has_after» (now (after .entry))) (now (out .entry)) (now (out .exit)) r ⌝ }
+{
+    let verdict = checks::frame_call(conv, has_before, before, frames, has_after, after, out);
+    if checks::accepted(verdict) {
+        let stats = work::items(conv, has_before, before, frames, has_after, after, out);
+        return Converted { verdict, stats };
+    }
+    let stats = nothing_counted();
+    Converted { verdict, stats }
+}
+
+// Samples of a run, three bytes each, and the clips of each frame if a list for them is lent.
+pub fn convert_parts<'a>(
+    conv: Converter,
+    has_before: bool,
+    before: &'a [u8],
+    frames: &'a [u8],
+    has_after: bool,
+    after: &'a [u8],
+    lent: bool,
+    out: &mut [u8],
+    counts: &mut [u64],
+) -> Converted
+    ensures { λ r. ⌜ ConvertPromise conv (run «has_before» (now (before .entry)) (now (frames .entry)) «has_after» (now (after .entry))) lent (now (out .entry)) (now (counts .entry)) (now (out .exit)) (now (counts .exit)) r ⌝ }
+{
+    let verdict = checks::byte_call(
+        conv,
+        has_before,
+        before,
+        frames,
+        has_after,
+        after,
+        out,
+        lent,
+        counts,
+    );
+    if checks::accepted(verdict) {
+        if lent {
+            let stats = work::bytes_and_counts(
+                conv,
+                has_before,
+                before,
+                frames,
+                has_after,
+                after,
+                out,
+                counts,
+            );
+            return Converted { verdict, stats };
+        }
+        let stats = work::bytes(conv, has_before, before, frames, has_after, after, out);
+        return Converted { verdict, stats };
+    }
+    let stats = nothing_counted();
+    Converted { verdict, stats }
+}
