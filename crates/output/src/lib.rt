@@ -57,7 +57,7 @@ pub fn store24(samples: &[i32], n: usize, ch: usize, c: usize, raw: &mut [u8])
     requires { ⌜ ((k : ℕ) → k < length (now samples) → natAbs (getD (now samples) k (pos 0)) ≤ 8388608) ⌝ }
     ensures { λ _. ⌜ ((S : ℕ → ℕ → ℤ) → Held (pos 0) (S c) n (length (now (samples .entry))) (now (samples .entry)) → FillsBytes S ch n (n + length (now (samples .entry))) c (c + 1) (now (raw .entry)) (now (raw .exit))) ⌝ }
 {
-    let mut k: usize = 0;
+    let mut k = 0usize;
     while k < samples.len() {
         put(raw, 3 * ((n + k) * ch + c), samples[k]);
         k += 1;
