@@ -1,4 +1,4 @@
--- `fill` meets its contract.
+-- `fill` is safe and ends: the list keeps its length.
 use native.Mathlib.Omega.{arith}
 use borrow.Author.Needs.{needs}
 use mathlib.Core.Path.{_≡_}

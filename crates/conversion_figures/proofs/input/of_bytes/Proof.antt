@@ -1,4 +1,4 @@
--- `of_bytes` meets its contract.
+-- `of_bytes` is safe and ends.
 use native.Mathlib.Omega.{arith}
 use borrow.Author.Needs.{needs}
 use Prim.Native.Nat.{_-_, _≤_}

@@ -1,4 +1,4 @@
--- `of_samples` meets its contract.
+-- `of_samples` is safe and ends.
 use native.Mathlib.Omega.{arith}
 use borrow.Author.Needs.{needs}
 use Prim.Native.Nat.{_-_, _≤_}

@@ -1,4 +1,4 @@
--- `count` meets its contract.
+-- `count` is safe and ends: at turn i it has counted at most i.
 use Prim.Native.Nat.{_-_, _/_, _≤_}
 use lib.ListN.{length}
 use native.Mathlib.Omega.{arith}

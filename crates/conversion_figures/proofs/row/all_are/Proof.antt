@@ -1,4 +1,4 @@
--- `all_are` meets its contract.
+-- `all_are` is safe and ends.
 use native.Mathlib.Omega.{arith}
 use borrow.Author.Needs.{needs}
 use Prim.Native.Nat.{_-_, _≤_}

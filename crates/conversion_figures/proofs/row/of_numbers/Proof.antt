@@ -1,4 +1,4 @@
--- `of_numbers` meets its contract.
+-- `of_numbers` counts places of its list.
 use mathlib.Core.Path.{sym}
 use lib.Seq.{length-take-le}
 use borrow.Author.Needs.{needs}

@@ -1,4 +1,4 @@
--- `times` meets its contract.
+-- `times` is safe: the product of two numbers below 2^32 is below 2^64.
 use borrow.Author.Needs.{needs}
 use native.Mathlib.Omega.{arith}
 use Prim.Native.Nat.{ℕ, _*_, _^_, _<_, _≤_}
