@@ -1,10 +1,5 @@
 // The bytes of a conversion, by the rule of compare/answers, and digests.
 
-// The next number of a sequence below 2^32.
-fn next(x: u64) -> u64 {
-    (x % 0x1_0000_0000 * 1664525 + 1013904223) % 0x1_0000_0000
-}
-
 // What the sequence goes on from at byte k: pattern 3 starts anew at each period.
 fn resumed(pattern: u64, seed: u64, period: usize, k: usize, x: u64) -> u64 {
     if pattern != 3 {
@@ -38,7 +33,7 @@ pub fn fill(pattern: u64, seed: u64, period: usize, bytes: &mut [u8]) {
     let mut x = seed;
     let mut k = 0usize;
     while k < bytes.len() {
-        x = next(resumed(pattern, seed, period, k, x));
+        x = figures::next(resumed(pattern, seed, period, k, x));
         bytes[k] = byte(pattern, seed, k, x);
         k += 1;
     }
@@ -69,16 +64,11 @@ fn with(d: Digest, x: u64) -> Digest {
     }
 }
 
-// A sample, made positive.
-fn lifted(s: i32) -> u64 {
-    (s as i64 + 0x8000_0000) as u64
-}
-
 pub fn of_samples(s: &[i32]) -> Digest {
     let mut d = start();
     let mut i = 0usize;
     while i < s.len() {
-        let more = with(d, lifted(s[i]));
+        let more = with(d, figures::lifted(s[i]));
         d = more;
         i += 1;
     }

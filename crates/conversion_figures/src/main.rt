@@ -1,6 +1,6 @@
 // The conversions beside what the original gives (rust.rt), the figures of document 01 and its table of refusals.
 mod call;
-mod figures;
+mod document;
 mod input;
 mod refusals;
 mod replay;
@@ -9,6 +9,6 @@ mod rust;
 
 fn main() {
     replay::beside_rust();
-    figures::figures();
+    document::figures();
     refusals::refusals();
 }

@@ -2,7 +2,7 @@
 use crate::call;
 use crate::input;
 use crate::row;
-use crate::row::at;
+use figures::at;
 use reference::Converted;
 use reference::Converter;
 use reference::Gain;
@@ -53,8 +53,8 @@ const LENGTHS: [[u64; 9]; 15] = [
 // The settings of a row.
 fn settings(row: &[u64]) -> Converter {
     let gain = Gain {
-        db: call::float(at(row, 2)),
-        linear: call::float(at(row, 3)),
+        db: figures::float(at(row, 2)),
+        linear: figures::float(at(row, 3)),
     };
     call::converter(at(row, 0), at(row, 1), gain)
 }
@@ -94,13 +94,13 @@ fn converted<'a>(
 
 // Whether a verdict is the row's.
 fn told(v: Verdict, row: &[u64]) -> bool {
-    call::is(call::verdict(v), at(row, 6), at(row, 7), at(row, 8))
+    figures::is(figures::verdict(v), at(row, 6), at(row, 7), at(row, 8))
 }
 
 // Whether nothing is counted, and lists of 7's are kept.
 fn untouched(done: Converted, out: &[i32; 3528], raw: &[u8; 3528], counts: &[u64; 3]) -> bool {
     let seven = [7u8; 3528];
-    call::clips_are(done, 0)
+    figures::clips_are(done, 0)
         && row::all_are(7, out)
         && input::same(input::of_bytes(raw), input::of_bytes(&seven))
         && row::kept(counts)
@@ -116,12 +116,12 @@ fn converted_parts(
     raw: &mut [u8],
     counts: &mut [u64],
 ) -> Converted {
-    let b = row::of_bytes(at(lengths, 1), s);
-    let f = row::of_bytes(at(lengths, 2), s);
-    let a = row::of_bytes(at(lengths, 3), s);
-    let o = row::of_samples(at(lengths, 4), out);
-    let r = row::of_bytes(at(lengths, 4), raw);
-    let c = row::of_numbers(at(lengths, 5), counts);
+    let b = figures::of_bytes(at(lengths, 1), s);
+    let f = figures::of_bytes(at(lengths, 2), s);
+    let a = figures::of_bytes(at(lengths, 3), s);
+    let o = figures::of_samples(at(lengths, 4), out);
+    let r = figures::of_bytes(at(lengths, 4), raw);
+    let c = figures::of_numbers(at(lengths, 5), counts);
     converted(
         question,
         conv,
@@ -193,10 +193,10 @@ fn count(question: u64, rows: &[[u64; 9]]) -> u64 {
 
 pub fn refusals() {
     let settings = SETTINGS;
-    row::line(b"refused by open ", 6, count(0, &settings));
-    row::line(b"refused by convert_run ", 6, count(1, &settings));
-    row::line(b"refused by convert_frame ", 6, count(2, &settings));
-    row::line(b"refused by convert ", 6, count(3, &settings));
+    figures::right(b"refused by open ", 6, count(0, &settings));
+    figures::right(b"refused by convert_run ", 6, count(1, &settings));
+    figures::right(b"refused by convert_frame ", 6, count(2, &settings));
+    figures::right(b"refused by convert ", 6, count(3, &settings));
     let lengths = LENGTHS;
-    row::line(b"refused lengths ", 15, count(4, &lengths));
+    figures::right(b"refused lengths ", 15, count(4, &lengths));
 }

@@ -4,10 +4,10 @@ use crate::call;
 use crate::input;
 use crate::input::Digest;
 use crate::row;
-use crate::row::at;
-use crate::row::one;
 use crate::row::times;
 use crate::rust;
+use figures::at;
+use figures::one;
 use reference::Converted;
 use reference::Converter;
 
@@ -34,12 +34,12 @@ fn same(d: Digest, row: &[u64], i: usize) -> bool {
 }
 
 fn clips_right(done: Converted, row: &[u64], c: usize) -> bool {
-    call::clips(done, c) == at(row, 11 + c % 6)
+    figures::clips(done, c) == at(row, 11 + c % 6)
 }
 
 // Whether a call is accepted with the row's clips.
 fn counted(done: Converted, row: &[u64]) -> bool {
-    call::accepted(done)
+    figures::accepted(done)
         && clips_right(done, row, 0)
         && clips_right(done, row, 1)
         && clips_right(done, row, 2)
@@ -197,12 +197,12 @@ fn parts_right(
     counts: &mut [u64],
 ) -> bool {
     let size = times(4704, at(row, 1));
-    let b = row::of_bytes(size, before);
-    let f = row::of_bytes(times(size, at(row, 3)), frames);
-    let a = row::of_bytes(size, after);
-    let o = row::of_samples(samples(row), out);
-    let r = row::of_bytes(times(3, samples(row)), raw);
-    let c = row::of_numbers(at(row, 3), counts);
+    let b = figures::of_bytes(size, before);
+    let f = figures::of_bytes(times(size, at(row, 3)), frames);
+    let a = figures::of_bytes(size, after);
+    let o = figures::of_samples(samples(row), out);
+    let r = figures::of_bytes(times(3, samples(row)), raw);
+    let c = figures::of_numbers(at(row, 3), counts);
     answer(
         question,
         row,
@@ -261,7 +261,7 @@ fn count(question: u8, rows: &[u64]) -> Score {
 }
 
 fn print(name: &[u8], c: Score) {
-    row::line(name, c.all, c.yes);
+    figures::right(name, c.all, c.yes);
 }
 
 pub fn beside_rust() {

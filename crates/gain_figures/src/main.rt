@@ -5,39 +5,24 @@ use reference::PcmError;
 
 mod rust;
 
-// A float by its bits, and its bits. Every NaN is one.
-fn float(n: u64) -> f64 {
-    if n % 0x8000_0000_0000_0000 > 0x7ff0_0000_0000_0000 {
-        return 0.0 / 0.0;
-    }
-    f64::from_bits(n)
-}
-
-fn bits(x: f64) -> u64 {
-    if x != x {
-        return 0x7ff8_0000_0000_0000;
-    }
-    f64::to_bits(x)
-}
-
 fn is_factor(db: u64, factor: u64) -> bool {
-    bits(gain::db_to_linear(float(db))) == factor
+    figures::bits(gain::db_to_linear(figures::float(db))) == factor
 }
 
 // Whether the gain call takes db and makes this factor of it.
 fn taken(db: u64, factor: u64) -> bool {
-    match gain::from_db(float(db)) {
-        FromDb::Made(g) => bits(g.db) == db && bits(g.linear) == factor,
+    match gain::from_db(figures::float(db)) {
+        FromDb::Made(g) => figures::bits(g.db) == db && figures::bits(g.linear) == factor,
         FromDb::Refused(_) => false,
     }
 }
 
 // Whether the gain call refuses db with number 3, handing db back.
 fn refused(db: u64) -> bool {
-    match gain::from_db(float(db)) {
+    match gain::from_db(figures::float(db)) {
         FromDb::Made(_) => false,
         FromDb::Refused(e) => match e {
-            PcmError::Gain(d) => bits(d) == db,
+            PcmError::Gain(d) => figures::bits(d) == db,
             _ => false,
         },
     }
@@ -46,8 +31,8 @@ fn refused(db: u64) -> bool {
 // Whether a record of db and factor is taken for right.
 fn right(db: u64, factor: u64) -> bool {
     gain::right_gain(Gain {
-        db: float(db),
-        linear: float(factor),
+        db: figures::float(db),
+        linear: figures::float(factor),
     })
 }
 
@@ -60,11 +45,6 @@ fn answer(question: u8, db: u64, factor: u64) -> bool {
     }
 }
 
-// What stands at i, and 0 past the end.
-fn at(s: &[u64], i: usize) -> u64 {
-    if i < s.len() { s[i] } else { 0 }
-}
-
 fn number_at(s: &[i32], i: usize) -> i32 {
     if i < s.len() { s[i] } else { 0 }
 }
@@ -74,7 +54,7 @@ fn count(question: u8, db: &[u64], factor: &[u64]) -> u64 {
     let mut n = 0u64;
     let mut i = 0usize;
     while i < db.len() {
-        if answer(question, at(db, i), at(factor, i)) {
+        if answer(question, figures::at(db, i), figures::at(factor, i)) {
             n += 1;
         }
         i += 1;
@@ -84,7 +64,7 @@ fn count(question: u8, db: &[u64], factor: &[u64]) -> u64 {
 
 // Whether y becomes this sample at db decibels, and is clipped so often.
 fn scales(y: i32, db: u64, sample: i32, clips: u64) -> bool {
-    match gain::from_db(float(db)) {
+    match gain::from_db(figures::float(db)) {
         FromDb::Made(g) => {
             let ys = [y as i64];
             let mut out = [0i32; 1];
@@ -102,9 +82,9 @@ fn count_scaled(ys: &[i32], db: &[u64], samples: &[i32], clips: &[u64]) -> u64 {
     while i < ys.len() {
         if scales(
             number_at(ys, i),
-            at(db, i),
+            figures::at(db, i),
             number_at(samples, i),
-            at(clips, i),
+            figures::at(clips, i),
         ) {
             n += 1;
         }
@@ -113,26 +93,18 @@ fn count_scaled(ys: &[i32], db: &[u64], samples: &[i32], clips: &[u64]) -> u64 {
     n
 }
 
-fn line(name: &[u8], all: usize, yes: u64) {
-    io::write_all(1, name);
-    io::print_decimal(1, all as u64);
-    io::write_all(1, b" right ");
-    io::print_decimal(1, yes);
-    io::write_all(1, b"\n");
-}
-
 // The original's lists.
 fn beside_rust() {
     let db = rust::DECIBELS;
     let factors = rust::FACTORS;
-    line(b"factors ", db.len(), count(0, &db, &factors));
+    figures::right(b"factors ", db.len() as u64, count(0, &db, &factors));
     let ys = rust::NUMBERS;
     let gains = rust::GAINS;
     let samples = rust::SAMPLES;
     let clips = rust::CLIPS;
-    line(
+    figures::right(
         b"samples ",
-        ys.len(),
+        ys.len() as u64,
         count_scaled(&ys, &gains, &samples, &clips),
     );
 }
@@ -149,8 +121,8 @@ fn edges() {
         0x3eb0_c6f7_a0b5_ed86,
         0x3ff0_0000_0000_0000,
     ];
-    line(b"taken ", db.len(), count(1, &db, &factors));
-    line(b"records ", db.len(), count(3, &db, &factors));
+    figures::right(b"taken ", db.len() as u64, count(1, &db, &factors));
+    figures::right(b"records ", db.len() as u64, count(3, &db, &factors));
     let past = [
         0x4038_0000_0000_0001,
         0xc05e_0000_0000_0001,
@@ -158,11 +130,15 @@ fn edges() {
         0x7ff0_0000_0000_0000,
         0xfff0_0000_0000_0000,
     ];
-    line(b"refused ", past.len(), count(2, &past, &past));
+    figures::right(b"refused ", past.len() as u64, count(2, &past, &past));
     // Records with a factor a bit up, a bit down, NaN, and -0; and of decibels past the end.
     let wrong_db = [db[0], db[1], db[0], db[0], past[0]];
     let wrong = [factors[0] + 1, factors[1] - 1, past[2], db[2], factors[0]];
-    line(b"wrong records ", wrong.len(), count(3, &wrong_db, &wrong));
+    figures::right(
+        b"wrong records ",
+        wrong.len() as u64,
+        count(3, &wrong_db, &wrong),
+    );
 }
 
 // Document 01's figures: y is 2^26 where all bits are 1, and minus that where all are 0. The last is 8,388,607.25 before the rounding.
@@ -178,9 +154,9 @@ fn figures() {
     ];
     let samples = [8388607, 838861, 8, -8388608, -8388608, 8388607];
     let clips = [1, 0, 0, 0, 1, 0];
-    line(
+    figures::right(
         b"figures ",
-        ys.len(),
+        ys.len() as u64,
         count_scaled(&ys, &db, &samples, &clips),
     );
 }

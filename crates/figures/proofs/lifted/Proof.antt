@@ -11,8 +11,8 @@ use lib.Signed.{nonNeg}
 use mir.Syntax.{w32, w64}
 use mir.Val.{SFits, Fits, toZ, ofZ}
 use mir.Facts.{toZ-ofZ}
-use Rattle.conversion_figures.proofs.input.lifted.Statement.{statement}
-use Rattle.conversion_figures.proofs.input.lifted.Tie as tie
+use Rattle.figures.proofs.lifted.Statement.{statement}
+use Rattle.figures.proofs.lifted.Tie as tie
 
 wider : {z : ℤ} → SFits w32 z → SFits w64 z
 wider h = record { sfits = lt-of-lt-of-le (h .sfits) (lit≤ tt) }

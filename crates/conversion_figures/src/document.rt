@@ -1,7 +1,7 @@
 // Document 01's figures: Standard at 88,200 Hz, mono.
 use crate::call;
 use crate::row;
-use crate::row::one;
+use figures::one;
 use reference::Converted;
 use reference::Converter;
 
@@ -12,7 +12,7 @@ fn standard(db: u64) -> Converter {
 
 // Whether a call is accepted with this many clips, all of channel 0.
 fn clipped(done: Converted, clips: u64) -> bool {
-    call::accepted(done) && call::clips_are(done, clips)
+    figures::accepted(done) && figures::clips_are(done, clips)
 }
 
 // Whether a frame between two like it becomes one sample throughout.
@@ -89,7 +89,7 @@ fn refused_as_empty<'a>(
         out,
     );
     let v = done.verdict;
-    call::is(call::verdict(v), 4, 0, 1)
+    figures::is(figures::verdict(v), 4, 0, 1)
 }
 
 // Neighbours that are present and empty.
@@ -105,15 +105,15 @@ fn empty_neighbours() -> u64 {
 }
 
 fn taken(db: u64) -> bool {
-    call::is(call::gain_call(db), 0, 0, 0)
+    figures::is(call::gain_call(db), 0, 0, 0)
 }
 
 fn refused(db: u64) -> bool {
-    call::is(call::gain_call(db), 3, db, 0)
+    figures::is(call::gain_call(db), 3, db, 0)
 }
 
 pub fn figures() {
-    row::line(
+    figures::right(
         b"one byte throughout ",
         4,
         one(constant(0, 0xff, 8388607, 1176))
@@ -121,9 +121,9 @@ pub fn figures() {
             + one(constant(0xc05e_0000_0000_0000, 0xff, 8, 0))
             + one(constant(0x4038_0000_0000_0000, 0, -8388608, 1176)),
     );
-    row::line(b"no frames ", 2, no_frames());
-    row::line(b"empty neighbours ", 2, empty_neighbours());
-    row::line(
+    figures::right(b"no frames ", 2, no_frames());
+    figures::right(b"empty neighbours ", 2, empty_neighbours());
+    figures::right(
         b"24 dB and past it ",
         2,
         one(taken(0x4038_0000_0000_0000)) + one(refused(0x4038_0000_0000_0001)),

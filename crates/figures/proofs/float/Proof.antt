@@ -7,8 +7,8 @@ use lib.Dec.{T}
 use lib.Ieee.{binary64}
 use lib.Ieee.Bits.{nanBits-above}
 use borrow.Author.Needs.{needs}
-use Rattle.gain_figures.proofs.float.Statement.{statement}
-use Rattle.gain_figures.proofs.float.Tie as tie
+use Rattle.figures.proofs.float.Statement.{statement}
+use Rattle.figures.proofs.float.Tie as tie
 
 float-from-bits-result : tie.Need-float-from-bits-result
 float-from-bits-result c =

@@ -1,8 +1,8 @@
 -- `bits` is safe: it writes no NaN's pattern.
 use Rattle.gain.proofs.Records.{number}
 use borrow.Author.Needs.{needs}
-use Rattle.gain_figures.proofs.bits.Statement.{statement}
-use Rattle.gain_figures.proofs.bits.Tie as tie
+use Rattle.figures.proofs.bits.Statement.{statement}
+use Rattle.figures.proofs.bits.Tie as tie
 
 float-to-bits-result : tie.Need-float-to-bits-result
 float-to-bits-result c = number (c .before .args .x) (c .if1 .left)
