@@ -1,14 +1,11 @@
 #!/usr/bin/env bash
 # Writes crates/conversion_figures/src/rust.rt: what the original's `Converter::convert` gives.
 # Usage: compare/answers.sh [SRC] > crates/conversion_figures/src/rust.rt
-# SRC is the original's repository, by default ../shared/docs/src. It is built as it stands, in a folder of its own, with Debian's thiserror.
+# SRC is the original's repository, by default ../shared/docs/src. It is built as it stands, in a folder of its own. Its one dependency, thiserror,
+# is taken from Debian's package librust-thiserror-dev where that is installed, else from crates.io.
 set -eu
 here=$(cd "$(dirname "$0")" && pwd)
 src=$(cd "${1:-$here/../../shared/docs/src}/crates/scarletbook-pcm/src" && pwd)
-registry=/usr/share/cargo/registry
-if ! ls -d $registry/thiserror-1* > /dev/null 2>&1; then
-    { apt-get update && apt-get install -y librust-thiserror-dev; } >&2
-fi
 dir=$(mktemp -d)
 trap 'rm -r "$dir"' EXIT
 cp -r "$here/answers" "$dir"
@@ -23,12 +20,15 @@ edition = "2024"
 [dependencies]
 thiserror = "1"
 END
-cat > "$dir/.cargo/config.toml" <<END
+registry=/usr/share/cargo/registry
+if ls -d "$registry"/thiserror-1* > "$dir/found" 2>&1; then
+    cat > "$dir/.cargo/config.toml" <<END
 [source.crates-io]
 replace-with = "debian"
 
 [source.debian]
 directory = "$registry"
 END
+fi
 cd "$dir/answers"
-cargo run --release --offline --quiet
+cargo run --release --quiet
