@@ -1,2 +1,1 @@
-pub mod Kernel
 pub mod Sums

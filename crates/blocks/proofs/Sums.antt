@@ -17,9 +17,11 @@ use Rattle.reference.specs.Stages.{y}
 use Rattle.reference.specs.Output.{samples-per-frame, unclamped, sample}
 use Rattle.reference.specs.declared.PcmRate.{PcmRate}
 use Rattle.reference.specs.declared.PcmRate.the-variants.{Hz88200, Hz176400, Hz352800}
+use Rattle.reference.specs.declared.Cutoff.{Cutoff}
 use Rattle.reference.specs.declared.Converter.{Converter}
 use Rattle.channel_bytes.specs.Lent.{lent-run, byte-at}
-use Rattle.kernel.specs.Routes.{y-of, block-length}
+use Rattle.kernel.specs.Routes.{y-of, last-taps, block-length}
+use Rattle.kernel.proofs.Routes.{y-of-is, y-of-size}
 use Rattle.gain.specs.Scale.{ScaledBlock}
 use Rattle.gain.specs.Tallies.{tally, none, joined, Joins}
 use Rattle.gain.specs.declared.Tally.{Tally}
@@ -27,7 +29,10 @@ use Rattle.gain.proofs.Tallies.{tally-none, tally-join, tally-same, tally-fits,
 use Rattle.output.specs.Fills.{FillsItems, FillsBytes, Drawn, Room}
 use Rattle.output.proofs.Boxes.{no-rows, no-cols, rows, cols}
 use Rattle.blocks.specs.Blocks.{Ready, Sized, Staged, Scaled, Made}
-use Rattle.blocks.proofs.Kernel.{y-is, y-size}
+
+-- with the taps of document 01's last filter the kernel's y is the definition's
+y-is : (rate : PcmRate) (cutoff : Cutoff) (h : List ℤ) → h ≡ last-taps rate cutoff → (β : ℕ → ℕ) (n : ℕ) → y-of rate cutoff h β n ≡ y rate cutoff β n
+y-is rate cutoff h e β n = rw e (y-of-is rate cutoff β n)
 
 -- ---- numbers of a rate
 
@@ -97,7 +102,7 @@ module _ {conv : Converter} {n : ℕ} {b f a : List ℕ} {tables hb h he ho : Li
   pub values-small : (i : ℕ) → i < m → natAbs (getD ys i (pos 0)) < 2 ^ 32
   values-small i l =
       let e = held .is i l in
-      rw e (omega (arith, y-size (conv .rate) (conv .cutoff) h (ready .route .last) (byte-at (conv .channels) b f a c) (samples-per-frame (conv .rate) + k + i)))
+      rw e (omega (arith, y-of-size (conv .rate) (conv .cutoff) h (ready .route .last) (byte-at (conv .channels) b f a c) (samples-per-frame (conv .rate) + k + i)))
 
   value-is : (i : ℕ) → i < m → scaled (conv .gain .linear) (getD ys i (pos 0)) ≡ unclamped conv (lent-run b f a) c (k + i)
   unfolding unclamped byte-at
