@@ -1,14 +1,12 @@
 -- Samples to blocks, blocks to a channel of a frame: what the loops add up.
 use mathlib.Core.Path.{_≡_, refl, sym, ap, _∙_, subst}
-use mathlib.Core.Bool.{Bool, true, false, cond, true≢false}
+use mathlib.Core.Bool.{Bool, true, false, true≢false}
 use mathlib.Core.List.{List}
 use Prim.Native.Nat.{ℕ, _+_, _*_, _%_, _^_, _≤_, _<_}
 use native.Mathlib.Nat.{mul-le-mul, mul-le-mul-right}
 use native.Mathlib.Omega.{arith}
-use borrow.Author.Tests.{ltb-false}
 use lib.Dec.{lit≤, lit<}
-use lib.IntN.{ℤ, pos, negsuc, natAbs}
-use lib.Signed.{ltZ}
+use lib.IntN.{ℤ, pos, natAbs}
 use lib.ListN.{length, getD}
 use Rattle.numbers.specs.Lists.{Held}
 use Rattle.reference.specs.Frames.{Run}
@@ -118,20 +116,6 @@ module _ {conv : Converter} {n : ℕ} {b f a : List ℕ} {tables hb h he ho : Li
         held = record { is = λ i l. s .samples i (omega arith) ∙ ap clamp (value-is i l) };
         is-told = s .is-told ∙ tally-same _ (unclamped conv (lent-run b f a) c) 0 k (length ys) (λ i l. let z : 0 + i ≡ i = omega arith in rw z (value-is i (omega arith))) ∙ ap (tally (unclamped conv (lent-run b f a) c) k) e;
       }
-
-clamp-size : (z : ℤ) → natAbs (clamp z) ≤ 8388608
-unfolding clamp
-clamp-size z = go (ltZ (pos 8388607) z) (ltZ z (negsuc 8388607)) z refl refl
-  where
-    go : (p q : Bool) (z : ℤ) → ltZ (pos 8388607) z ≡ p → ltZ z (negsuc 8388607) ≡ q → natAbs (cond p (pos 8388607) (cond q (negsuc 8388607) z)) ≤ 8388608
-    go true q z e f = lit≤ tt
-    go false true z e f = lit≤ tt
-    go false false (pos n) e f = omega (arith, ltb-false 8388607 n e)
-    go false false (negsuc n) e f = omega (arith, ltb-false 8388607 n f)
-
-pub samples-small : {conv : Converter} {r : Run} {c n m : ℕ} {l : List ℤ} {told : Tally} → Scaled conv r c n m l told → length l ≡ m → (k : ℕ) → k < length l → natAbs (getD l k (pos 0)) ≤ 8388608
-unfolding sample
-samples-small {conv} {r} {c} {n} s e k h = rw (s .held .is k (omega arith)) (clamp-size (unclamped conv r c (n + k)))
 
 -- ---- boxes, in the form that is asked for
 

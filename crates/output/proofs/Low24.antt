@@ -1,54 +1,47 @@
--- A sample's low 24 bits, by its sign.
-use mathlib.Core.Path.{_≡_, sym, ap, _∙_, subst}
-use mathlib.Core.Bool.{true, false, true≢false}
+-- A sample's low 24 bits: those of the sample plus 2^32, which is not negative.
+use mathlib.Core.Path.{_≡_, refl, ap, _∙_}
 use mathlib.Core.List.{List}
-use Prim.Native.Nat.{ℕ, suc, _+_, _-_, _/_, _%_, _<_, _≤_}
+use Prim.Native.Nat.{ℕ, suc, _+_, _-_, _/_, _%_, _<_, _^_}
 use native.Mathlib.Omega.{arith}
-use borrow.Author.Tests.{ltb-true, le-ltb}
-use lib.Dec.{T}
+use borrow.Author.Tests.{le-ltb}
 use lib.IntN.{ℤ, pos, negsuc, natAbs, _+ℤ_}
 use lib.ListN.{set}
-use lib.Signed.{ltZ, nonNeg}
-use mir.Syntax.{w32}
-use mir.Val.{SFits, Fits, toZ, ofZ}
+use lib.Signed.{mag}
+use mir.Syntax.{w32, w64}
+use mir.Val.{SFits, toZ, ofZ}
 use mir.Facts.{toZ-ofZ}
+use Rattle.numbers.proofs.Machine.{t, wide-is}
 use Rattle.reference.specs.Output.{low24}
 use Rattle.output.specs.Fills.{third, put24}
 
-low24-lt : (v : ℤ) → low24 v < 16777216
-unfolding low24
-low24-lt (pos n) = omega arith
-low24-lt (negsuc n) = omega arith
+pub up : ℤ → ℕ
+up (pos n) = n + 4294967296
+up (negsuc n) = 4294967295 - n
 
-lifted : (v : ℤ) → natAbs v ≤ 8388608 → ltZ v (pos 0) ≡ true → v +ℤ pos 16777216 ≡ pos (low24 v)
-unfolding low24
-lifted (pos n) m e = absurd (omega (arith, ltb-true n 0 e))
-lifted (negsuc n) m e = rw (le-ltb 16777216 (suc n) (omega arith)) (let q : 16777216 - suc n ≡ 16777215 - n % 16777216 = omega arith in ap pos q)
+up-is : (v : ℤ) → mag v < 2 ^ 31 → v +ℤ pos 4294967296 ≡ pos (up v)
+unfolding up
+up-is (pos n) m = refl
+up-is (negsuc n) m = rw (le-ltb 4294967296 (suc n) (omega arith)) (let q : 4294967296 - suc n ≡ 4294967295 - n = omega arith in ap pos q)
 
-kept : (v : ℤ) → natAbs v ≤ 8388608 → ltZ v (pos 0) ≡ false → v ≡ pos (low24 v)
-unfolding low24
-kept (pos n) m e = let q : n ≡ n % 16777216 = omega arith in ap pos q
-kept (negsuc n) m e = absurd (true≢false e)
+pub up-small : (v : ℤ) → mag v < 2 ^ 31 → up v < 2 ^ 33
+unfolding up
+up-small (pos n) m = omega arith
+up-small (negsuc n) m = omega arith
 
-fits24 : (v : ℤ) → SFits w32 (pos (low24 v))
-fits24 v = record { sfits = omega (arith, low24-lt v) }
+pub up-low : (v : ℤ) → mag v < 2 ^ 31 → up v % 16777216 ≡ low24 v
+unfolding up low24
+up-low (pos n) m = omega arith
+up-low (negsuc n) m = omega arith
 
-module _ (v : ℤ) (f : SFits w32 v) (m : natAbs v ≤ 8388608) where
-  sum-is : ltZ (toZ w32 (ofZ w32 v)) (pos 0) ≡ true → toZ w32 (ofZ w32 v) +ℤ pos 16777216 ≡ pos (low24 v)
-  sum-is e = ap (λ z. z +ℤ pos 16777216) (toZ-ofZ f) ∙ lifted v m (rw (toZ-ofZ f) at e)
+module _ (v : ℤ) (m : mag v < 2 ^ 31) where
+  pub sum-is : t (toZ w32 (ofZ w32 v)) +ℤ pos 4294967296 ≡ pos (up v)
+  sum-is = ap (λ z. z +ℤ pos 4294967296) (wide-is v m) ∙ up-is v m
 
-  pub sum-fits : ltZ (toZ w32 (ofZ w32 v)) (pos 0) ≡ true → SFits w32 (toZ w32 (ofZ w32 v) +ℤ pos 16777216)
-  sum-fits e = subst (λ (z : ℤ). SFits w32 z) (sym (sum-is e)) (fits24 v)
+  pub up-fits : SFits w64 (pos (up v))
+  up-fits = record { sfits = omega (arith, up-small v m) }
 
-  pub wrapped : ltZ (toZ w32 (ofZ w32 v)) (pos 0) ≡ true → toZ w32 (ofZ w32 (toZ w32 (ofZ w32 v) +ℤ pos 16777216)) ≡ pos (low24 v)
-  wrapped e = ap (λ z. toZ w32 (ofZ w32 z)) (sum-is e) ∙ toZ-ofZ (fits24 v)
-
-  pub plain : ltZ (toZ w32 (ofZ w32 v)) (pos 0) ≡ false → toZ w32 (ofZ w32 v) ≡ pos (low24 v)
-  plain e = toZ-ofZ f ∙ kept v m (rw (toZ-ofZ f) at e)
-
--- a whole number that is not negative, cast to a `u32`
-pub cast24 : (v z : ℤ) → z ≡ pos (low24 v) → T (nonNeg z) × Fits w32 (natAbs z)
-cast24 v z e = subst (λ (y : ℤ). T (nonNeg y) × Fits w32 (natAbs y)) (sym e) (tt, record { fits = omega (arith, low24-lt v) })
+  pub held-is : t (t (toZ w32 (ofZ w32 v)) +ℤ pos 4294967296) ≡ pos (up v)
+  held-is = ap t sum-is ∙ toZ-ofZ up-fits
 
 -- the three bytes of w
 pub is-put : (l : List ℕ) (at : ℕ) (v : ℤ) (w : ℕ) {a b d : ℕ} → SFits w32 v → w ≡ low24 (toZ w32 (ofZ w32 v)) → a ≡ w / 1 % 256 → b ≡ w / 256 % 256 → d ≡ w / 65536 % 256

@@ -1,10 +1,11 @@
-// Module 7, output: a block's samples of one channel go to their places.
+// Module 7, output: a block's samples of one channel go to their places; and samples are packed as bytes.
 ghost use mathlib.Core.Path.{_≡_};
-ghost use Prim.Native.Nat.{ℕ, _+_, _*_, _/_, _%_, _≤_, _<_};
-ghost use lib.IntN.{ℤ, pos, natAbs};
-ghost use lib.ListN.{length, getD};
+ghost use Prim.Native.Nat.{ℕ, _+_, _*_, _/_, _%_, _≤_, _<_, min};
+ghost use lib.IntN.{ℤ, pos};
+ghost use lib.ListN.{length};
 ghost use Rattle.numbers.specs.Lists.{Held};
 ghost use Rattle.reference.specs.Output.{low24};
+ghost use Rattle.reference.specs.Promises.{PackPromise};
 ghost use Rattle.output.specs.Fills.{FillsItems, FillsBytes, put24};
 
 // Samples n, n + 1, .. of channel c: sample n is item n * ch + c.
@@ -22,14 +23,9 @@ pub fn store(samples: &[i32], n: usize, ch: usize, c: usize, out: &mut [i32])
 
 // The low 24 bits of a sample.
 fn bits(v: i32) -> u32
-    requires { ⌜ natAbs v ≤ 8388608 ⌝ }
     ensures { λ r. ⌜ r ≡ low24 v ⌝ }
 {
-    if v < 0 {
-        (v + 16777216) as u32
-    } else {
-        v as u32
-    }
+    ((v as i64 + 4294967296) as u64 % 16777216) as u32
 }
 
 // A byte of w, over its place value.
@@ -42,7 +38,7 @@ fn byte(w: u32, value: u32) -> u8
 
 // A sample as three bytes from a place on, least first.
 fn put(raw: &mut [u8], at: usize, v: i32)
-    requires { ⌜ (natAbs v ≤ 8388608) × (at + 2 < length (now raw)) ⌝ }
+    requires { ⌜ at + 2 < length (now raw) ⌝ }
     ensures { λ _. ⌜ now (raw .exit) ≡ put24 (now (raw .entry)) at v ⌝ }
 {
     let w = bits(v);
@@ -54,12 +50,32 @@ fn put(raw: &mut [u8], at: usize, v: i32)
 // The same as `store`, three bytes a sample.
 pub fn store24(samples: &[i32], n: usize, ch: usize, c: usize, raw: &mut [u8])
     requires { ⌜ (c < ch) × (3 * ((n + length (now samples)) * ch) ≤ length (now raw)) ⌝ }
-    requires { ⌜ ((k : ℕ) → k < length (now samples) → natAbs (getD (now samples) k (pos 0)) ≤ 8388608) ⌝ }
     ensures { λ _. ⌜ ((S : ℕ → ℕ → ℤ) → Held (pos 0) (S c) n (length (now (samples .entry))) (now (samples .entry)) → FillsBytes S ch n (n + length (now (samples .entry))) c (c + 1) (now (raw .entry)) (now (raw .exit))) ⌝ }
 {
     let mut k = 0usize;
     while k < samples.len() {
         put(raw, 3 * ((n + k) * ch + c), samples[k]);
+        k += 1;
+    }
+}
+
+fn least(a: usize, b: usize) -> usize
+    ensures { λ r. ⌜ r ≡ min a b ⌝ }
+{
+    if a < b {
+        return a;
+    }
+    b
+}
+
+// The samples that there is room for, three bytes each from the start; the bytes past them are kept.
+pub fn pack(samples: &[i32], bytes: &mut [u8])
+    ensures { λ _. ⌜ PackPromise (now (samples .entry)) (now (bytes .entry)) (now (bytes .exit)) ⌝ }
+{
+    let n = least(samples.len(), bytes.len() / 3);
+    let mut k = 0usize;
+    while k < n {
+        put(bytes, 3 * k, samples[k]);
         k += 1;
     }
 }

@@ -1,16 +1,23 @@
 -- Demand 3 speaks of these functions: what `ensures` says of a call is, word for word, the promise that the join theorem (crate joins) goes by.
 use mathlib.Core.Path.{_≡_, refl}
 use contract.Lifetimes.{Lfts}
+use contract.Monad.{fact}
 use borrow.Fn.Kinds.{Dens, resT, endedOf}
+use denote.Triple.Entry.{Args, Res}
 use denote.Triple.Clauses.{AtExit}
+use denote.Triple.Spec.{exits}
 use denote.Ref.{now}
 use Rattle.reference.specs.Frames.{run}
 use Rattle.reference.specs.Promises.{ConvertPromise, ConvertRunPromise}
 use Rattle.joins.specs.Joins.{Call, convert, convert-run}
+use Rattle.scarletbook_pcm.specs.Calls.{run-of}
+use Rattle.scarletbook_pcm.proofs.Thin.{URA, Heap, Atoms, Memory, Routine, SProp, Fun}
 use Rattle.scarletbook_pcm.proofs.convert_parts.Kinds as bytes-kinds
 use Rattle.scarletbook_pcm.proofs.convert_parts.Reads as bytes
 use Rattle.scarletbook_pcm.proofs.convert_run_parts.Kinds as items-kinds
 use Rattle.scarletbook_pcm.proofs.convert_run_parts.Reads as items
+use Rattle.scarletbook_pcm.proofs.record.convert as record-bytes
+use Rattle.scarletbook_pcm.proofs.record.convert_run as record-items
 
 -- a call of `convert_parts`: its arguments a, its answer r, the lent lists s at exit
 module _ (κs : Lfts 3) (a : Dens κs bytes-kinds.ps) (r : resT bytes-kinds.r κs .Denot) (s : AtExit (endedOf 3 bytes-kinds.ps bytes-kinds.r) κs) where
@@ -31,3 +38,15 @@ module _ (κs : Lfts 2) (a : Dens κs items-kinds.ps) (r : resT items-kinds.r κ
 
   pub convert-run-call : items.Learnt κs a r s → Call (a .0)
   convert-run-call p = convert-run record { run = _; out = _; out' = _; answer = r; promise = p }
+
+-- the same over the run record: of what the lent lists s hold at exit, a call's contract says the promise
+module _ {M : Type 1} (𝓤 : URA M) (H : Heap 𝓤) (A : Atoms 𝓤) (mem : Memory → SProp 𝓤) (runs : Routine → Fun 𝓤) where
+  pub record-ensures : (κs : Lfts 3) (a : Args record-bytes.signature κs) (r : Res record-bytes.signature κs) →
+      record-bytes.spec 𝓤 H A mem runs κs a .ensures tt r ≡ exits 𝓤 H A record-bytes.signature (record-bytes.ended .kept) κs a (λ s. fact 𝓤 (
+      ConvertPromise (a .0) (run-of (a .1 .0)) (a .1 .1 .0) (now (a .1 .1 .1 .0)) (now (a .1 .1 .1 .1 .0)) (now (s .1 .1 .1 .0)) (now (s .1 .1 .1 .1 .0)) r))
+  record-ensures κs a r = refl
+
+  pub record-run-ensures : (κs : Lfts 2) (a : Args record-items.signature κs) (r : Res record-items.signature κs) →
+      record-items.spec 𝓤 H A mem runs κs a .ensures tt r ≡ exits 𝓤 H A record-items.signature (record-items.ended .kept) κs a (λ s. fact 𝓤 (
+      ConvertRunPromise (a .0) (run-of (a .1 .0)) (now (a .1 .1 .0)) (now (s .1 .1 .0)) r))
+  record-run-ensures κs a r = refl

@@ -1,3 +1,4 @@
 pub mod Same
 pub mod Steps
+pub mod Thin
 pub mod Joins

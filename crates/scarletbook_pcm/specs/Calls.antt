@@ -1,11 +1,17 @@
--- What a conversion goes by once its call is accepted.
+-- The run that a call is given, and what a conversion goes by once its call is accepted.
 use mathlib.Core.Path.{_≡_}
 use mathlib.Core.List.{List, []}
 use mathlib.Core.Bool.{Bool, true, false}
 use Prim.Native.Nat.{ℕ}
-use Rattle.reference.specs.Frames.{Run}
+use denote.Ref.{now}
+use Rattle.reference.specs.Frames.{Run, run}
 use Rattle.reference.specs.Refusals.{accepted, decide, opening-places, input-places}
 use Rattle.reference.specs.declared.Converter.{Converter}
+use Rattle.scarletbook_pcm.specs.declared.record.Run.{Run as Record}
+
+-- the definition's run that a run record stands for
+abbrev pub run-of : Record → Run
+run-of d = run (d .«has_before») (now (d .before)) (now (d .frames)) (d .«has_after») (now (d .after))
 
 -- what its places before the output's lengths find: an accepted converter and an accepted run
 pub record AcceptedCall (conv : Converter) (r : Run) : Type 0 where

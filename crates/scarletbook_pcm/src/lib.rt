@@ -4,7 +4,7 @@ ghost use Prim.Native.Nat.{_≤_};
 ghost use Rattle.reference.specs.Frames.{run};
 ghost use Rattle.reference.specs.Output as output;
 ghost use Rattle.reference.specs.Stages.{reach};
-ghost use Rattle.reference.specs.Promises.{OpeningPromise, no-clips, ConvertRunPromise, ConvertFramePromise, ConvertPromise};
+ghost use Rattle.reference.specs.Promises.{OpeningPromise, no-clips, ConvertRunPromise, ConvertFramePromise, ConvertPromise, PackPromise};
 use reference::ConvertStats;
 use reference::Converted;
 use reference::Converter;
@@ -13,7 +13,14 @@ use reference::Opened;
 use reference::PcmRate;
 
 mod checks;
+mod record;
 mod work;
+
+// The run record, and the calls over it; the functions `.._parts` below take its fields one by one.
+pub use record::Run;
+pub use record::convert;
+pub use record::convert_frame;
+pub use record::convert_run;
 
 // Samples of one channel in a frame.
 pub fn samples_per_frame(rate: PcmRate) -> usize
@@ -149,4 +156,11 @@ pub fn convert_parts<'a>(
     }
     let stats = nothing_counted();
     Converted { verdict, stats }
+}
+
+// 32-bit samples as three bytes each, their low 24 bits, least first: as many as there are bytes for. Later bytes are kept.
+pub fn pack_s24le(samples: &[i32], bytes: &mut [u8])
+    ensures { λ _. ⌜ PackPromise (now (samples .entry)) (now (bytes .entry)) (now (bytes .exit)) ⌝ }
+{
+    output::pack(samples, bytes)
 }

@@ -7,7 +7,7 @@ use borrow.Author.Needs.{needs}
 use lib.ListN.{length}
 use Rattle.reference.specs.Output.{samples-per-frame}
 use Rattle.kernel.specs.Routes.{block-length}
-use Rattle.blocks.proofs.Sums.{samples-small, items-made, bytes-made}
+use Rattle.blocks.proofs.Sums.{items-made, bytes-made}
 use Rattle.blocks.proofs.block.Statement.{statement}
 use Rattle.blocks.proofs.block.Tie as tie
 
@@ -26,8 +26,7 @@ room c = rw (samples-length c) (mul-le-mul-right (c .before .before .before .bef
 
 store24-requires : tie.Need-store24-requires
 store24-requires c κs = let s = c .before .before .before .before .before .before .before .before .before .before .before .before .before .before .before .before .before .before .before .before .before .before .before .before .before in
-    let g = c .before .before .before .before .before .before .before .before .before .before .before in
-    ((s .pre .1 .0 .0, omega (arith, room g, s .pre .1 .0 .2 .bytes (c .before .before .if1 .taken))), samples-small (g .scaled .ensures .0) (samples-length g))
+    (s .pre .1 .0 .0, omega (arith, room (c .before .before .before .before .before .before .before .before .before .before .before), s .pre .1 .0 .2 .bytes (c .before .before .if1 .taken)))
 
 same-length : tie.Need-same-length
 same-length c = search needs

@@ -1,24 +1,28 @@
 -- `bits` meets its contract.
-use mathlib.Core.Path.{ap}
+use mathlib.Core.Path.{_≡_, ap, _∙_}
+use native.Mathlib.Omega.{arith}
+use borrow.Author.Needs.{needs}
+use Prim.Native.Nat.{_%_}
 use lib.IntN.{natAbs}
-use Rattle.output.proofs.Low24.{sum-fits, wrapped, plain, cast24}
+use Rattle.numbers.proofs.Machine.{wide-fits}
+use Rattle.output.proofs.Low24.{up-small, up-low, sum-is, up-fits, held-is}
 use Rattle.output.proofs.bits.Statement.{statement}
 use Rattle.output.proofs.bits.Tie as tie
 
-add-result : tie.Need-add-result
-add-result c = sum-fits (c .before .args .v) (c .before .fits .v) (c .before .pre) (c .if1 .taken)
-
 cast-result : tie.Need-cast-result
-cast-result c = cast24 (c .before .args .v) _ (wrapped (c .before .args .v) (c .before .fits .v) (c .before .pre) (c .if1 .taken))
+cast-result c = wide-fits (c .args .v) (c .fits .v .sfits)
+
+add-result : tie.Need-add-result
+add-result c = rw (sum-is (c .args .v) (c .fits .v .sfits)) (up-fits (c .args .v) (c .fits .v .sfits))
 
 cast-result-2 : tie.Need-cast-result-2
-cast-result-2 c = cast24 (c .before .args .v) _ (plain (c .before .args .v) (c .before .fits .v) (c .before .pre) (c .if1 .left))
+cast-result-2 c = rw (held-is (c .args .v) (c .fits .v .sfits)) (tt, record { fits = omega (arith, up-small (c .args .v) (c .fits .v .sfits)) })
+
+cast-result-3 : tie.Need-cast-result-3
+cast-result-3 c = search needs
 
 returns : tie.Need-returns
-returns c = ap natAbs (wrapped (c .before .args .v) (c .before .fits .v) (c .before .pre) (c .if1 .taken))
-
-returns-2 : tie.Need-returns-2
-returns-2 c = ap natAbs (plain (c .before .args .v) (c .before .fits .v) (c .before .pre) (c .if1 .left))
+returns c = ap (λ z. natAbs z % 16777216) (held-is (c .args .v) (c .fits .v .sfits)) ∙ up-low (c .args .v) (c .fits .v .sfits)
 
 pub bits-spec : {M : Type 1} → statement M
-bits-spec = tie.close (tie.spec add-result cast-result cast-result-2 returns returns-2)
+bits-spec = tie.close (tie.spec cast-result add-result cast-result-2 cast-result-3 returns)

@@ -51,10 +51,7 @@ shared-slice-copy-out-put : tie.Need-shared-slice-copy-out-put Inv-loop μ-loop
 shared-slice-copy-out-put c = c .before .loop-test .taken
 
 put-requires : tie.Need-put-requires Inv-loop μ-loop
-put-requires c κs =
-    let a = c .before .before .before .before .before in
-    let k = c .before .before .before .loop .k in
-    (rw (toZ-ofZ (record { sfits = c .put-arg2 .given })) (a .pre .1 k (c .before .before .loop-test .taken)), omega (arith, inside (c .before .before)))
+put-requires c κs = omega (arith, inside (c .before .before))
 
 add-k : tie.Need-add-k Inv-loop μ-loop
 add-k c = omega arith
@@ -72,7 +69,7 @@ loop-again c = let w = c .before .before .before .before .before .before in
     let e : a .n + l .k + 1 ≡ a .n + (l .k + 1) = omega arith in (
       omega (arith, c .before .before .before .before .before .loop-test .taken),
       p .kept .0 ∙ l .inv .1,
-      λ S h. rw (← e, p .ensures) (rows (l .inv .2 S h) (one-sample S (a .n + l .k) (a .c) (s .pre .0 .0) (omega (arith, inside (c .before .before .before .before .before))) (toZ-ofZ (record { sfits = v }) ∙ h .is (l .k) (c .before .before .before .before .before .loop-test .taken)))),
+      λ S h. rw (← e, p .ensures) (rows (l .inv .2 S h) (one-sample S (a .n + l .k) (a .c) (s .pre .0) (omega (arith, inside (c .before .before .before .before .before))) (toZ-ofZ (record { sfits = v }) ∙ h .is (l .k) (c .before .before .before .before .before .loop-test .taken)))),
     )
 
 same-length : tie.Need-same-length Inv-loop μ-loop

@@ -1,0 +1,212 @@
+// Frame by frame, the frames read before and after being the neighbours.
+ghost use mathlib.Core.Path.{_≡_};
+ghost use mathlib.Core.Bool.{false};
+ghost use Prim.Native.Nat.{_+_, _*_, _<_, _≤_};
+ghost use lib.Dec.{ltb};
+ghost use lib.ListN.{length};
+ghost use Rattle.reference.specs.Frames.{run};
+ghost use Rattle.levels.specs.Levels.{FrameReported};
+ghost use Rattle.level_stream.specs.Buffers.{part};
+use crate::input::fill;
+use crate::input::move_on;
+use levels::Reported;
+use reference::Converter;
+
+// Frames that are reported, their clips, bytes of the frame read last, and whether every read and write has succeeded.
+struct State {
+    frames: u64,
+    clipped: u64,
+    left: usize,
+    going: bool,
+}
+
+// The frame in the middle of the three.
+fn one_frame<'a>(
+    conv: Converter,
+    number: u64,
+    has_after: bool,
+    size: usize,
+    three: &'a [u8],
+    samples: &mut [i32],
+    text: &mut [u8],
+) -> Reported
+    requires { ⌜ (length (now three) ≡ 3 * size) × (864 ≤ length (now text)) ⌝ }
+    ensures { λ r. ⌜ FrameReported conv number (run (ltb 0 number) (part 0 size (now (three .entry))) (part size (2 * size) (now (three .entry))) «has_after» (part (2 * size) (length (now (three .entry))) (now (three .entry)))) (now (samples .entry)) (now (samples .exit)) (now (text .entry)) (now (text .exit)) r ⌝ }
+    ensures { λ r. ⌜ (r .length ≤ 864) × (r .clipped ≤ 28224) ⌝ }
+{
+    let end = 2 * size;
+    let all = three.len();
+    levels::frame_report(
+        conv,
+        number,
+        number > 0,
+        &three[0..size],
+        &three[size..end],
+        has_after,
+        &three[end..all],
+        samples,
+        text,
+    )
+}
+
+// Writes the first n bytes.
+fn write_first(to: i32, text: &[u8], n: usize) -> bool
+    requires { ⌜ n ≤ length (now text) ⌝ }
+{
+    io::write_all(to, &text[..n])
+}
+
+// What is left to do after a read or a write that failed: nothing.
+fn stopped(s: State) -> State
+    ensures { λ r. ⌜ r ≡ record { frames = s .frames; clipped = s .clipped; left = s .left; going = false } ⌝ }
+{
+    State {
+        frames: s.frames,
+        clipped: s.clipped,
+        left: s.left,
+        going: false,
+    }
+}
+
+// Reports the frame at hand, now that the one after it is there or is known to be absent, and moves on.
+fn told(
+    conv: Converter,
+    s: State,
+    next: usize,
+    size: usize,
+    to: i32,
+    three: &mut [u8],
+    samples: &mut [i32],
+    text: &mut [u8],
+) -> State
+    requires { ⌜ (length (now three) ≡ 3 * size) × (864 ≤ length (now text)) ⌝ }
+    requires { ⌜ (s .frames < 100000000000000) × (s .clipped ≤ 28224 * s .frames) ⌝ }
+    ensures { λ r. ⌜ (r .frames ≤ s .frames + 1) × (r .clipped ≤ 28224 * r .frames) ⌝ }
+{
+    let frames = s.frames;
+    let r = one_frame(conv, frames, next == size, size, three, samples, text);
+    let going = write_first(to, text, r.length);
+    if !going {
+        os::fail(b"write");
+    }
+    move_on(three, size);
+    State {
+        frames: frames + 1,
+        clipped: s.clipped + r.clipped,
+        left: next,
+        going,
+    }
+}
+
+// Reads the frame after, and reports the one at hand.
+fn turn(
+    conv: Converter,
+    s: State,
+    size: usize,
+    from: i32,
+    to: i32,
+    three: &mut [u8],
+    samples: &mut [i32],
+    text: &mut [u8],
+) -> State
+    requires { ⌜ (length (now three) ≡ 3 * size) × (864 ≤ length (now text)) ⌝ }
+    requires { ⌜ (s .frames < 100000000000000) × (s .clipped ≤ 28224 * s .frames) ⌝ }
+    ensures { λ r. ⌜ (r .frames ≤ s .frames + 1) × (r .clipped ≤ 28224 * r .frames) ⌝ }
+{
+    let end = 2 * size;
+    let next = fill(from, &mut three[end..]);
+    if next.failed {
+        os::fail(b"read");
+        return stopped(s);
+    }
+    told(conv, s, next.n, size, to, three, samples, text)
+}
+
+// The last line, or the refusal of bytes that are left over.
+fn ending(s: State, to: i32, text: &mut [u8])
+    requires { ⌜ 144 ≤ length (now text) ⌝ }
+{
+    if s.left == 0 {
+        let n = report_lines::last_line(text, 0, s.frames, s.clipped);
+        write_first(to, text, n);
+        return;
+    }
+    let n = report_lines::refused_line(text, 0, 4);
+    write_first(to, text, n);
+}
+
+// All frames, from the first one on.
+fn turns(
+    conv: Converter,
+    size: usize,
+    from: i32,
+    to: i32,
+    three: &mut [u8],
+    samples: &mut [i32],
+    text: &mut [u8],
+) -> State
+    requires { ⌜ (length (now three) ≡ 3 * size) × (864 ≤ length (now text)) ⌝ }
+{
+    let end = 2 * size;
+    let first = fill(from, &mut three[size..end]);
+    let mut s = State {
+        frames: 0,
+        clipped: 0,
+        left: first.n,
+        going: !first.failed,
+    };
+    // A loop has to end, and nothing says that an input does: so it counts down, from a number that no input uses up.
+    let mut more = 100_000_000_000_000u64;
+    while more > 0 && s.going && s.left == size {
+        s = turn(conv, s, size, from, to, three, samples, text);
+        more -= 1;
+    }
+    s
+}
+
+// The same with buffers for one or two channels: three frames, a frame's samples, and its lines.
+fn in_buffers(
+    conv: Converter,
+    from: i32,
+    to: i32,
+    three: &mut [u8],
+    samples: &mut [i32],
+    text: &mut [u8],
+)
+    requires { ⌜ (conv .channels ≤ 2) × (length (now three) ≡ 28224) × (length (now samples) ≡ 9408) × (length (now text) ≡ 864) ⌝ }
+{
+    let ch = conv.channels as usize;
+    let rate = conv.rate;
+    let size = 4704 * ch;
+    let bytes = 3 * size;
+    let items = scarletbook_pcm::samples_per_frame(rate) * ch;
+    let s = turns(
+        conv,
+        size,
+        from,
+        to,
+        &mut three[..bytes],
+        &mut samples[..items],
+        text,
+    );
+    if s.going {
+        ending(s, to, text);
+    }
+}
+
+// The report of the frames that a descriptor gives, one or two channels.
+pub fn report_frames(conv: Converter, from: i32, to: i32)
+    requires { ⌜ conv .channels ≤ 2 ⌝ }
+{
+    let mut three = [0u8; 28224];
+    let mut samples = [0i32; 9408];
+    let mut text = [0u8; 864];
+    in_buffers(conv, from, to, &mut three, &mut samples, &mut text);
+}
+
+// A refusal by its number.
+pub fn refused(number: u64, to: i32) {
+    let mut text = [0u8; 144];
+    let n = report_lines::refused_line(&mut text, 0, number);
+    write_first(to, &text, n);
+}

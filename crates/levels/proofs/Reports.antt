@@ -1,0 +1,107 @@
+-- What `frame_report` tells, once the frame is converted.
+use mathlib.Core.Path.{_≡_, refl, sym, ap, subst, _∙_}
+use mathlib.Core.List.{List, []}
+use mathlib.Core.Bool.{false, true≢false}
+use Prim.Native.Nat.{ℕ, _*_, _≤_, _<_}
+use native.Mathlib.Nat.{div-self, zero-add, mul-le-mul-right}
+use native.Mathlib.Omega.{arith}
+use borrow.Author.Tests.{eqb-true, not-false}
+use lib.IntN.{ℤ}
+use lib.ListN.{length, getD}
+use Rattle.numbers.specs.Lists.{tabulate, total}
+use Rattle.numbers.proofs.Lists.{tabulate-same, length-tabulate}
+use Rattle.reference.specs.Frames.{Run, frame-length, frame-count}
+use Rattle.reference.specs.Output.{samples-per-frame, item, samples, stats, frame-clips}
+use Rattle.reference.specs.Refusals.{accepted, decide, decision, is-accepted, opening-places, one-frame, convert-frame-places}
+use Rattle.reference.specs.Promises.{ConvertFramePromise}
+use Rattle.reference.specs.declared.Converter.{Converter}
+use Rattle.reference.specs.declared.Converted.{Converted}
+use Rattle.reference.specs.declared.PcmError.{PcmError}
+use Rattle.reference.specs.declared.Verdict.the-variants.{Refused}
+use Rattle.reference.proofs.Frames.{some-samples}
+use Rattle.reference.proofs.Promises.{exit-accepted, exit-refused}
+use Rattle.reference.proofs.Refusals.{decide-first, decide-skip, pass, error-refuses, some-channel, few-channels}
+use Rattle.report_lines.specs.Text.{joined, with-text, Printed}
+use Rattle.report_lines.specs.Lines.{level-line}
+use Rattle.levels.specs.Levels.{level-of, frame-lines, FrameReported}
+use Rattle.levels.proofs.Frames.{in-all, level-is, clips-are, few-clips}
+use Rattle.levels.proofs.Whole.{lines-same, clips-same}
+
+pub none-printed : (old : List ℕ) → Printed [] old 0 old 0
+unfolding with-text
+none-printed old = record { written = refl; after = refl }
+
+-- an accepted frame
+module _ (conv : Converter) (r : Run) (items : List ℤ) (ok : decide (convert-frame-places conv r items) ≡ accepted) where
+  abbrev ch : ℕ
+  ch = conv .channels
+
+  opens : decide (opening-places conv) ≡ accepted
+  unfolding convert-frame-places
+  opens = decide-first (opening-places conv) _ ok
+
+  pub some : 0 < ch
+  some = some-channel conv opens
+
+  pub few : ch ≤ 6
+  few = few-channels conv opens
+
+  one : frame-count ch (r .frames) ≡ 1
+  unfolding convert-frame-places one-frame frame-count
+  one =
+      let rest = sym (decide-skip (opening-places conv) _ opens) ∙ ok in
+      let e : length (r .frames) ≡ frame-length ch = eqb-true _ _ (not-false _ (pass _ _ rest .0)) in
+      rw e (div-self (omega (arith, some)))
+
+  -- what the conversion left
+  module _ (items' : List ℤ) (done : Converted) (p : ConvertFramePromise conv r items items' done) where
+    stats-are : done .stats ≡ stats conv r
+    stats-are = p .answered .counted ∙ exit-accepted _ _ _ ok
+
+    items-are : items' ≡ samples conv r
+    items-are = p .written ∙ exit-accepted _ _ _ ok
+
+    pub enough : ch ≤ length items'
+    unfolding samples
+    enough =
+        let e : length items' ≡ samples-per-frame (conv .rate) * ch = ap length items-are ∙ length-tabulate (item conv r) 0 _ ∙ in-all conv r some few one in
+        rw e (omega (arith, mul-le-mul-right ch (some-samples (conv .rate))))
+
+    pub few-each : (c : ℕ) → c < ch → getD (done .stats .clipped) c 0 ≤ 4704
+    few-each c l = rw stats-are (few-clips conv r some few one c l)
+
+    told : (number : ℕ) → joined (tabulate (λ c. level-line number c (level-of (done .stats .clipped) items' ch c)) 0 ch) ≡ frame-lines conv r number 0
+    unfolding frame-lines
+    told number = ap joined (tabulate-same _ _ 0 0 ch (λ c l. rw (zero-add c, stats-are, items-are) (ap (level-line number c) (level-is conv r some few one c l))))
+
+    pub reported : {number clipped n : ℕ} {old new : List ℕ}
+        → Printed (joined (tabulate (λ c. level-line number c (level-of (done .stats .clipped) items' ch c)) 0 ch)) old 0 new n
+        → clipped ≡ total (λ c. getD (done .stats .clipped) c 0) 0 ch
+        → FrameReported conv number r items items' old new (record { verdict = done .verdict; length = n; clipped = clipped })
+    reported {number} {clipped} {n} {old} {new} q sum =
+        let lines : Printed (frame-lines conv r number 0) old 0 new n = subst (λ t. Printed t old 0 new n) (told number) q in
+        let counted : clipped ≡ frame-clips conv r 0 = sum ∙ rw stats-are (clips-are conv r some few one) in
+        record {
+          decided = p .answered .decided;
+          sampled = p .written;
+          lines = subst (λ t. Printed t old 0 new n) (sym (exit-accepted _ _ _ ok)) lines;
+          counted = counted ∙ sym (exit-accepted _ _ _ ok);
+          whole = λ _ input here. record {
+            lines = subst (λ t. Printed t old 0 new n) (lines-same conv input number r here number) lines;
+            counted = counted ∙ clips-same conv input number r here;
+          };
+        }
+
+-- a refused frame: nothing is printed
+pub unreported : (conv : Converter) (r : Run) (items items' : List ℤ) (done : Converted) (e : PcmError) → ConvertFramePromise conv r items items' done → done .verdict ≡ Refused e
+    → {number : ℕ} {old : List ℕ} → FrameReported conv number r items items' old old (record { verdict = done .verdict; length = 0; clipped = 0 })
+unfolding is-accepted
+unreported conv r items items' done e p is {number} {old} =
+    let no : is-accepted (decide (convert-frame-places conv r items)) ≡ false = ap is-accepted (sym (p .answered .decided)) ∙ ap (λ v. is-accepted (decision v)) is ∙ error-refuses e in
+    record {
+      decided = p .answered .decided;
+      sampled = p .written;
+      lines = subst (λ t. Printed t old 0 old 0) (sym (exit-refused _ _ _ no)) (none-printed old);
+      counted = sym (exit-refused _ _ _ no);
+      whole = λ ok. absurd (true≢false (sym (ap is-accepted ok) ∙ no));
+    }

@@ -1,0 +1,33 @@
+-- `opened` meets its contract.
+use borrow.Author.Needs.{needs}
+use Rattle.numbers.proofs.Machine.{wide-fits, wide-is}
+use Rattle.levels.specs.Levels.{converter-of}
+use Rattle.levels.proofs.opened.Statement.{statement}
+use Rattle.levels.proofs.opened.Tie as tie
+
+cast-nearest-i64-to-f64 : tie.Need-cast-nearest-i64-to-f64
+cast-nearest-i64-to-f64 c = wide-fits (c .before .before .args .s .db) (c .struct-told .given .1 .1 .1 .0 .1)
+
+nearest-i64-to-f64-requires : tie.Need-nearest-i64-to-f64-requires
+nearest-i64-to-f64-requires c κs = search needs
+
+db-to-linear-requires : tie.Need-db-to-linear-requires
+db-to-linear-requires c κs = search needs
+
+open-requires : tie.Need-open-requires
+open-requires c κs = search needs
+
+returns : tie.Need-returns
+unfolding converter-of
+returns c = let s = c .before .before .before .before .before in
+    rw (c .before .db-to-linear .ensures, c .before .before .nearest-i64-to-f64 .ensures, wide-is (s .args .s .db) (c .before .before .before .struct-told .given .1 .1 .1 .0 .1)) at (c .«open» .ensures)
+
+pub opened-spec : {M : Type 1} → statement M
+opened-spec =
+    tie.close
+    (tie.spec
+    cast-nearest-i64-to-f64
+    nearest-i64-to-f64-requires
+    db-to-linear-requires
+    open-requires
+    returns)

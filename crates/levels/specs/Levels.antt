@@ -1,0 +1,102 @@
+-- The figures of the level report: what it tells of each channel of a frame, and its lines.
+use mathlib.Core.Path.{_≡_}
+use mathlib.Core.List.{List, []}
+use mathlib.Core.Bool.{false, cond}
+use Prim.Native.Nat.{ℕ, zero, suc, _+_, _-_, _*_, _/_, _<_}
+use lib.Dec.{ltb}
+use lib.Ieee.{ofInt, binary64}
+use lib.IntN.{ℤ, pos}
+use lib.ListN.{length, getD, take}
+use lib.Signed.{ltZ}
+use Rattle.numbers.specs.Lists.{tabulate, count}
+use Rattle.reference.specs.Frames.{Run, run, frame-length, frame-count, frame}
+use Rattle.reference.specs.Scaling.{db-to-linear}
+use Rattle.reference.specs.Output.{samples-per-frame, sample, clipped, samples, frame-clips}
+use Rattle.reference.specs.Refusals.{Decision, accepted, refused, decide, decision, convert-frame-places}
+use Rattle.reference.specs.Promises.{by-decision}
+use Rattle.reference.specs.declared.Converter.{Converter}
+use Rattle.report_lines.specs.Text.{joined, Printed}
+use Rattle.report_lines.specs.Lines.{level-line}
+use Rattle.report_lines.specs.declared.Level.{Level}
+use Rattle.report_lines.specs.declared.Settings.{Settings}
+use Rattle.levels.specs.declared.Reported.{Reported}
+
+-- ---- settings
+
+-- the converter of some settings: its gain record is that of the whole decibels
+unfoldable pub converter-of : Settings → Converter
+converter-of s =
+    let db = ofInt binary64 (s .db) in
+    record { rate = s .rate; cutoff = s .cutoff; channels = s .channels; gain = record { db = db; linear = db-to-linear db } }
+
+-- the number of a refusal; 0 where there is none
+abbrev pub refusal-number : Decision → ℕ
+refusal-number accepted = 0
+refusal-number (refused n d) = n
+
+-- ---- a channel of a frame
+
+unfoldable pub lesser : ℤ → ℤ → ℤ
+lesser x y = cond (ltZ y x) y x
+
+unfoldable pub greater : ℤ → ℤ → ℤ
+greater x y = cond (ltZ x y) y x
+
+-- what is picked of f a, …, f (a + n - 1), one after the other: the least by `lesser`, the greatest by `greater`; of no numbers, f a
+unfoldable pub extreme : (ℤ → ℤ → ℤ) → (ℕ → ℤ) → ℕ → ℕ → ℤ
+extreme pick f a zero = f a
+extreme pick f a (suc n) = pick (extreme pick f a n) (f (a + n))
+
+-- document 01's over: 1 if the channel has a clip in the frame
+unfoldable pub over-of : ℕ → ℕ
+over-of clips = cond (ltb 0 clips) 1 0
+
+module _ (conv : Converter) (r : Run) where
+  -- channel c of the run's frame f
+  unfoldable pub level : ℕ → ℕ → Level
+  level f c =
+      let per = samples-per-frame (conv .rate) in
+      let clips = count (clipped conv r c) (f * per) per in
+      record { clipped = clips; low = extreme lesser (sample conv r c) (f * per) per; high = extreme greater (sample conv r c) (f * per) per; over = over-of clips }
+
+  -- the lines of the run's frame f, under the number that it is given
+  unfoldable pub frame-lines : ℕ → ℕ → List ℕ
+  frame-lines number f = joined (tabulate (λ c. level-line number c (level f c)) 0 (conv .channels))
+
+-- the same, read off a frame's clip counts and items: what the code works out
+unfoldable pub level-of : List ℕ → List ℤ → ℕ → ℕ → Level
+level-of counts items channels c =
+    let clips = getD counts c 0 in
+    let at : ℕ → ℤ = λ n. getD items (n * channels + c) (pos 0) in
+    record { clipped = clips; low = extreme lesser at 0 (length items / channels); high = extreme greater at 0 (length items / channels); over = over-of clips }
+
+-- ---- the input as one run
+
+-- its whole frames, with no neighbours
+unfoldable pub whole-input : ℕ → List ℕ → Run
+whole-input channels input = run false [] (take (frame-count channels input * frame-length channels) input) false []
+
+-- a piece that is frame f of the input: its neighbours are the frames read before and after it, where there are such
+pub record FrameOf (channels : ℕ) (input : List ℕ) (f : ℕ) (piece : Run) : Type 0 where
+  pub some-channel : 0 < channels
+  pub inside : f < frame-count channels input
+  pub frames : piece .frames ≡ frame channels input f
+  pub has-before : piece .has-before ≡ ltb 0 f
+  pub before : 0 < f → piece .before ≡ frame channels input (f - 1)
+  pub has-after : piece .has-after ≡ ltb (suc f) (frame-count channels input)
+  pub after : suc f < frame-count channels input → piece .after ≡ frame channels input (suc f)
+
+-- ---- what `frame_report` promises
+
+-- lines and clips of frame f as the whole input, taken as one run, has them
+pub record AsInWhole (conv : Converter) (input : List ℕ) (f : ℕ) (old new : List ℕ) (answer : Reported) : Type 0 where
+  pub lines : Printed (frame-lines conv (whole-input (conv .channels) input) f f) old 0 new (answer .length)
+  pub counted : answer .clipped ≡ frame-clips conv (whole-input (conv .channels) input) f
+
+-- verdict, samples, lines and clips of the piece; and where the piece is a frame of some input, those of that input
+pub record FrameReported (conv : Converter) (number : ℕ) (piece : Run) (items items' : List ℤ) (old new : List ℕ) (answer : Reported) : Type 0 where
+  pub decided : decision (answer .verdict) ≡ decide (convert-frame-places conv piece items)
+  pub sampled : items' ≡ by-decision (decide (convert-frame-places conv piece items)) (samples conv piece) items
+  pub lines : Printed (by-decision (decide (convert-frame-places conv piece items)) (frame-lines conv piece number 0) []) old 0 new (answer .length)
+  pub counted : answer .clipped ≡ by-decision (decide (convert-frame-places conv piece items)) (frame-clips conv piece 0) 0
+  pub whole : decide (convert-frame-places conv piece items) ≡ accepted → (input : List ℕ) → FrameOf (conv .channels) input number piece → AsInWhole conv input number old new answer

@@ -1,0 +1,4 @@
+pub mod Text
+pub mod Settings
+pub mod Reading
+pub mod Lines

@@ -1,0 +1,67 @@
+// The run record, and the calls over it: each takes it apart and calls the function with plain parameters.
+ghost use Rattle.reference.specs.Promises.{ConvertRunPromise, ConvertFramePromise, ConvertPromise};
+ghost use Rattle.scarletbook_pcm.specs.Calls.{run-of};
+use crate::convert_frame_parts;
+use crate::convert_parts;
+use crate::convert_run_parts;
+use reference::Converted;
+use reference::Converter;
+
+// The slice of a neighbour that is not there is not read.
+pub struct Run<'a> {
+    pub has_before: bool,
+    pub before: &'a [u8],
+    pub frames: &'a [u8],
+    pub has_after: bool,
+    pub after: &'a [u8],
+}
+
+pub fn convert_run<'a>(conv: Converter, run: Run<'a>, out: &mut [i32]) -> Converted
+    ensures { λ r. ⌜ ConvertRunPromise conv (run-of (run .entry)) (now (out .entry)) (now (out .exit)) r ⌝ }
+{
+    convert_run_parts(
+        conv,
+        run.has_before,
+        run.before,
+        run.frames,
+        run.has_after,
+        run.after,
+        out,
+    )
+}
+
+pub fn convert_frame<'a>(conv: Converter, run: Run<'a>, out: &mut [i32]) -> Converted
+    ensures { λ r. ⌜ ConvertFramePromise conv (run-of (run .entry)) (now (out .entry)) (now (out .exit)) r ⌝ }
+{
+    convert_frame_parts(
+        conv,
+        run.has_before,
+        run.before,
+        run.frames,
+        run.has_after,
+        run.after,
+        out,
+    )
+}
+
+pub fn convert<'a>(
+    conv: Converter,
+    run: Run<'a>,
+    lent: bool,
+    out: &mut [u8],
+    counts: &mut [u64],
+) -> Converted
+    ensures { λ r. ⌜ ConvertPromise conv (run-of (run .entry)) lent (now (out .entry)) (now (counts .entry)) (now (out .exit)) (now (counts .exit)) r ⌝ }
+{
+    convert_parts(
+        conv,
+        run.has_before,
+        run.before,
+        run.frames,
+        run.has_after,
+        run.after,
+        lent,
+        out,
+        counts,
+    )
+}
