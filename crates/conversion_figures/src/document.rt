@@ -112,6 +112,23 @@ fn refused(db: u64) -> bool {
     figures::is(call::gain_call(db), 3, db, 0)
 }
 
+fn seven_are(bytes: &[u8; 7], low: &[u8; 7]) -> bool {
+    bytes[0] == low[0]
+        && bytes[1] == low[1]
+        && bytes[2] == low[2]
+        && bytes[3] == low[3]
+        && bytes[4] == low[4]
+        && bytes[5] == low[5]
+        && bytes[6] == low[6]
+}
+
+// Three samples into seven bytes: two are packed, and the last byte is kept.
+fn two_packed(samples: &[i32], low: &[u8; 7]) -> bool {
+    let mut bytes = [9u8; 7];
+    scarletbook_pcm::pack_s24le(samples, &mut bytes);
+    seven_are(&bytes, low)
+}
+
 pub fn figures() {
     figures::right(
         b"one byte throughout ",
@@ -127,5 +144,16 @@ pub fn figures() {
         b"24 dB and past it ",
         2,
         one(taken(0x4038_0000_0000_0000)) + one(refused(0x4038_0000_0000_0001)),
+    );
+    figures::right(
+        b"three samples in 7 bytes ",
+        2,
+        one(two_packed(
+            &[8388607, -2, 3],
+            &[0xff, 0xff, 0x7f, 0xfe, 0xff, 0xff, 9],
+        )) + one(two_packed(
+            &[-2147483648, 0x7f12_3456, 3],
+            &[0, 0, 0, 0x56, 0x34, 0x12, 9],
+        )),
     );
 }
