@@ -148,12 +148,10 @@ pub fn figures() {
     figures::right(
         b"three samples in 7 bytes ",
         2,
-        one(two_packed(
-            &[8388607, -2, 3],
-            &[0xff, 0xff, 0x7f, 0xfe, 0xff, 0xff, 9],
-        )) + one(two_packed(
-            &[-2147483648, 0x7f12_3456, 3],
-            &[0, 0, 0, 0x56, 0x34, 0x12, 9],
-        )),
+        one(two_packed(&[8388607, -2, 3], &[0xff, 0xff, 0x7f, 0xfe, 0xff, 0xff, 9]))
+            + one(two_packed(
+                &[-2147483648, 0x7f12_3456, 3],
+                &[0, 0, 0, 0x56, 0x34, 0x12, 9],
+            )),
     );
 }
