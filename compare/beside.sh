@@ -10,18 +10,16 @@ src=$(cd "$2/crates/scarletbook-pcm/src" && pwd)
 shift 2
 dir=$(mktemp -d)
 trap 'rm -r "$dir"' EXIT
-cp -r "$here/$project" "$dir"
-mkdir "$dir/original" "$dir/.cargo"
+cp -r "$here"/*/ "$dir"
+mkdir "$dir/original" "$dir/scalar" "$dir/.cargo"
 ln -s "$src" "$dir/original/src"
-cat > "$dir/original/Cargo.toml" <<'END'
-[package]
-name = "scarletbook-pcm"
-version = "0.0.0"
-edition = "2024"
-
-[dependencies]
-thiserror = "1"
-END
+manifest() { printf '[package]\nname = "%s"\nversion = "0.0.0"\nedition = "2024"\n\n[dependencies]\nthiserror = "1"\n' "$1"; }
+manifest scarletbook-pcm > "$dir/original/Cargo.toml"
+# The scalar path: a copy in which the machine is not asked.
+cp -r "$src" "$dir/scalar/src"
+chmod -R u+w "$dir/scalar"
+sed -i 's/^    pub(crate) fn detect() -> Isa {$/&\n        if true {\n            return Isa::generic();\n        }/' "$dir/scalar/src/dispatch.rs"
+manifest scarletbook-pcm-scalar > "$dir/scalar/Cargo.toml"
 registry=/usr/share/cargo/registry
 if ls -d "$registry"/thiserror-1* > "$dir/found" 2>&1; then
     cat > "$dir/.cargo/config.toml" <<END

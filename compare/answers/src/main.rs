@@ -1,24 +1,8 @@
 // The list that compare/answers.sh prints: conversions, and what the original answers to each.
-use scarletbook_pcm::{Converter, Cutoff, FRAME_BYTES_PER_CHANNEL, Gain, PcmConfig, PcmOut, PcmRate, Run};
+mod pattern;
 
-// Bytes by a pattern: 0 chance, 1 one byte, 2 loud, 3 repeating every four bytes of a channel. conversion_figures/src/input.rt has the same rule.
-fn bytes(pattern: u64, seed: u64, channels: usize, frames: usize) -> Vec<u8> {
-    let mut x = seed;
-    let mut all = vec![0; frames * FRAME_BYTES_PER_CHANNEL * channels];
-    for (k, byte) in all.iter_mut().enumerate() {
-        if pattern == 3 && k % (4 * channels) == 0 {
-            x = seed;
-        }
-        x = (x * 1_664_525 + 1_013_904_223) % (1 << 32);
-        let high = (x >> 24) as u8;
-        *byte = match pattern {
-            1 => (seed % 256) as u8,
-            2 if high >= 16 => if k / 300 % 2 == 0 { 0xff } else { 0 },
-            _ => high,
-        };
-    }
-    all
-}
+use pattern::{HALVES, bytes};
+use scarletbook_pcm::{Converter, Cutoff, FrameRun, Gain, PcmConfig, PcmError, PcmOut, PcmRate, Run};
 
 // Two digests, over the prime numbers 1,000,000,007 and 998,244,353.
 fn digests(items: impl Iterator<Item = u64>) -> [u64; 2] {
@@ -84,20 +68,75 @@ fn case(i: usize) -> Case {
     }
 }
 
-// Route and seed of mono frames in which a sum of some stage is an exact half, and its rounding shows in a sample at 18 dB: found by trying seeds
-// with halves rounded away from zero, stage by stage and sign by sign.
-const HALVES: [(u64, u64); 28] = [
-    (0, 108181), (0, 113656), (1, 284017), (1, 216733), (1, 202896), (1, 218057), (2, 331248), (2, 318565), (2, 304621), (2, 303352),
-    (2, 381116), (2, 309974), (3, 406710), (3, 405649), (4, 523507), (4, 535585), (4, 506649), (4, 564808), (5, 613026), (5, 612401),
-    (5, 604090), (5, 605011), (5, 607557), (5, 613148), (7, 806240), (7, 854424), (8, 920493), (8, 946015),
-];
-
 fn half((route, seed): (u64, u64)) -> Case {
     Case { route, channels: 1, db: 18.0, frames: 1, neighbours: 0, pattern: 0, seed }
 }
 
+// 0xff where the plateau is 8,388,607.25: it rounds to the highest sample, and the clamp does not change it.
+fn edge(route: u64) -> Case {
+    Case { route, channels: 1, db: -8e-7, frames: 1, neighbours: 0, pattern: 1, seed: 0xff }
+}
+
+fn refused(e: PcmError) -> [u64; 3] {
+    match e {
+        PcmError::Channels(n) => [1, n.into(), 0],
+        PcmError::Unsupported { rate, cutoff, .. } => [2, rate.hz().into(), Cutoff::ALL.iter().position(|c| *c == cutoff).unwrap() as u64],
+        PcmError::Gain(db) => [3, if db.is_nan() { f64::NAN.to_bits() } else { db.to_bits() }, 0],
+        PcmError::InputLength { len, what, .. } => [4, len as u64, u64::from(what == "one frame")],
+        PcmError::OutputLength { len, expected, .. } => [6, len as u64, expected as u64],
+        PcmError::OutputBytes { len, expected, .. } => [7, len as u64, expected as u64],
+        PcmError::FrameCounts { len, expected, .. } => [8, len as u64, expected as u64],
+        _ => unreachable!("no other error"),
+    }
+}
+
+// Route, channels and decibels that are refused by opening, or else by the gain call. The original makes no record of refused decibels, so the
+// factor here is 0.
+fn settings([route, channels, db]: [u64; 3]) -> [u64; 9] {
+    let config = PcmConfig::new(PcmRate::ALL[route as usize % 3], Cutoff::ALL[route as usize / 3], channels as u8);
+    let e = Converter::new(config).err().or(Gain::from_db(f64::from_bits(db)).err());
+    let [number, first, second] = refused(e.expect("a refusal"));
+    [route, channels, db, 0, 0, 0, number, first, second]
+}
+
+// The call (1 convert_run, 2 convert_frame, 3 convert), and lengths of before, run, after, output and counts: Standard at 88,200 Hz, mono.
+fn lengths([call, before, run, after, out, counts]: [usize; 6]) -> [u64; 9] {
+    let mut converter = Converter::new(PcmConfig::new(PcmRate::Hz88200, Cutoff::Standard, 1)).unwrap();
+    let s = vec![0; 9408];
+    let (before, frames, after) = (Some(&s[..before]), &s[..run], Some(&s[..after]));
+    let (mut items, mut bytes, mut clips) = (vec![0; out], vec![0; out], vec![0; counts]);
+    let answer = match call {
+        1 => converter.convert_run(FrameRun::new(frames).with_before(before).with_after(after), &mut items),
+        2 => converter.convert_frame(before, frames, after, &mut items),
+        _ => converter.convert(Run::new(frames).with_before(before).with_after(after), PcmOut::S24le(&mut bytes), Some(&mut clips)),
+    };
+    let asked = [call, before.unwrap().len(), run, after.unwrap().len(), out, counts].map(|n| n as u64);
+    let [number, first, second] = refused(answer.expect_err("a refusal"));
+    [asked[0], asked[1], asked[2], asked[3], asked[4], asked[5], number, first, second]
+}
+
+const HIGH: u64 = 0x4039_0000_0000_0000;
+
+const SETTINGS: [[u64; 3]; 5] = [[6, 0, HIGH], [6, 7, HIGH], [6, 6, HIGH], [8, 6, HIGH], [0, 1, 0x7ff8_0000_0000_0000]];
+
+const LENGTHS: [[usize; 6]; 15] = [
+    [2, 0, 0, 0, 1, 3], [2, 0, 4703, 0, 1, 3], [2, 0, 9408, 0, 1, 3], [1, 0, 4703, 0, 1, 3], [3, 0, 4705, 0, 1, 3],
+    [1, 4705, 4704, 1, 1, 3], [2, 4703, 4704, 1, 1, 3], [3, 9408, 4704, 1, 1, 3], [1, 4704, 4704, 1, 1, 3], [2, 4704, 4704, 9408, 1, 3],
+    [3, 4704, 4704, 4703, 1, 3], [1, 4704, 4704, 4704, 1175, 3], [2, 4704, 4704, 4704, 1175, 3], [3, 4704, 4704, 4704, 3527, 3],
+    [3, 4704, 4704, 4704, 3528, 3],
+];
+
+fn table(name: &str, comment: &str, rows: &[[u64; 9]]) {
+    println!("\n// {comment}\npub const {name}: [[u64; 9]; {}] = [", rows.len());
+    for row in rows {
+        println!("    [{}],", row.map(|n| n.to_string()).join(", "));
+    }
+    println!("];");
+}
+
 fn main() {
-    let rows: Vec<Vec<u64>> = (0..96).map(case).chain(HALVES.map(half)).map(|case| case.row()).collect();
+    let edges = [0, 1, 2, 3, 4, 5, 7, 8].map(edge);
+    let rows: Vec<Vec<u64>> = (0..96).map(case).chain(HALVES.map(half)).chain(edges).map(|case| case.row()).collect();
     let width = rows[0].len();
     println!("// What the original gives. Written by compare/answers.sh.\n");
     println!("// A row: route, channels, decibels as bits, frames, neighbours (1 before, 2 after), pattern, seed; two digests of the samples,");
@@ -107,4 +146,10 @@ fn main() {
         println!("    {number},");
     }
     println!("];");
+    table("SETTINGS", "Refused settings: route, channels, decibels as bits, three zeros; number and data.", &SETTINGS.map(settings));
+    table(
+        "LENGTHS",
+        "Refused lengths, mono at 88,200 Hz: the call (1 convert_run, 2 convert_frame, 3 convert), before, run, after, output, counts; number and data.",
+        &LENGTHS.map(lengths),
+    );
 }

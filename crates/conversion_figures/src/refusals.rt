@@ -1,54 +1,27 @@
-// Document 01's table: each place's number and data, and nothing written. Number 5 is left to its proof: it wants 2.5 GB of frames.
+// Document 01's table: each place's number and data as the original gives them (rust.rt), and nothing written. Number 5 is left to its proof: it
+// wants 2.5 GB of frames.
 use crate::call;
 use crate::input;
 use crate::row;
+use crate::rust;
 use figures::at;
 use reference::Converted;
 use reference::Converter;
 use reference::Gain;
 use reference::Verdict;
 
-// Decibels and factors, as bits: 25, -0 and NaN; 1 and the next float up.
-const HIGH: u64 = 0x4039_0000_0000_0000;
-
-const ZERO: u64 = 0x8000_0000_0000_0000;
-
-const NAN: u64 = 0x7ff8_0000_0000_0000;
-
-const UNITY: u64 = 0x3ff0_0000_0000_0000;
-
-const PAST: u64 = 0x3ff0_0000_0000_0001;
-
-// Settings that opening refuses, and so does every conversion: route, channels, decibels, factor, two zeros; number and data.
-// What stands further down the table is wrong too.
-const SETTINGS: [[u64; 9]; 6] = [
-    [6, 0, HIGH, 0, 0, 0, 1, 0, 0],
-    [6, 7, HIGH, 0, 0, 0, 1, 7, 0],
-    [6, 6, HIGH, 0, 0, 0, 2, 88200, 2],
-    [8, 6, HIGH, UNITY, 0, 0, 3, HIGH, 0],
-    [0, 1, NAN, UNITY, 0, 0, 3, NAN, 0],
-    [0, 1, ZERO, PAST, 0, 0, 3, ZERO, 0],
-];
-
-// Lengths that a conversion of Standard at 88,200 Hz, mono refuses: the call (1 convert_run, 2 convert_frame, 3 convert), before, run,
-// after, output, counts; number and data.
-const LENGTHS: [[u64; 9]; 15] = [
-    [2, 0, 0, 0, 1, 3, 4, 0, 1],
-    [2, 0, 4703, 0, 1, 3, 4, 4703, 1],
-    [2, 0, 9408, 0, 1, 3, 4, 9408, 1],
-    [1, 0, 4703, 0, 1, 3, 4, 4703, 0],
-    [3, 0, 4705, 0, 1, 3, 4, 4705, 0],
-    [1, 4705, 4704, 1, 1, 3, 4, 4705, 1],
-    [2, 4703, 4704, 1, 1, 3, 4, 4703, 1],
-    [3, 9408, 4704, 1, 1, 3, 4, 9408, 1],
-    [1, 4704, 4704, 1, 1, 3, 4, 1, 1],
-    [2, 4704, 4704, 9408, 1, 3, 4, 9408, 1],
-    [3, 4704, 4704, 4703, 1, 3, 4, 4703, 1],
-    [1, 4704, 4704, 4704, 1175, 3, 6, 1175, 1176],
-    [2, 4704, 4704, 4704, 1175, 3, 6, 1175, 1176],
-    [3, 4704, 4704, 4704, 3527, 3, 7, 3527, 3528],
-    [3, 4704, 4704, 4704, 3528, 3, 8, 3, 1],
-];
+// A record whose factor is not its decibels' (-0 dB with the float after 1), as a row of settings: the original has no such refusal.
+const FACTOR: [[u64; 9]; 1] = [[
+    0,
+    1,
+    0x8000_0000_0000_0000,
+    0x3ff0_0000_0000_0001,
+    0,
+    0,
+    3,
+    0x8000_0000_0000_0000,
+    0,
+]];
 
 // The settings of a row.
 fn settings(row: &[u64]) -> Converter {
@@ -192,11 +165,13 @@ fn count(question: u64, rows: &[[u64; 9]]) -> u64 {
 }
 
 pub fn refusals() {
-    let settings = SETTINGS;
-    figures::right(b"refused by open ", 6, count(0, &settings));
-    figures::right(b"refused by convert_run ", 6, count(1, &settings));
-    figures::right(b"refused by convert_frame ", 6, count(2, &settings));
-    figures::right(b"refused by convert ", 6, count(3, &settings));
-    let lengths = LENGTHS;
+    let settings = rust::SETTINGS;
+    figures::right(b"refused by open ", 5, count(0, &settings));
+    figures::right(b"refused by convert_run ", 5, count(1, &settings));
+    figures::right(b"refused by convert_frame ", 5, count(2, &settings));
+    figures::right(b"refused by convert ", 5, count(3, &settings));
+    let factor = FACTOR;
+    figures::right(b"another factor refused ", 1, count(3, &factor));
+    let lengths = rust::LENGTHS;
     figures::right(b"refused lengths ", 15, count(4, &lengths));
 }

@@ -1,0 +1,106 @@
+/* Seconds that a 60-minute album takes, for every route, in stereo and six channels, as one run and in pieces. bench/album builds and runs it.
+ *
+ * A stretch of the album is converted (argument: seconds of it, 20 by default) and its time scaled to 60 minutes. Conversions run in a
+ * thread whose stack is painted before, so that the deepest use of it can be read off after. */
+#define _GNU_SOURCE
+#include <malloc.h>
+#include <pthread.h>
+#include <stdio.h>
+#include <stdlib.h>
+#include <string.h>
+#include <time.h>
+#include "scarletbook_pcm.h"
+
+enum { FRAMES_A_SECOND = 75, ALBUM_SECONDS = 3600, STACK = 1 << 20, PAINT = 0xa5, ROUNDS = 3 };
+
+static const char *cutoffs[] = {"standard", "low", "wide"};
+static const uint32_t rates[] = {88200, 176400, 352800};
+static const size_t pieces[] = {0, 1, 8, 75, 1000}; /* 0: one run */
+
+struct album {
+    uint32_t rate;
+    uint8_t cutoff, channels;
+    size_t frames, piece, size, out_size; /* bytes of a frame, in and out */
+    const uint8_t *in;
+    uint8_t *out;
+    uint64_t clips;
+    double seconds;
+};
+
+static double now(void) {
+    struct timespec t;
+    clock_gettime(CLOCK_MONOTONIC, &t);
+    return (double)t.tv_sec + 1e-9 * (double)t.tv_nsec;
+}
+
+/* The stretch, piece by piece, each with the frames next to it. */
+static void *convert(void *argument) {
+    struct album *a = argument;
+    double gain[2], decibels[1];
+    uint64_t clipped[6], data[2];
+    if (scarletbook_gain(0.0, gain, 2, decibels, 1) != SCARLETBOOK_ACCEPTED) exit(1);
+    double start = now();
+    for (size_t at = 0; at < a->frames;) {
+        size_t n = a->piece && a->piece < a->frames - at ? a->piece : a->frames - at;
+        uint8_t before = at > 0, after = at + n < a->frames;
+        uint8_t answer = scarletbook_convert(
+            a->rate, a->cutoff, a->channels, gain, 2, before, before ? a->in + (at - 1) * a->size : NULL, before ? a->size : 0,
+            a->in + at * a->size, n * a->size, after, after ? a->in + (at + n) * a->size : NULL, after ? a->size : 0, 0,
+            a->out + at * a->out_size, n * a->out_size, NULL, 0, clipped, 6, data, 2, decibels, 1);
+        if (answer != SCARLETBOOK_ACCEPTED) exit(1);
+        for (int c = 0; c < 6; c++) a->clips += clipped[c];
+        at += n;
+    }
+    a->seconds = now() - start;
+    return NULL;
+}
+
+/* Runs the conversion on a painted stack; gives the bytes of it that were used. */
+static size_t on_painted_stack(struct album *a, unsigned char *stack) {
+    pthread_attr_t attributes;
+    pthread_t thread;
+    memset(stack, PAINT, STACK);
+    pthread_attr_init(&attributes);
+    if (pthread_attr_setstack(&attributes, stack, STACK) || pthread_create(&thread, &attributes, convert, a)) exit(1);
+    pthread_join(thread, NULL);
+    pthread_attr_destroy(&attributes);
+    size_t untouched = 0;
+    while (untouched < STACK && stack[untouched] == PAINT) untouched++;
+    return STACK - untouched;
+}
+
+int main(int argc, char **argv) {
+    size_t frames = (argc > 1 ? strtoul(argv[1], NULL, 10) : 20) * FRAMES_A_SECOND;
+    size_t deepest = 0, heap = 0;
+    unsigned char *stack = aligned_alloc(4096, STACK);
+    uint8_t *in = malloc(frames * 6 * SCARLETBOOK_FRAME_BYTES), *out = malloc(frames * 6 * 4704 * 3);
+    if (!stack || !in || !out) return 1;
+    uint32_t x = 1;
+    for (size_t k = 0; k < frames * 6 * SCARLETBOOK_FRAME_BYTES; k++) in[k] = (uint8_t)((x = x * 1664525u + 1013904223u) >> 24);
+    printf("| Route | Channels | One run | 1 frame a piece | 8 | 75 | 1,000 |\n|---|---|---|---|---|---|---|\n");
+    for (int route = 0; route < 9; route++) {
+        if (route == 6) continue; /* wide at 88,200 */
+        for (uint8_t channels = 2; channels <= 6; channels += 4) {
+            printf("| %s %u | %u |", cutoffs[route / 3], rates[route % 3], channels);
+            for (size_t p = 0; p < sizeof pieces / sizeof *pieces; p++) {
+                struct album a = {.rate = rates[route % 3], .cutoff = (uint8_t)(route / 3), .channels = channels, .frames = frames,
+                                  .piece = pieces[p], .size = (size_t)SCARLETBOOK_FRAME_BYTES * channels,
+                                  .out_size = (size_t)rates[route % 3] / FRAMES_A_SECOND * channels * 3, .in = in, .out = out};
+                double best = 1e9;
+                for (int round = 0; round < ROUNDS; round++) {
+                    size_t before = mallinfo2().uordblks;
+                    size_t used = on_painted_stack(&a, stack);
+                    heap += mallinfo2().uordblks - before;
+                    if (used > deepest) deepest = used;
+                    if (a.seconds < best) best = a.seconds;
+                }
+                printf(" %.2f |", best * ALBUM_SECONDS * FRAMES_A_SECOND / (double)frames);
+            }
+            printf("\n");
+            fflush(stdout);
+        }
+    }
+    printf("\nSeconds for 60 minutes, scaled from %zu s; the best of %d. Deepest stack %zu bytes, the thread's own part included; heap %zu bytes.\n",
+           frames / FRAMES_A_SECOND, ROUNDS, deepest, heap);
+    return 0;
+}
