@@ -3,7 +3,6 @@
  * A stretch of the album is converted (argument: seconds of it, 20 by default) and its time scaled to 60 minutes. Conversions run in a
  * thread whose stack is painted before, so that the deepest use of it can be read off after. */
 #define _GNU_SOURCE
-#include <malloc.h>
 #include <pthread.h>
 #include <stdio.h>
 #include <stdlib.h>
@@ -71,7 +70,7 @@ static size_t on_painted_stack(struct album *a, unsigned char *stack) {
 
 int main(int argc, char **argv) {
     size_t frames = (argc > 1 ? strtoul(argv[1], NULL, 10) : 20) * FRAMES_A_SECOND;
-    size_t deepest = 0, heap = 0;
+    size_t deepest = 0;
     unsigned char *stack = aligned_alloc(4096, STACK);
     uint8_t *in = malloc(frames * 6 * SCARLETBOOK_FRAME_BYTES), *out = malloc(frames * 6 * 4704 * 3);
     if (!stack || !in || !out) return 1;
@@ -88,9 +87,7 @@ int main(int argc, char **argv) {
                                   .out_size = (size_t)rates[route % 3] / FRAMES_A_SECOND * channels * 3, .in = in, .out = out};
                 double best = 1e9;
                 for (int round = 0; round < ROUNDS; round++) {
-                    size_t before = mallinfo2().uordblks;
                     size_t used = on_painted_stack(&a, stack);
-                    heap += mallinfo2().uordblks - before;
                     if (used > deepest) deepest = used;
                     if (a.seconds < best) best = a.seconds;
                 }
@@ -100,7 +97,7 @@ int main(int argc, char **argv) {
             fflush(stdout);
         }
     }
-    printf("\nSeconds for 60 minutes, scaled from %zu s; the best of %d. Deepest stack %zu bytes, the thread's own part included; heap %zu bytes.\n",
-           frames / FRAMES_A_SECOND, ROUNDS, deepest, heap);
+    printf("\nSeconds for 60 minutes, scaled from %zu s; the best of %d. Deepest stack %zu bytes, the thread's own part included.\n",
+           frames / FRAMES_A_SECOND, ROUNDS, deepest);
     return 0;
 }

@@ -123,6 +123,38 @@ pub mod port {
         answer(number, b)
     }
 
+    // A call with one argument that is not understood, by its number here: whether it answers 255 and writes nothing.
+    pub fn unclear(which: usize) -> bool {
+        let wrong = |k: usize, right: u64, other: u64| if which == k { other } else { right };
+        let gain = [0.0, 1.0, 0.0];
+        let frame = [0x69u8; 4704];
+        let (mut out, mut counts) = ([7u8; 3528], [7u64; 1]);
+        let (mut clipped, mut data, mut decibels) = ([7u64; 7], [7u64; 3], [7.0f64; 2]);
+        let number = unsafe {
+            scarletbook_convert(
+                wrong(0, 88200, 44100) as u32, wrong(1, 0, 3) as u8, 1, gain.as_ptr(), wrong(2, 2, 3) as usize, wrong(3, 1, 2) as u8,
+                frame.as_ptr(), 4704, frame.as_ptr(), 4704, wrong(4, 1, 255) as u8, frame.as_ptr(), 4704, wrong(5, 1, 2) as u8,
+                out.as_mut_ptr(), 3528, counts.as_mut_ptr(), 1, clipped.as_mut_ptr(), wrong(6, 6, 7) as usize, data.as_mut_ptr(),
+                wrong(7, 2, 3) as usize, decibels.as_mut_ptr(), wrong(8, 1, 2) as usize,
+            )
+        };
+        let kept = out == [7; 3528] && counts == [7] && clipped == [7; 7] && data == [7; 3] && decibels == [7.0; 2];
+        number == 255 && kept
+    }
+
+    // An empty list may be a null pointer: a run of no frames with nothing lent but the results.
+    pub fn null_is_empty() -> bool {
+        let (gain, mut b) = ([0.0, 1.0], back());
+        let none = std::ptr::null_mut::<u8>();
+        let number = unsafe {
+            scarletbook_convert(
+                88200, 0, 1, gain.as_ptr(), 2, 0, none, 0, none, 0, 0, none, 0, 0, none, 0, none.cast(), 0, b.clipped.as_mut_ptr(), 6,
+                b.data.as_mut_ptr(), 2, b.decibels.as_mut_ptr(), 1,
+            )
+        };
+        answer(number, b) == Answer::default()
+    }
+
     pub fn pack_s24le(samples: &[i32], bytes: &mut [u8]) {
         unsafe { scarletbook_pack_s24le(samples.as_ptr(), samples.len(), bytes.as_mut_ptr(), bytes.len()) }
     }

@@ -329,6 +329,22 @@ fn packing(r: &mut Random, t: &mut Tally) {
     }
 }
 
+// Arguments that are not understood, and null for an empty list: the interface's own, with no counterpart in the original.
+fn interface(t: &mut Tally) {
+    for which in 0..9 {
+        t.calls += 1;
+        if !port::unclear(which) {
+            t.differing += 1;
+            println!("DIFFERENCE interface: argument {which} is not understood, and the answer is not 255 with nothing written");
+        }
+    }
+    t.calls += 1;
+    if !port::null_is_empty() {
+        t.differing += 1;
+        println!("DIFFERENCE interface: null with length 0");
+    }
+}
+
 fn main() {
     let number = |k: usize, default: u64| std::env::args().nth(k).map_or(default, |a| a.parse().expect("a number"));
     let (seed, rounds) = (number(1, 1), number(2, 12_000));
@@ -342,6 +358,7 @@ fn main() {
         eprintln!();
         parts.push((name, t));
     };
+    part("the interface", &mut |t| interface(t));
     part("every length", &mut |t| lengths(t));
     part("exact halves", &mut |t| halves(t));
     part("random calls", &mut |t| {
@@ -360,7 +377,7 @@ fn main() {
     for (name, t) in &parts {
         println!("{name}: {} calls, {} differing", t.calls, t.differing);
     }
-    println!("random calls accepted: {}", parts[2].1.accepted);
+    println!("random calls accepted: {}", parts[3].1.accepted);
     let differing: u64 = parts.iter().map(|p| p.1.differing).sum();
     println!("{total} calls compared, {differing} differing");
     std::process::exit(i32::from(differing > 0));

@@ -1,0 +1,32 @@
+//! Prints the clipped samples of each frame of a file of raw stereo frames, at a gain.
+//!
+//!     cargo run --release --example clips album.dsd 6
+use puigneht::{gain, Converter, Cutoff, PcmRate, Run, FRAME_BYTES};
+use std::{env, error::Error, fs};
+
+fn main() -> Result<(), Box<dyn Error>> {
+    let mut args = env::args().skip(1);
+    let path = args.next().ok_or("clips FILE DB")?;
+    let db = args.next().ok_or("clips FILE DB")?.parse()?;
+    let frames = fs::read(path)?;
+    let conv = Converter {
+        rate: PcmRate::Hz88200,
+        cutoff: Cutoff::Standard,
+        channels: 2,
+        gain: gain(db)?,
+    };
+    let count = frames.len() / (2 * FRAME_BYTES);
+    let mut out = vec![0; count * conv.open()?.samples_per_frame * 2 * 3];
+    let mut counts = vec![0; count];
+    let run = Run {
+        before: None,
+        frames: &frames,
+        after: None,
+    };
+    let clipped = conv.convert(run, &mut out, Some(&mut counts))?;
+    for (k, n) in counts.iter().enumerate().filter(|(_, &n)| n > 0) {
+        println!("frame {k}: {n}");
+    }
+    println!("left {}, right {}", clipped[0], clipped[1]);
+    Ok(())
+}

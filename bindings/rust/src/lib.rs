@@ -1,0 +1,315 @@
+//! One-bit (DSD64) frames to 24-bit PCM, over the proved static library.
+//!
+//! A frame has [`FRAME_BYTES`] bytes of each channel, the channels in turn. A refused call writes nothing.
+
+mod raw;
+
+/// Bytes of one channel in a frame.
+pub const FRAME_BYTES: usize = 4704;
+
+#[derive(Clone, Copy, Debug, PartialEq, Eq)]
+pub enum PcmRate {
+    Hz88200,
+    Hz176400,
+    Hz352800,
+}
+
+impl PcmRate {
+    pub fn hertz(self) -> u32 {
+        match self {
+            PcmRate::Hz88200 => 88200,
+            PcmRate::Hz176400 => 176400,
+            PcmRate::Hz352800 => 352800,
+        }
+    }
+}
+
+#[derive(Clone, Copy, Debug, PartialEq, Eq)]
+pub enum Cutoff {
+    Standard,
+    Low,
+    Wide,
+}
+
+/// Decibels and the factor that they stand for: made by [`gain`].
+#[derive(Clone, Copy, Debug, PartialEq)]
+pub struct Gain {
+    pub db: f64,
+    pub linear: f64,
+}
+
+/// Why a call is refused.
+#[derive(Clone, Copy, Debug, PartialEq)]
+pub enum Error {
+    /// Channels that are not 1 to 6.
+    Channels(u8),
+    /// Wide at 88200 Hz.
+    Unsupported(PcmRate, Cutoff),
+    /// Decibels that are not -120 to 24, or another factor than theirs.
+    Gain(f64),
+    /// Bytes, and 0 if they are not whole frames, 1 if they are not one frame.
+    InputLength(usize, u8),
+    /// More than 540,000 frames.
+    Frames(usize),
+    /// The length of the output in samples, and the length needed.
+    OutputLength(usize, usize),
+    /// The length of the output in bytes, and the length needed.
+    OutputBytes(usize, usize),
+    /// The length of the list of counts, and the length needed.
+    FrameCounts(usize, usize),
+}
+
+impl std::fmt::Display for Error {
+    fn fmt(&self, f: &mut std::fmt::Formatter<'_>) -> std::fmt::Result {
+        write!(f, "refused: {self:?}")
+    }
+}
+
+impl std::error::Error for Error {}
+
+/// What an accepted converter tells.
+#[derive(Clone, Copy, Debug, PartialEq, Eq)]
+pub struct Opened {
+    /// Samples of one channel in a frame.
+    pub samples_per_frame: usize,
+    /// Bytes of each channel before and after a run that its samples may depend on.
+    pub reach: usize,
+}
+
+/// Whole frames, and the frames next to them where there are such.
+#[derive(Clone, Copy, Debug)]
+pub struct Run<'a> {
+    pub before: Option<&'a [u8]>,
+    pub frames: &'a [u8],
+    pub after: Option<&'a [u8]>,
+}
+
+#[derive(Clone, Copy, Debug, PartialEq)]
+pub struct Converter {
+    pub rate: PcmRate,
+    pub cutoff: Cutoff,
+    pub channels: u8,
+    pub gain: Gain,
+}
+
+/// Clipped samples of each channel.
+pub type Clipped = [u64; 6];
+
+// What a call tells of its decision.
+#[derive(Default)]
+struct Told {
+    data: [u64; 2],
+    decibels: [f64; 1],
+}
+
+impl Told {
+    fn result<T>(self, answer: u8, accepted: T) -> Result<T, Error> {
+        let [a, b] = self.data;
+        Err(match answer {
+            0 => return Ok(accepted),
+            1 => Error::Channels(a as u8),
+            2 => Error::Unsupported(rate(a), cutoff(b)),
+            3 => Error::Gain(self.decibels[0]),
+            4 => Error::InputLength(a as usize, b as u8),
+            5 => Error::Frames(a as usize),
+            6 => Error::OutputLength(a as usize, b as usize),
+            7 => Error::OutputBytes(a as usize, b as usize),
+            8 => Error::FrameCounts(a as usize, b as usize),
+            _ => unreachable!("answer {answer}"),
+        })
+    }
+}
+
+fn rate(hertz: u64) -> PcmRate {
+    match hertz {
+        88200 => PcmRate::Hz88200,
+        176400 => PcmRate::Hz176400,
+        _ => PcmRate::Hz352800,
+    }
+}
+
+fn cutoff(number: u64) -> Cutoff {
+    match number {
+        0 => Cutoff::Standard,
+        1 => Cutoff::Low,
+        _ => Cutoff::Wide,
+    }
+}
+
+/// The gain of `db` decibels, -120 to 24.
+pub fn gain(db: f64) -> Result<Gain, Error> {
+    let mut gain = [0.0; 2];
+    let mut told = Told::default();
+    // SAFETY: each pointer and length is that of a live array, and the arrays are apart.
+    let answer =
+        unsafe { raw::scarletbook_gain(db, gain.as_mut_ptr(), 2, told.decibels.as_mut_ptr(), 1) };
+    let [db, linear] = gain;
+    told.result(answer, Gain { db, linear })
+}
+
+/// Samples as three bytes each, their low 24 bits, least first: as many as there are bytes for.
+pub fn pack_s24le(samples: &[i32], bytes: &mut [u8]) {
+    // SAFETY: the slices are apart, since one of them is `&mut`.
+    unsafe {
+        raw::scarletbook_pack_s24le(
+            samples.as_ptr(),
+            samples.len(),
+            bytes.as_mut_ptr(),
+            bytes.len(),
+        )
+    }
+}
+
+// `scarletbook_convert_run` and `scarletbook_convert_frame` have one type.
+type ConvertSamples = unsafe extern "C" fn(
+    u32,
+    u8,
+    u8,
+    *const f64,
+    usize,
+    u8,
+    *const u8,
+    usize,
+    *const u8,
+    usize,
+    u8,
+    *const u8,
+    usize,
+    *mut i32,
+    usize,
+    *mut u64,
+    usize,
+    *mut u64,
+    usize,
+    *mut f64,
+    usize,
+) -> u8;
+
+impl Converter {
+    /// Whether the converter is accepted. Each conversion asks this again.
+    pub fn open(&self) -> Result<Opened, Error> {
+        let gain = [self.gain.db, self.gain.linear];
+        let mut opened = [0; 2];
+        let mut told = Told::default();
+        // SAFETY: each pointer and length is that of a live array, and the arrays are apart.
+        let answer = unsafe {
+            raw::scarletbook_open(
+                self.rate.hertz(),
+                self.cutoff as u8,
+                self.channels,
+                gain.as_ptr(),
+                2,
+                opened.as_mut_ptr(),
+                2,
+                told.data.as_mut_ptr(),
+                2,
+                told.decibels.as_mut_ptr(),
+                1,
+            )
+        };
+        let [samples_per_frame, reach] = opened.map(|n| n as usize);
+        told.result(
+            answer,
+            Opened {
+                samples_per_frame,
+                reach,
+            },
+        )
+    }
+
+    /// 32-bit samples of a run, the channels in turn.
+    pub fn convert_run(&self, run: Run<'_>, out: &mut [i32]) -> Result<Clipped, Error> {
+        self.samples(raw::scarletbook_convert_run, run, out)
+    }
+
+    /// The same of one frame.
+    pub fn convert_frame(&self, run: Run<'_>, out: &mut [i32]) -> Result<Clipped, Error> {
+        self.samples(raw::scarletbook_convert_frame, run, out)
+    }
+
+    fn samples(
+        &self,
+        call: ConvertSamples,
+        run: Run<'_>,
+        out: &mut [i32],
+    ) -> Result<Clipped, Error> {
+        let gain = [self.gain.db, self.gain.linear];
+        let before = run.before.unwrap_or(&[]);
+        let after = run.after.unwrap_or(&[]);
+        let mut clipped = [0; 6];
+        let mut told = Told::default();
+        // SAFETY: each pointer and length is that of a live slice, and no written slice overlaps another.
+        let answer = unsafe {
+            call(
+                self.rate.hertz(),
+                self.cutoff as u8,
+                self.channels,
+                gain.as_ptr(),
+                2,
+                run.before.is_some() as u8,
+                before.as_ptr(),
+                before.len(),
+                run.frames.as_ptr(),
+                run.frames.len(),
+                run.after.is_some() as u8,
+                after.as_ptr(),
+                after.len(),
+                out.as_mut_ptr(),
+                out.len(),
+                clipped.as_mut_ptr(),
+                6,
+                told.data.as_mut_ptr(),
+                2,
+                told.decibels.as_mut_ptr(),
+                1,
+            )
+        };
+        told.result(answer, clipped)
+    }
+
+    /// Samples of a run, three bytes each, least first; and in `counts`, if it is lent, the clipped samples of each frame.
+    pub fn convert(
+        &self,
+        run: Run<'_>,
+        out: &mut [u8],
+        counts: Option<&mut [u64]>,
+    ) -> Result<Clipped, Error> {
+        let gain = [self.gain.db, self.gain.linear];
+        let before = run.before.unwrap_or(&[]);
+        let after = run.after.unwrap_or(&[]);
+        let lent = counts.is_some() as u8;
+        let counts = counts.unwrap_or(&mut []);
+        let mut clipped = [0; 6];
+        let mut told = Told::default();
+        // SAFETY: each pointer and length is that of a live slice, and no written slice overlaps another.
+        let answer = unsafe {
+            raw::scarletbook_convert(
+                self.rate.hertz(),
+                self.cutoff as u8,
+                self.channels,
+                gain.as_ptr(),
+                2,
+                run.before.is_some() as u8,
+                before.as_ptr(),
+                before.len(),
+                run.frames.as_ptr(),
+                run.frames.len(),
+                run.after.is_some() as u8,
+                after.as_ptr(),
+                after.len(),
+                lent,
+                out.as_mut_ptr(),
+                out.len(),
+                counts.as_mut_ptr(),
+                counts.len(),
+                clipped.as_mut_ptr(),
+                6,
+                told.data.as_mut_ptr(),
+                2,
+                told.decibels.as_mut_ptr(),
+                1,
+            )
+        };
+        told.result(answer, clipped)
+    }
+}

@@ -1,0 +1,256 @@
+use puigneht::{
+    gain, pack_s24le, Converter, Cutoff, Error, Gain, Opened, PcmRate, Run, FRAME_BYTES,
+};
+
+const RATES: [PcmRate; 3] = [PcmRate::Hz88200, PcmRate::Hz176400, PcmRate::Hz352800];
+const CUTOFFS: [Cutoff; 3] = [Cutoff::Standard, Cutoff::Low, Cutoff::Wide];
+
+fn mono() -> Converter {
+    Converter {
+        rate: PcmRate::Hz88200,
+        cutoff: Cutoff::Standard,
+        channels: 1,
+        gain: gain(0.0).unwrap(),
+    }
+}
+
+fn alone(frames: &[u8]) -> Run<'_> {
+    Run {
+        before: None,
+        frames,
+        after: None,
+    }
+}
+
+// Bytes without a pattern that matters.
+fn noise(n: usize) -> Vec<u8> {
+    let mut x = 1u32;
+    (0..n)
+        .map(|_| {
+            x = x.wrapping_mul(1664525).wrapping_add(1013904223);
+            (x >> 24) as u8
+        })
+        .collect()
+}
+
+#[test]
+fn gains() {
+    assert_eq!(
+        gain(0.0),
+        Ok(Gain {
+            db: 0.0,
+            linear: 1.0
+        })
+    );
+    assert!((gain(20.0).unwrap().linear - 10.0).abs() < 1e-9);
+    assert_eq!(gain(24.5), Err(Error::Gain(24.5)));
+    assert_eq!(gain(f64::NEG_INFINITY), Err(Error::Gain(f64::NEG_INFINITY)));
+}
+
+// Quiet, signalling and negative NaNs come back with their bits, from each call.
+#[test]
+fn nans_keep_their_bits() {
+    let bits = |e: Error| match e {
+        Error::Gain(db) => db.to_bits(),
+        other => panic!("{other:?}"),
+    };
+    let frames = noise(FRAME_BYTES);
+    for nan in [
+        0x7ff8_0000_0000_0000,
+        0x7ff0_0000_0000_0001,
+        0xfff8_0000_0000_0123,
+        0xfff0_0000_0000_0001,
+        0x7ff8_dead_0000_beef,
+    ] {
+        let db = f64::from_bits(nan);
+        assert_eq!(bits(gain(db).unwrap_err()), nan);
+        let conv = Converter {
+            gain: Gain { db, linear: 1.0 },
+            ..mono()
+        };
+        assert_eq!(bits(conv.open().unwrap_err()), nan);
+        assert_eq!(
+            bits(
+                conv.convert_run(alone(&frames), &mut [0; 1176])
+                    .unwrap_err()
+            ),
+            nan
+        );
+        assert_eq!(
+            bits(
+                conv.convert_frame(alone(&frames), &mut [0; 1176])
+                    .unwrap_err()
+            ),
+            nan
+        );
+        assert_eq!(
+            bits(
+                conv.convert(alone(&frames), &mut [0; 3528], None)
+                    .unwrap_err()
+            ),
+            nan
+        );
+        let conv = Converter {
+            gain: Gain {
+                db: -0.0,
+                linear: db,
+            },
+            ..mono()
+        };
+        assert_eq!(bits(conv.open().unwrap_err()), (-0.0f64).to_bits());
+    }
+}
+
+#[test]
+fn openings() {
+    for (rate, samples_per_frame) in RATES.into_iter().zip([1176, 2352, 4704]) {
+        for cutoff in CUTOFFS {
+            let opened = Converter {
+                rate,
+                cutoff,
+                ..mono()
+            }
+            .open();
+            if rate == PcmRate::Hz88200 && cutoff == Cutoff::Wide {
+                assert_eq!(opened, Err(Error::Unsupported(rate, cutoff)));
+            } else {
+                assert_eq!(opened.unwrap().samples_per_frame, samples_per_frame);
+            }
+        }
+    }
+    let conv = Converter {
+        rate: PcmRate::Hz352800,
+        cutoff: Cutoff::Low,
+        ..mono()
+    };
+    assert_eq!(
+        conv.open(),
+        Ok(Opened {
+            samples_per_frame: 4704,
+            reach: 195
+        })
+    );
+    for channels in [0, 7, 255] {
+        assert_eq!(
+            Converter { channels, ..mono() }.open(),
+            Err(Error::Channels(channels))
+        );
+    }
+    let gain = Gain {
+        db: 1.0,
+        linear: 1.0,
+    };
+    assert_eq!(Converter { gain, ..mono() }.open(), Err(Error::Gain(1.0)));
+}
+
+// A refused call tells its lengths and writes nothing.
+#[test]
+fn refusals() {
+    let conv = mono();
+    let three = noise(3 * FRAME_BYTES);
+    let mut out = vec![-1; 3 * 1176];
+    let mut bytes = vec![7; 9 * 1176];
+    let mut counts = [9; 3];
+    assert_eq!(
+        conv.convert_run(alone(&three[1..]), &mut out),
+        Err(Error::InputLength(14111, 0))
+    );
+    assert_eq!(
+        conv.convert_frame(alone(&three), &mut out),
+        Err(Error::InputLength(14112, 1))
+    );
+    let cut = Run {
+        before: Some(&three[..5]),
+        ..alone(&three)
+    };
+    assert_eq!(
+        conv.convert_run(cut, &mut out),
+        Err(Error::InputLength(5, 1))
+    );
+    let cut = Run {
+        after: Some(&[]),
+        ..alone(&three)
+    };
+    assert_eq!(
+        conv.convert_run(cut, &mut out),
+        Err(Error::InputLength(0, 1))
+    );
+    assert_eq!(
+        conv.convert_run(alone(&three), &mut out[1..]),
+        Err(Error::OutputLength(3527, 3528))
+    );
+    assert_eq!(
+        conv.convert(alone(&three), &mut bytes[1..], None),
+        Err(Error::OutputBytes(10583, 10584))
+    );
+    assert_eq!(
+        conv.convert(alone(&three), &mut bytes, Some(&mut counts[1..])),
+        Err(Error::FrameCounts(2, 3))
+    );
+    assert!(out.iter().all(|&s| s == -1) && bytes.iter().all(|&b| b == 7) && counts == [9; 3]);
+}
+
+#[test]
+#[ignore = "asks for 2.5 GB of memory, which it does not touch"]
+fn too_many_frames() {
+    let frames = vec![0; 540_001 * FRAME_BYTES];
+    assert_eq!(
+        mono().convert_run(alone(&frames), &mut []),
+        Err(Error::Frames(540_001))
+    );
+}
+
+// Frame by frame with neighbours, and in one call, on every route: the same samples, bytes and counts.
+#[test]
+fn pieces_join() {
+    let frames = noise(5 * 2 * FRAME_BYTES);
+    let size = 2 * FRAME_BYTES;
+    for rate in RATES {
+        for cutoff in CUTOFFS {
+            let conv = Converter {
+                rate,
+                cutoff,
+                channels: 2,
+                gain: gain(6.0).unwrap(),
+            };
+            let Ok(opened) = conv.open() else { continue };
+            let per = 2 * opened.samples_per_frame;
+            let mut whole = vec![0; 5 * per];
+            let clipped = conv.convert_run(alone(&frames), &mut whole).unwrap();
+            let mut bytes = vec![0; 15 * per];
+            let mut counts = [0; 5];
+            assert_eq!(
+                conv.convert(alone(&frames), &mut bytes, Some(&mut counts)),
+                Ok(clipped)
+            );
+            assert_eq!(counts.iter().sum::<u64>(), clipped.iter().sum());
+            assert_eq!(conv.convert(alone(&frames), &mut bytes, None), Ok(clipped));
+
+            let mut packed = vec![0; 15 * per];
+            pack_s24le(&whole, &mut packed);
+            assert_eq!(packed, bytes);
+
+            let at = |k: usize| &frames[k * size..(k + 1) * size];
+            for k in 0..5 {
+                let run = Run {
+                    before: (k > 0).then(|| at(k - 1)),
+                    frames: at(k),
+                    after: (k < 4).then(|| at(k + 1)),
+                };
+                let mut out = vec![0; per];
+                conv.convert_frame(run, &mut out).unwrap();
+                assert_eq!(out, whole[k * per..(k + 1) * per]);
+            }
+        }
+    }
+}
+
+#[test]
+fn packing_stops_at_room() {
+    let mut bytes = [9; 8];
+    pack_s24le(&[-2, 0x123456, 1], &mut bytes);
+    assert_eq!(bytes, [0xfe, 0xff, 0xff, 0x56, 0x34, 0x12, 9, 9]);
+    pack_s24le(&[], &mut bytes);
+    pack_s24le(&[1], &mut []);
+    assert_eq!(bytes[..3], [0xfe, 0xff, 0xff]);
+}

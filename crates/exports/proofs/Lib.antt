@@ -1,0 +1,3 @@
+mod Lists
+mod Calls
+pub mod Exact

@@ -1,0 +1,88 @@
+-- `scarletbook_open` meets its contract.
+use mathlib.Core.Path.{_≡_, refl}
+use mathlib.Core.Bool.{Bool, true, false}
+use denote.Ref.{now}
+use borrow.Author.Needs.{needs}
+use Rattle.exports.specs.Calls.{Settings, settings, open-understood}
+use Rattle.exports.proofs.Calls.{Lengths, open-lengths, turned-away, worked}
+use Rattle.exports.proofs.scarletbook_open.Statement.{statement}
+use Rattle.exports.proofs.scarletbook_open.Tie as tie
+
+abbrev the-settings : tie.Start → Settings
+the-settings s = settings (s .args .rate) (s .args .cutoff) (s .args .channels) (now (s .args .gain))
+
+abbrev asked : tie.Start → Bool
+asked s = open-understood (the-settings s) (now (s .args .opened)) (now (s .args .«data»)) (now (s .args .decibels))
+
+-- the entry, from the place of the test
+abbrev start : tie.After-both2 → tie.Start
+start c = c .before .before .before .before .before .before .before .before
+
+known : (c : tie.Then1) → asked (start (c .before)) ≡ true
+known c = cc
+
+fit : (c : tie.Then1) → let s = start (c .before) in Lengths (now (s .args .gain)) 2 (now (s .args .opened)) (now (s .args .«data»)) (now (s .args .decibels))
+fit c =
+    let s = start (c .before) in
+    open-lengths (the-settings s) (now (s .args .opened)) (now (s .args .«data»)) (now (s .args .decibels)) (known c)
+
+known-settings-requires : tie.Need-known-settings-requires
+known-settings-requires c κs = search needs
+
+room-requires : tie.Need-room-requires
+room-requires c κs = search needs
+
+both-requires : tie.Need-both-requires
+both-requires c κs = search needs
+
+both-requires-2 : tie.Need-both-requires-2
+both-requires-2 c κs = search needs
+
+converter-requires : tie.Need-converter-requires
+converter-requires c κs = fit c .floats
+
+open-requires : tie.Need-open-requires
+open-requires c κs = search needs
+
+tell-opening-requires : tie.Need-tell-opening-requires
+tell-opening-requires c κs =
+    let l = fit (c .before .before .before .before .before) in
+    (l .firsts, l .told)
+
+same-length : tie.Need-same-length
+same-length c = search needs
+
+same-length-2 : tie.Need-same-length-2
+same-length-2 c = search needs
+
+same-length-3 : tie.Need-same-length-3
+same-length-3 c = search needs
+
+returns : tie.Need-returns
+returns c =
+    let told = c .before .before .before .before .before .before .tell-opening .ensures in
+    let made = c .before .before .before .before .before .before .before .before .before .before .«open» in
+    let promise = rw (c .before .before .before .before .before .before .before .before .before .before .before .converter .ensures) at (made .ensures) in
+    worked (known (c .before .before .before .before .before .before .before .before .before .before .before .before)) (record { made = made .result; promise = promise; told = told .0; written = rw (promise .converter) at (told .1) })
+
+returns-2 : tie.Need-returns-2
+returns-2 c =
+    let h : asked (start (c .before)) ≡ false = cc in
+    turned-away h (refl, refl, refl)
+
+pub scarletbook-open-spec : {M : Type 1} → statement M
+scarletbook-open-spec =
+    tie.close
+    (tie.spec
+    known-settings-requires
+    room-requires
+    both-requires
+    both-requires-2
+    converter-requires
+    open-requires
+    tell-opening-requires
+    same-length
+    same-length-2
+    same-length-3
+    returns
+    returns-2)
