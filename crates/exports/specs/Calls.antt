@@ -10,14 +10,14 @@ use lib.ListN.{length, getD}
 use Rattle.reference.specs.Frames.{Run, run}
 use Rattle.reference.specs.Stages.{reach}
 use Rattle.reference.specs.Output.{samples-per-frame}
-use Rattle.reference.specs.Refusals.{Decision, decision, gain-decision}
+use Rattle.reference.specs.Refusals.{Decision, refusal-number, decision, gain-decision}
 use Rattle.reference.specs.Promises.{by-decision, GainPromise, OpeningPromise, ConvertRunPromise, ConvertFramePromise, ConvertPromise}
 use Rattle.reference.specs.declared.Converter.{Converter}
 use Rattle.reference.specs.declared.FromDb.{FromDb}
 use Rattle.reference.specs.declared.FromDb.the-variants.{Made, Refused}
 use Rattle.reference.specs.declared.Opened.{Opened}
 use Rattle.reference.specs.declared.Converted.{Converted}
-use Rattle.exports.specs.Codes.{known-rate, rate-of, known-cutoff, cutoff-of, known-flag, flag, answer-number, data-numbers, carried-decibels}
+use Rattle.exports.specs.Codes.{known-rate, rate-of, known-cutoff, cutoff-of, known-flag, flag, data-numbers, carried-decibels}
 
 -- ---- arguments
 
@@ -74,7 +74,7 @@ room-for-all clipped numbers decibels = eqb clipped 6 && room numbers decibels
 
 -- what every call tells of its decision
 pub record Told (d : Decision) (answer : ℕ) (decibels' : List Float) : Type 0 where
-  pub number : answer ≡ answer-number d
+  pub number : answer ≡ refusal-number d
   pub decibels : decibels' ≡ carried-decibels d ∷ []
 
 -- and where a list is lent for the data

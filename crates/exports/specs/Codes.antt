@@ -6,7 +6,7 @@ use lib.Dec.{eqb, ltb}
 use lib.Ieee.{Float}
 use lib.ListN.{getD}
 use Rattle.reference.specs.Scaling.{whole}
-use Rattle.reference.specs.Refusals.{Decision, accepted, refused, Datum, number, rate, cutoff, decibels}
+use Rattle.reference.specs.Refusals.{Decision, accepted, refused, refusal-number, Datum, number, rate, cutoff, decibels}
 use Rattle.reference.specs.declared.PcmRate.{PcmRate}
 use Rattle.reference.specs.declared.PcmRate.the-variants.{Hz88200, Hz176400, Hz352800}
 use Rattle.reference.specs.declared.Cutoff.{Cutoff}
@@ -47,11 +47,6 @@ flag n = eqb n 1
 
 -- ---- what is told of a decision
 
--- 0, or the refusal's number
-abbrev pub answer-number : Decision → ℕ
-answer-number accepted = 0
-answer-number (refused n d) = n
-
 -- a datum as a number; decibels, which are told by themselves, are 0
 abbrev pub datum-number : Datum → ℕ
 datum-number (number n) = n
@@ -82,4 +77,4 @@ carried-decibels d = first-decibels (carried d)
 
 -- all that is told, as the code hands it on
 abbrev pub report : Decision → Report
-report d = record { number = answer-number d; first = getD (data-numbers d) 0 0; second = getD (data-numbers d) 1 0; decibels = carried-decibels d }
+report d = record { number = refusal-number d; first = getD (data-numbers d) 0 0; second = getD (data-numbers d) 1 0; decibels = carried-decibels d }

@@ -12,7 +12,7 @@ use Rattle.numbers.specs.Lists.{tabulate, count}
 use Rattle.reference.specs.Frames.{Run, run, frame-length, frame-count, frame}
 use Rattle.reference.specs.Scaling.{db-to-linear}
 use Rattle.reference.specs.Output.{samples-per-frame, sample, clipped, samples, frame-clips}
-use Rattle.reference.specs.Refusals.{Decision, accepted, refused, decide, decision, convert-frame-places}
+use Rattle.reference.specs.Refusals.{accepted, decide, decision, convert-frame-places}
 use Rattle.reference.specs.Promises.{by-decision}
 use Rattle.reference.specs.declared.Converter.{Converter}
 use Rattle.report_lines.specs.Text.{joined, Printed}
@@ -28,11 +28,6 @@ unfoldable pub converter-of : Settings → Converter
 converter-of s =
     let db = ofInt binary64 (s .db) in
     record { rate = s .rate; cutoff = s .cutoff; channels = s .channels; gain = record { db = db; linear = db-to-linear db } }
-
--- the number of a refusal; 0 where there is none
-abbrev pub refusal-number : Decision → ℕ
-refusal-number accepted = 0
-refusal-number (refused n d) = n
 
 -- ---- a channel of a frame
 

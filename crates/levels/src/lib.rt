@@ -7,7 +7,7 @@ ghost use Rattle.numbers.specs.Lists.{tabulate, total};
 ghost use Rattle.reference.specs.Frames.{run};
 ghost use Rattle.report_lines.specs.Text.{joined, Printed};
 ghost use Rattle.report_lines.specs.Lines.{level-line};
-ghost use Rattle.reference.specs.Refusals.{error-decision};
+ghost use Rattle.reference.specs.Refusals.{error-decision, refusal-number};
 ghost use Rattle.reference.specs.Promises.{OpeningPromise};
 ghost use Rattle.levels.specs.Levels as levels;
 ghost use Rattle.levels.specs.Levels.{FrameReported};
@@ -46,7 +46,7 @@ pub fn opened(s: Settings) -> Opened
 
 // A refusal's number.
 pub fn refusal_number(e: PcmError) -> u64
-    ensures { λ r. ⌜ r ≡ levels.refusal-number (error-decision e) ⌝ }
+    ensures { λ r. ⌜ r ≡ refusal-number (error-decision e) ⌝ }
 {
     match e {
         PcmError::Channels(_) => 1,

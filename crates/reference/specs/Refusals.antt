@@ -39,6 +39,11 @@ unfoldable pub is-accepted : Decision → Bool
 is-accepted accepted = true
 is-accepted (refused n d) = false
 
+-- the number of a refusal; 0 where there is none
+abbrev pub refusal-number : Decision → ℕ
+refusal-number accepted = 0
+refusal-number (refused n d) = n
+
 -- number and data of each case of the answers' enums
 abbrev pub error-decision : PcmError → Decision
 error-decision (error.Channels n) = refused 1 (number n ∷ [])
