@@ -2,11 +2,12 @@
 ghost use mathlib.Core.Path.{_≡_};
 ghost use mathlib.Core.Bool.{false};
 ghost use Prim.Native.Nat.{_+_, _*_, _<_, _≤_};
-ghost use lib.Dec.{ltb};
+ghost use lib.Dec.{eqb};
 ghost use lib.ListN.{length};
-ghost use Rattle.reference.specs.Frames.{run};
 ghost use Rattle.levels.specs.Levels.{FrameReported};
-ghost use Rattle.level_stream.specs.Buffers.{part};
+ghost use Rattle.report_lines.specs.Text.{with-text};
+ghost use Rattle.level_stream.specs.Buffers as buffers;
+ghost use Rattle.level_stream.specs.Buffers.{moved-on, at-hand, clips-at-hand};
 use crate::input::fill;
 use crate::input::move_on;
 use levels::Reported;
@@ -31,7 +32,7 @@ fn one_frame<'a>(
     text: &mut [u8],
 ) -> Reported
     requires { ⌜ (length (now three) ≡ 3 * size) × (864 ≤ length (now text)) ⌝ }
-    ensures { λ r. ⌜ FrameReported conv number (run (ltb 0 number) (part 0 size (now (three .entry))) (part size (2 * size) (now (three .entry))) «has_after» (part (2 * size) (length (now (three .entry))) (now (three .entry)))) (now (samples .entry)) (now (samples .exit)) (now (text .entry)) (now (text .exit)) r ⌝ }
+    ensures { λ r. ⌜ FrameReported conv number (at-hand number «has_after» size (now (three .entry))) (now (samples .entry)) (now (samples .exit)) (now (text .entry)) (now (text .exit)) r ⌝ }
     ensures { λ r. ⌜ (r .length ≤ 864) × (r .clipped ≤ 28224) ⌝ }
 {
     let end = 2 * size;
@@ -81,7 +82,8 @@ fn told(
 ) -> State
     requires { ⌜ (length (now three) ≡ 3 * size) × (864 ≤ length (now text)) ⌝ }
     requires { ⌜ (s .frames < 100000000000000) × (s .clipped ≤ 28224 * s .frames) ⌝ }
-    ensures { λ r. ⌜ (r .frames ≤ s .frames + 1) × (r .clipped ≤ 28224 * r .frames) ⌝ }
+    ensures { λ r. ⌜ (r .frames ≡ s .frames + 1) × (r .clipped ≡ s .clipped + clips-at-hand conv (at-hand (s .frames) (eqb next size) size (now (three .entry))) (now (samples .entry))) × (r .left ≡ next) ⌝ }
+    ensures { λ r. ⌜ (now (three .exit) ≡ moved-on size (now (three .entry))) × (r .clipped ≤ 28224 * r .frames) ⌝ }
 {
     let frames = s.frames;
     let r = one_frame(conv, frames, next == size, size, three, samples, text);
@@ -125,6 +127,7 @@ fn turn(
 // The last line, or the refusal of bytes that are left over.
 fn ending(s: State, to: i32, text: &mut [u8])
     requires { ⌜ 144 ≤ length (now text) ⌝ }
+    ensures { λ _. ⌜ now (text .exit) ≡ with-text (now (text .entry)) 0 (buffers.ending (s .left) (s .frames) (s .clipped)) ⌝ }
 {
     if s.left == 0 {
         let n = report_lines::last_line(text, 0, s.frames, s.clipped);

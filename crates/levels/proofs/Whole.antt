@@ -3,7 +3,7 @@ use mathlib.Core.Path.{_≡_, refl, sym, ap, _∙_}
 use mathlib.Core.List.{List, _++_}
 use mathlib.Core.Logic.{⊎-elim}
 use Prim.Native.Nat.{ℕ, zero, suc, _+_, _-_, _*_, _≤_, _<_}
-use native.Mathlib.Nat.{one-mul, zero-add, zero-mul, div-mul-le-self, mul-le-mul-right}
+use native.Mathlib.Nat.{one-mul, zero-add, zero-mul, div-mul-le-self}
 use native.Mathlib.Omega.{arith}
 use borrow.Author.Tests.{lt-ltb, le-ltb}
 use lib.IntN.{ℤ}
@@ -17,6 +17,7 @@ use Rattle.reference.specs.Output.{samples-per-frame, sample, clipped, frame-cl
 use Rattle.reference.specs.declared.Converter.{Converter}
 use Rattle.reference.proofs.Frames.{some-samples, channel-left, channel-right, channel-frame}
 use Rattle.reference.proofs.Locality.{reach-small}
+use Rattle.blocks.proofs.Sums.{part-end}
 use Rattle.joins.proofs.Pieces.{PieceOf, unclamped-same, piece-clips}
 use Rattle.report_lines.specs.Text.{joined}
 use Rattle.report_lines.specs.Lines.{level-line}
@@ -48,20 +49,17 @@ module _ (ch : ℕ) (input : List ℕ) where
   split : frames ++ drop (N * frame-length ch) input ≡ input
   split = take-append-drop (N * frame-length ch) input
 
-  ends : (f : ℕ) → f < N → f * frame-length ch + frame-length ch ≤ N * frame-length ch
-  ends f l = omega (arith, mul-le-mul-right (frame-length ch) l)
-
   frame-in : (f : ℕ) → f < N → frame ch input f ≡ frame ch frames f
   unfolding frame
   frame-in f l =
-      let e = ends f l in
+      let e = part-end f N (frame-length ch) l in
       ap (λ z. take (frame-length ch) (drop (f * frame-length ch) z)) (sym split)
       ∙ ap (take (frame-length ch)) (drop-append-le (f * frame-length ch) frames _ (omega (arith, long)))
       ∙ take-append-le (frame-length ch) (drop (f * frame-length ch) frames) _ (omega (arith, long, length-drop (f * frame-length ch) frames))
 
   frame-long : (f : ℕ) → f < N → length (frame ch input f) ≡ frame-length ch
   unfolding frame
-  frame-long f l = length-take-le _ (drop (f * frame-length ch) input) (omega (arith, ends f l, fit, length-drop (f * frame-length ch) input))
+  frame-long f l = length-take-le _ (drop (f * frame-length ch) input) (omega (arith, part-end f N (frame-length ch) l, fit, length-drop (f * frame-length ch) input))
 
   -- position q of the input, one frame into the whole run's sequence
   inside : (c q : ℕ) → c < ch → q < 4704 * N → channel-byte ch (sequence ch (whole-input ch input)) c (4704 * 1 + q) ≡ channel-byte ch input c q
@@ -118,7 +116,7 @@ module _ (conv : Converter) (input : List ℕ) (f : ℕ) (piece : Run) (here : F
   unfolding whole-input neighbour frame
   piece-of =
       let small = reach-small (conv .rate) (conv .cutoff) in
-      let end = ends ch input f (here .inside) in
+      let end = part-end f (N ch input) (frame-length ch) (here .inside) in
       record {
         some-channel = here .some-channel;
         run-before = length-replicate (frame-length ch) idle;

@@ -1,6 +1,8 @@
 -- `told` meets its contract.
+use mathlib.Core.Path.{refl, ap}
 use Prim.Native.Nat.{_+_, _<_}
 use native.Mathlib.Omega.{arith}
+use Rattle.level_stream.specs.Buffers.{clips-at-hand}
 use borrow.Author.Needs.{needs}
 use Rattle.level_stream.proofs.frames.told.Statement.{statement}
 use Rattle.level_stream.proofs.frames.told.Tie as tie
@@ -38,7 +40,10 @@ same-length-3 : tie.Need-same-length-3
 same-length-3 c = search needs
 
 returns : tie.Need-returns
-returns c = search needs
+unfolding clips-at-hand
+returns c = let s = c .before .before .before .before .before .before .before .before .before .before .before .before .before .before .before .before .before .before in
+    let r = c .before .before .before .before .before .before .before .before .before .before .before .before .one-frame in
+    ((refl, ap (λ n. s .args .s .clipped + n) (r .ensures .0 .counted), refl), (c .before .before .before .before .move-on .ensures, omega (arith, s .pre .1 .1, r .ensures .1 .1)))
 
 pub told-spec : {M : Type 1} → statement M
 told-spec =
