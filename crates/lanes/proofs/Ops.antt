@@ -7,16 +7,17 @@ use native.Mathlib.Nat.{mul-le-mul}
 use native.Mathlib.Omega.{arith}
 use borrow.Author.Tests.{ltb-true}
 use lib.Dec.{T}
-use lib.IntN.{ℤ, pos, negsuc, negℤ, natAbs, _+ℤ_, _-ℤ_, _*ℤ_}
+use lib.IntN.{ℤ, pos, negsuc, negℤ, natAbs, _+ℤ_, _-ℤ_, _*ℤ_, +ℤ-comm, +ℤ-idr}
 use lib.Signed.{mag, nonNeg, ltZ}
+use lib.ListN.{getD}
 use mir.Syntax.{w32, w64}
 use mir.Val.{SFits, Fits, toZ}
 use mir.Facts.{toZ-ofZ}
 use Rattle.numbers.specs.Sums.{at0}
-use Rattle.numbers.proofs.Integers.{pp, nn, zext, add-parts, abs-parts, abs-add, abs-neg, neg-mul, sfits-abs, sums}
-use Rattle.numbers.proofs.Machine.{t, val, sized, add-fits, add-is, mul-fits, mul-is}
+use Rattle.numbers.proofs.Integers.{pp, nn, zext, add-parts, abs-parts, abs-add, abs-neg, neg-mul, sfits-abs}
+use Rattle.numbers.proofs.Machine.{t, val, sized, add-fits, add-is}
 use Rattle.lanes.specs.Filters.{Small}
-use Rattle.lanes.specs.Lanes.{lifted}
+use Rattle.lanes.specs.Lanes.{lifted, raised, Low}
 
 -- a value, as it is read
 pub got : {x : List ℤ} {B : ℕ} (i : ℕ) → Small B x → mag (at0 x i) < 2 ^ 63 → natAbs (t (at0 x i)) ≤ B
@@ -31,67 +32,18 @@ pos-fits h = record { sfits = h }
 pub up-is : (z : ℤ) (B : ℕ) → natAbs z ≤ B → z +ℤ pos B ≡ pos (B + pp z - nn z)
 up-is z B h = zext _ _ (omega (arith, add-parts z (pos B), abs-parts z))
 
-module _ {a b : ℤ} (fa : SFits w64 a) (fb : SFits w64 b) (pa : natAbs a ≤ 2 ^ 29) (pb : natAbs b ≤ 2 ^ 29) where
-  pub lift-sum : SFits w64 (t a +ℤ t b)
-  lift-sum = add-fits fa fb (omega arith)
+module _ {a : ℤ} (f : SFits w64 a) (small : natAbs a ≤ 2 ^ 29) where
+  pub lift-fits : SFits w64 (t a +ℤ pos 536870912)
+  lift-fits = add-fits f (pos-fits {n = 536870912} (omega arith)) (omega arith)
 
-  back : t a +ℤ t b ≡ a +ℤ b
-  back = simp toZ-ofZ
+  higher-is : t (t a +ℤ pos 536870912) ≡ pos (2 ^ 29 + pp a - nn a)
+  higher-is = add-is f (pos-fits {n = 536870912} (omega arith)) (omega arith) ∙ up-is a (2 ^ 29) small
 
-  sum-size : natAbs (t a +ℤ t b) ≤ 2 ^ 30
-  sum-size = rw back (omega (arith, abs-add a b))
+  pub lift-cast : T (nonNeg (t (t a +ℤ pos 536870912))) × Fits w64 (natAbs (t (t a +ℤ pos 536870912)))
+  lift-cast = rw higher-is (tt, record { fits = omega (arith, abs-parts a) })
 
-  abbrev raised : ℤ
-  raised = t (t (t a +ℤ t b) +ℤ pos 1073741824)
-
-  pub lift-fits : SFits w64 (t (t a +ℤ t b) +ℤ pos 1073741824)
-  lift-fits = let s = sum-size in add-fits lift-sum (pos-fits {n = 1073741824} (omega arith)) (omega arith)
-
-  raised-is : raised ≡ a +ℤ b +ℤ pos 1073741824
-  raised-is =
-      let s = sum-size in
-      add-is lift-sum (pos-fits {n = 1073741824} (omega arith)) (omega arith) ∙ ap (λ (z : ℤ). z +ℤ pos 1073741824) back
-
-  few : natAbs (a +ℤ b) ≤ 1073741824
-  few = omega (arith, abs-add a b)
-
-  raised-pos : raised ≡ pos (1073741824 + pp (a +ℤ b) - nn (a +ℤ b))
-  raised-pos = raised-is ∙ up-is (a +ℤ b) 1073741824 few
-
-  pub lift-cast : T (nonNeg raised) × Fits w64 (natAbs raised)
-  lift-cast = let f = few in rw raised-pos (tt, record { fits = omega (arith, abs-parts (a +ℤ b)) })
-
-  each : (c : ℤ) → a +ℤ b +ℤ (c +ℤ c) ≡ (a +ℤ c) +ℤ (b +ℤ c)
-  each c = simp sums
-
-  pub lift-is : (pos (natAbs raised % 4294967296) ≡ (a +ℤ pos (2 ^ 29)) +ℤ (b +ℤ pos (2 ^ 29))) × (natAbs raised % 4294967296 ≤ 2 ^ 31)
-  lift-is =
-      let e : natAbs raised ≡ 1073741824 + pp (a +ℤ b) - nn (a +ℤ b) = ap natAbs raised-pos in
-      let s = abs-parts (a +ℤ b) in
-      let f = few in
-      (ap pos (omega arith) ∙ sym (up-is (a +ℤ b) 1073741824 few) ∙ each (pos (2 ^ 29)), omega arith)
-
-module _ {h a : ℤ} (fh : SFits w64 h) (fa : SFits w64 a) (ph : natAbs h ≤ 2 ^ 25) (pa : natAbs a ≤ 2 ^ 29) where
-  abbrev higher : ℤ
-  higher = t a +ℤ pos 536870912
-
-  pub higher-fits : SFits w64 higher
-  higher-fits = add-fits fa (pos-fits {n = 536870912} (omega arith)) (omega arith)
-
-  higher-is : higher ≡ a +ℤ pos (2 ^ 29)
-  higher-is = ap (λ (z : ℤ). z +ℤ pos 536870912) (toZ-ofZ fa)
-
-  room : natAbs h * natAbs higher < 2 ^ 63
-  room = rw higher-is (omega (arith, mul-le-mul ph size))
-    where
-      size : natAbs (a +ℤ pos (2 ^ 29)) ≤ 2 ^ 30
-      size = omega (arith, abs-add a (pos (2 ^ 29)))
-
-  pub product-fits : SFits w64 (t h *ℤ t higher)
-  product-fits = mul-fits fh higher-fits room
-
-  pub product-is : t (t h *ℤ t higher) ≡ h *ℤ (a +ℤ pos (2 ^ 29))
-  product-is = mul-is fh higher-fits room ∙ ap (λ (z : ℤ). h *ℤ z) higher-is
+  pub lift-is : (pos (natAbs (t (t a +ℤ pos 536870912))) ≡ a +ℤ pos (2 ^ 29)) × (natAbs (t (t a +ℤ pos 536870912)) ≤ 2 ^ 30)
+  lift-is = rw higher-is (sym (up-is a (2 ^ 29) small), omega (arith, abs-parts a))
 
 -- ---- one product more, or less
 module _ {s : ℤ} (p : ℕ) (fs : SFits w64 s) (small : natAbs s + p < 2 ^ 63) where
@@ -111,20 +63,19 @@ module _ {s : ℤ} (p : ℕ) (fs : SFits w64 s) (small : natAbs s + p < 2 ^ 63) 
   less-is = toZ-ofZ less-fits ∙ minus
 
 -- a lane's new value, from what each step of the code says; f is the sign
-pub lane : (f : ℤ → ℤ) (x : List ℤ) (i j h : ℕ) {r s s₀ : ℤ} {v : ℕ} → r ≡ s +ℤ f (pos h *ℤ pos v) → s ≡ s₀
-    → pos v ≡ (t (at0 x i) +ℤ pos (2 ^ 29)) +ℤ (t (at0 x j) +ℤ pos (2 ^ 29)) → mag (at0 x i) < 2 ^ 63 → mag (at0 x j) < 2 ^ 63
-    → r ≡ s₀ +ℤ f (pos h *ℤ (lifted x i +ℤ lifted x j))
-unfolding lifted
-lane f x i j h e es ev mi mj =
-    e
-    ∙ ap₂ (λ (p q : ℤ). p +ℤ f (pos h *ℤ q)) es (ev ∙ ap₂ (λ (p q : ℤ). (p +ℤ pos (2 ^ 29)) +ℤ (q +ℤ pos (2 ^ 29))) (val (at0 x i) (at0 x i) mi refl) (val (at0 x j) (at0 x j) mj refl))
+pub lane : (f : ℤ → ℤ) (v : List ℕ) (i j h : ℕ) {r s s₀ : ℤ} {w : ℕ} → r ≡ s +ℤ f (pos h *ℤ pos w) → s ≡ s₀ → w ≡ getD v i 0 + getD v j 0
+    → r ≡ s₀ +ℤ f (pos h *ℤ (raised v i +ℤ raised v j))
+unfolding raised
+lane f v i j h e es ev = e ∙ ap₂ (λ (p : ℤ) (q : ℕ). p +ℤ f (pos h *ℤ pos q)) es ev
 
-pub centre-lane : (h : ℤ) (x : List ℤ) (i : ℕ) {r : ℤ} → r ≡ h *ℤ (t (at0 x i) +ℤ pos (2 ^ 29)) → mag (at0 x i) < 2 ^ 63 → r ≡ h *ℤ lifted x i
-unfolding lifted
-centre-lane h x i e m = e ∙ ap (λ (z : ℤ). h *ℤ (z +ℤ pos (2 ^ 29))) (val (at0 x i) (at0 x i) m refl)
+pub lane-room : (s s₀ : ℤ) (h w a b : ℕ) → s ≡ s₀ → natAbs s₀ ≤ 126 * 2 ^ 56 → h ≤ 2 ^ 25 → w ≡ a + b → a ≤ 2 ^ 30 → b ≤ 2 ^ 30 → natAbs s + h * w < 2 ^ 63
+lane-room s s₀ h w a b e p q f l m =
+    let two : w ≤ 2 ^ 31 = omega arith in
+    rw e (omega (arith, mul-le-mul q two))
 
-pub lane-room : (s s₀ : ℤ) (h v : ℕ) → s ≡ s₀ → natAbs s₀ ≤ 126 * 2 ^ 56 → h ≤ 2 ^ 25 → v ≤ 2 ^ 31 → natAbs s + h * v < 2 ^ 63
-lane-room s s₀ h v e p q r = rw e (omega (arith, mul-le-mul q r))
+pub raised-size : {v : List ℕ} → Low v → (k : ℕ) → natAbs (raised v k) ≤ 2 ^ 30
+unfolding raised
+raised-size b k = b .size k
 
 -- ---- a tap, and its size
 below-0 : (h : ℤ) → ltZ h (pos 0) ≡ true → pos 0 -ℤ h ≡ pos (natAbs h)
@@ -179,3 +130,26 @@ whole-cast {s} f e = rw (toZ-ofZ f) (rw e (tt, record { fits = small s f }))
     small : (z : ℤ) → SFits w64 z → natAbs z < 2 ^ 64
     small (pos n) g = omega (arith, g .sfits)
     small (negsuc n) g = omega (arith, g .sfits)
+
+-- a value lifted, as it was read
+pub read-lifted : (x : List ℤ) (i : ℕ) {r : ℕ} → pos r ≡ t (at0 x i) +ℤ pos (2 ^ 29) → mag (at0 x i) < 2 ^ 63 → pos r ≡ lifted x i
+unfolding lifted
+read-lifted x i e m = e ∙ ap (λ (z : ℤ). z +ℤ pos (2 ^ 29)) (val (at0 x i) (at0 x i) m refl)
+
+-- ---- a product of the centre
+low-part : (a : ℕ) → a ≤ 2 ^ 30 → a % 4294967296 ≡ a
+low-part a q = omega arith
+
+pub product-room : (h a : ℕ) → h ≤ 2 ^ 25 → a ≤ 2 ^ 30 → 0 + h * (a % 4294967296) < 2 ^ 63
+product-room h a p q = rw (low-part a q) (omega (arith, mul-le-mul p q))
+
+module _ {h : ℤ} (f : SFits w64 h) {n a : ℕ} (low : a ≤ 2 ^ 30) (e : n ≡ natAbs (t h)) where
+  pub product-neg : {r : ℤ} → mag r < 2 ^ 63 → r ≡ pos 0 -ℤ pos (n * (a % 4294967296)) → ltZ (t h) (pos 0) ≡ true → t r ≡ h *ℤ pos a
+  product-neg {r} m p b = val r _ m p ∙ ap (λ (k : ℕ). pos 0 -ℤ pos (n * k)) (low-part a low) ∙ +ℤ-comm (pos 0) (negℤ (pos (n * a))) ∙ +ℤ-idr (negℤ (pos (n * a))) ∙ neg-gain f (pos a) e b
+
+  pub product-pos : {r : ℤ} → mag r < 2 ^ 63 → r ≡ pos 0 +ℤ pos (n * (a % 4294967296)) → ltZ (t h) (pos 0) ≡ false → t r ≡ h *ℤ pos a
+  product-pos {r} m p b = val r _ m p ∙ ap (λ (k : ℕ). pos 0 +ℤ pos (n * k)) (low-part a low) ∙ +ℤ-comm (pos 0) (pos (n * a)) ∙ +ℤ-idr (pos (n * a)) ∙ pos-gain f (pos a) e b
+
+pub centre-lane : (h : ℤ) (v : List ℕ) (i : ℕ) {r : ℤ} → r ≡ h *ℤ pos (getD v i 0) → r ≡ h *ℤ raised v i
+unfolding raised
+centre-lane h v i e = e

@@ -11,7 +11,8 @@ use Rattle.numbers.proofs.Integers.{abs-add, abs-mul, +ℤ-left-comm, mul-add, 
 use Rattle.numbers.proofs.Sums.{sum-same, sum-head}
 use Rattle.reference.specs.Stages.{tap, M, fir}
 use Rattle.lanes.specs.Filters.{Small, between-by, ones}
-use Rattle.lanes.specs.Lanes.{lifted, arms}
+use Rattle.lanes.specs.Lanes.{lifted, raised, arms, Low, Hold, Lanes}
+use Rattle.lanes.proofs.Ops.{raised-size}
 
 -- ---- sizes
 sum-each : (n : ℕ) (f : ℕ → ℤ) (m : ℕ) → ((k : ℕ) → natAbs (f k) ≤ m) → natAbs (sumTo n f) ≤ n * m
@@ -19,22 +20,18 @@ unfolding sumTo
 sum-each zero f m h = omega arith
 sum-each (suc n) f m h = omega (arith, abs-add (sumTo n f) (f n), sum-each n f m h, h n)
 
-pub lifted-size : (x : List ℤ) (k : ℕ) → Small (2 ^ 29) x → natAbs (lifted x k) ≤ 2 ^ 30
-unfolding lifted
-lifted-size x k s = omega (arith, abs-add (at0 x k) (pos (2 ^ 29)), s .size k)
+pub centre-lanes : (h : ℤ) {v : List ℕ} (at : ℕ) {s : List ℤ} → natAbs h ≤ 2 ^ 25 → Low v → Hold (λ l. h *ℤ raised v (at + l)) s → Lanes (2 ^ 55) s
+centre-lanes h {v} at p q c = record { size = λ l m. rw (c .is l m) (omega (arith, abs-mul h (raised v (at + l)), mul-le-mul p (raised-size q (at + l)))) }
 
-pub centre-size : (h : ℤ) (x : List ℤ) (k : ℕ) → natAbs h ≤ 2 ^ 25 → Small (2 ^ 29) x → natAbs (h *ℤ lifted x k) ≤ 2 ^ 55
-centre-size h x k p s = omega (arith, abs-mul h (lifted x k), mul-le-mul p (lifted-size x k s))
-
-pub arms-size : (h x : List ℤ) (from down up n : ℕ) → Small (2 ^ 25) h → Small (2 ^ 29) x → natAbs (arms h (lifted x) from down up n) ≤ n * 2 ^ 56
+pub arms-size : (h : List ℤ) (s : ℕ → ℤ) (from down up n : ℕ) → Small (2 ^ 25) h → ((k : ℕ) → natAbs (s k) ≤ 2 ^ 30) → natAbs (arms h s from down up n) ≤ n * 2 ^ 56
 unfolding arms
-arms-size h x from down up n hs xs = sum-each n _ (2 ^ 56) (λ k. each (from + k))
+arms-size h s from down up n hs b = sum-each n _ (2 ^ 56) (λ k. each (from + k))
   where
-    two : (k : ℕ) → natAbs (lifted x (down - k) +ℤ lifted x (up + k)) ≤ 2 ^ 31
-    two k = omega (arith, abs-add (lifted x (down - k)) (lifted x (up + k)), lifted-size x (down - k) xs, lifted-size x (up + k) xs)
+    two : (k : ℕ) → natAbs (s (down - k) +ℤ s (up + k)) ≤ 2 ^ 31
+    two k = omega (arith, abs-add (s (down - k)) (s (up + k)), b (down - k), b (up + k))
 
-    each : (k : ℕ) → natAbs (tap h k *ℤ (lifted x (down - k) +ℤ lifted x (up + k))) ≤ 2 ^ 56
-    each k = omega (arith, abs-mul (tap h k) (lifted x (down - k) +ℤ lifted x (up + k)), mul-le-mul (hs .size k) (two k))
+    each : (k : ℕ) → natAbs (tap h k *ℤ (s (down - k) +ℤ s (up + k))) ≤ 2 ^ 56
+    each k = omega (arith, abs-mul (tap h k) (s (down - k) +ℤ s (up + k)), mul-le-mul (hs .size k) (two k))
 
 -- ---- no tap, and a tap more
 pub arms-none : (h : List ℤ) (s : ℕ → ℤ) (from down up n : ℕ) → n ≡ 0 → arms h s from down up n ≡ pos 0
@@ -95,6 +92,16 @@ between-is h s k up e =
     let z : 0 + j ≡ j = omega arith in
     let u : up ≡ k + 1 = e (omega arith) in
     rw (z, u))
+
+-- ---- signals that agree where a filter reads
+pub fir-same : (h : List ℤ) (s r : ℕ → ℤ) (c : ℕ) → M h ≤ c → ((k : ℕ) → k ≤ c + M h → s k ≡ r k) → fir h s c ≡ fir h r c
+unfolding fir
+fir-same h s r c l e = sum-same (M h + M h + 1) _ _ (λ k m. ap (λ (z : ℤ). tap h (apart k (M h)) *ℤ z) (e (c - M h + k) (omega arith)))
+
+pub between-same : (h : List ℤ) (s r : ℕ → ℤ) (c : ℕ) → ((k : ℕ) → 0 < length h → k ≤ c + length h → s k ≡ r k) → between-by h s c ≡ between-by h r c
+unfolding between-by
+between-same h s r c e =
+    sum-same (length h) _ _ (λ j m. ap₂ (λ (y z : ℤ). tap h j *ℤ (y +ℤ z)) (e (c - j) (omega arith) (omega arith)) (e (c + 1 + j) (omega arith) (omega arith)))
 
 -- ---- the lift adds the taps' sum times 2^29
 sum-lift : (n : ℕ) (g s u : ℕ → ℤ) (c : ℤ) → sumTo n (λ k. g k *ℤ (s k +ℤ u k *ℤ c)) ≡ sumTo n (λ k. g k *ℤ s k) +ℤ sumTo n (λ k. g k *ℤ u k) *ℤ c

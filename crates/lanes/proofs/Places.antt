@@ -1,18 +1,18 @@
--- Loops that set places of a list one after the other, and what eight lanes hold then.
+-- Loops that set places of a list one after the other, and what the lanes hold then.
 use mathlib.Core.Path.{_≡_, refl, sym, _∙_, ap}
 use mathlib.Core.List.{List}
 use mathlib.Core.Logic.{⊎-elim}
-use Prim.Native.Nat.{ℕ, _+_, _<_, _≤_}
+use Prim.Native.Nat.{ℕ, _+_, _<_, _≤_, _^_}
 use native.Mathlib.Nat.{eq-or-lt-of-le}
 use native.Mathlib.Omega.{arith}
 use lib.IntN.{ℤ, pos, natAbs, _+ℤ_, +ℤ-assoc, +ℤ-idr}
-use lib.ListN.{length, set, length-set}
+use lib.ListN.{length, getD, set, replicate, length-set, length-replicate, getD-replicate, List·getD-eq-default}
 use lib.Seq.{getD-set-same, getD-set-other}
 use Rattle.numbers.specs.Sums.{at0}
 use Rattle.numbers.proofs.Integers.{abs-add}
 use Rattle.numbers.proofs.Lists.{below-or}
 use Rattle.lanes.specs.Filters.{Filled}
-use Rattle.lanes.specs.Lanes.{Written, Added, Hold, Lanes}
+use Rattle.lanes.specs.Lanes.{lifted, raised, Low, Raised, Written, Added, Hold, Lanes}
 
 pub written-none : {f : ℕ → ℤ} {a b : ℕ} {old : List ℤ} → b ≤ a → Written f a b old old
 written-none e = record { same = refl; done = λ k l m. absurd (omega arith); below = λ k l. refl; above = λ k l. refl }
@@ -50,14 +50,14 @@ written-then {f} {a} {i} {j} {new} u w p q e =
 pub written-filled : {f : ℕ → ℤ} {i : ℕ} {old new : List ℤ} → Written f 0 i old new → length old ≤ i → Filled f old new
 written-filled u l = record { same = u .same; is = λ k m. u .done k (omega arith) (omega arith) }
 
--- ---- eight lanes
-pub written-hold : {f : ℕ → ℤ} {i : ℕ} {old new : List ℤ} → Written f 0 i old new → 8 ≤ i → Hold f new
+-- ---- the lanes
+pub written-hold : {f : ℕ → ℤ} {i : ℕ} {old new : List ℤ} → Written f 0 i old new → 14 ≤ i → Hold f new
 written-hold u l = record { is = λ k m. u .done k (omega arith) (omega arith) }
 
 pub hold-as : {f g : ℕ → ℤ} {s : List ℤ} → Hold f s → ((l : ℕ) → f l ≡ g l) → Hold g s
 hold-as a e = record { is = λ l m. a .is l m ∙ e l }
 
-pub written-added : {g : ℕ → ℤ} {i : ℕ} {old new : List ℤ} → Written (λ k. at0 old k +ℤ g k) 0 i old new → 8 ≤ i → Added g old new
+pub written-added : {g : ℕ → ℤ} {i : ℕ} {old new : List ℤ} → Written (λ k. at0 old k +ℤ g k) 0 i old new → 14 ≤ i → Added g old new
 written-added u l = record { is = λ k m. u .done k (omega arith) (omega arith) }
 
 pub added-as : {g k : ℕ → ℤ} {old new : List ℤ} → Added g old new → ((l : ℕ) → g l ≡ k l) → Added k old new
@@ -82,3 +82,34 @@ lanes-then {g} {a} G B p s e m = record { size = λ l n. rw (p .is l n) (omega (
 
 pub lanes-up : {A : ℕ} {s : List ℤ} (B : ℕ) → Lanes A s → A ≤ B → Lanes B s
 lanes-up B a l = record { size = λ k m. omega (arith, a .size k m) }
+
+-- ---- the copy
+pub low-zeros : (n : ℕ) → Low (replicate n 0)
+low-zeros n = record { size = λ k. ⊎-elim (λ l. rw (getD-replicate {A = ℕ} n k 0 0 l) (omega arith)) (λ l. rw (List·getD-eq-default {A = ℕ} (replicate n 0) 0 {n = k} (past k l)) (omega arith)) (below-or k n) }
+  where
+    past : (k : ℕ) → n ≤ k → length {A = ℕ} (replicate n 0) ≤ k
+    past k l = rw (length-replicate {A = ℕ} n 0) l
+
+pub raised-none : {x : List ℤ} {v : List ℕ} → Low v → Raised 0 x v
+raised-none b = record { is = λ k m. absurd (omega arith); low = b }
+
+-- place i more
+pub raised-more : {i j : ℕ} {x : List ℤ} {v : List ℕ} {r : ℕ} → Raised i x v → i < length v → pos r ≡ lifted x i → r ≤ 2 ^ 30 → j ≡ i + 1 → Raised j x (set v i r)
+unfolding raised
+raised-more {i} {j} {x} {v} {r} a m e b next =
+    record {
+      is = λ k n. ⊎-elim (λ q. ap pos (here k q) ∙ e ∙ ap (lifted x) (sym q)) (λ q. ap pos (before k q) ∙ a .is k q) (eq-or-lt-of-le (up-to k n));
+      low = record { size = λ k. ⊎-elim (λ l. rw (before k l) (a .low .size k)) (λ l. ⊎-elim (λ q. rw (here k (sym q)) b) (λ n. rw (after k n) (a .low .size k)) (eq-or-lt-of-le l)) (below-or k i) };
+    }
+  where
+    up-to : (k : ℕ) → k < j → k ≤ i
+    up-to k n = omega arith
+
+    here : (k : ℕ) → k ≡ i → getD (set v i r) k 0 ≡ r
+    here k q = ap (λ (n : ℕ). getD (set v i r) n 0) q ∙ getD-set-same v i r 0 m
+
+    before : (k : ℕ) → k < i → getD (set v i r) k 0 ≡ getD v k 0
+    before k n = getD-set-other v i k r 0 (λ q. omega arith)
+
+    after : (k : ℕ) → i < k → getD (set v i r) k 0 ≡ getD v k 0
+    after k n = getD-set-other v i k r 0 (λ q. omega arith)

@@ -1,9 +1,9 @@
--- Eight neighbouring places of the output at a time: the lanes. Every value is lifted by 2^29, so that the machine multiplies numbers that are not negative.
+-- Fourteen neighbouring places of the output at a time: the lanes. A copy of the block has every value lifted by 2^29, so that the machine multiplies numbers that are not negative.
 use mathlib.Core.Path.{_≡_}
 use mathlib.Core.List.{List}
 use Prim.Native.Nat.{ℕ, _+_, _-_, _^_, _≤_, _<_}
 use lib.IntN.{ℤ, pos, natAbs, _+ℤ_, _-ℤ_, _*ℤ_}
-use lib.ListN.{length}
+use lib.ListN.{length, getD}
 use Rattle.numbers.specs.Sums.{sumTo, at0}
 use Rattle.reference.specs.Rounding.{R}
 use Rattle.reference.specs.Stages.{tap}
@@ -11,26 +11,39 @@ use Rattle.reference.specs.Stages.{tap}
 unfoldable pub lifted : List ℤ → ℕ → ℤ
 lifted x k = at0 x k +ℤ pos (2 ^ 29)
 
+-- what a place of the copy holds
+unfoldable pub raised : List ℕ → ℕ → ℤ
+raised v k = pos (getD v k 0)
+
+-- no number of the copy is over 2^30
+pub record Low (v : List ℕ) : Type 0 where
+  pub size : (k : ℕ) → getD v k 0 ≤ 2 ^ 30
+
+-- v begins with the first n values of x, each lifted
+pub record Raised (n : ℕ) (x : List ℤ) (v : List ℕ) : Type 0 where
+  pub is : (k : ℕ) → k < n → raised v k ≡ lifted x k
+  pub low : Low v
+
 -- n taps of h from place `from` on, each with the two values at its distance below `down` and above `up`
 unfoldable pub arms : List ℤ → (ℕ → ℤ) → ℕ → ℕ → ℕ → ℕ → ℤ
 arms h s from down up n = sumTo n (λ k. tap h (from + k) *ℤ (s (down - (from + k)) +ℤ s (up + (from + k))))
 
 -- no lane is over B in size
 pub record Lanes (B : ℕ) (s : List ℤ) : Type 0 where
-  pub size : (l : ℕ) → l < 8 → natAbs (at0 s l) ≤ B
+  pub size : (l : ℕ) → l < 14 → natAbs (at0 s l) ≤ B
 
--- eight lanes hold f
+-- the lanes hold f
 pub record Hold (f : ℕ → ℤ) (s : List ℤ) : Type 0 where
-  pub is : (l : ℕ) → l < 8 → at0 s l ≡ f l
+  pub is : (l : ℕ) → l < 14 → at0 s l ≡ f l
 
--- eight lanes have gained g
+-- the lanes have gained g
 pub record Added (g : ℕ → ℤ) (old new : List ℤ) : Type 0 where
-  pub is : (l : ℕ) → l < 8 → at0 new l ≡ at0 old l +ℤ g l
+  pub is : (l : ℕ) → l < 14 → at0 new l ≡ at0 old l +ℤ g l
 
--- no lane is negative, or over 2^54
-pub record Sums (s : List ℤ) : Type 0 where
-  pub is : (l : ℕ) → l < 8 → at0 s l ≡ pos (natAbs (at0 s l))
-  pub size : (l : ℕ) → l < 8 → natAbs (at0 s l) ≤ 2 ^ 54
+-- of the first n lanes none is negative, or over 2^54
+pub record Sums (n : ℕ) (s : List ℤ) : Type 0 where
+  pub is : (l : ℕ) → l < n → at0 s l ≡ pos (natAbs (at0 s l))
+  pub size : (l : ℕ) → l < n → natAbs (at0 s l) ≤ 2 ^ 54
 
 -- lane l, the lift of 2^53 taken away, rounded
 unfoldable pub rounded : ℕ → List ℤ → ℕ → ℤ

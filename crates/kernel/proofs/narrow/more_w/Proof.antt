@@ -53,7 +53,7 @@ fir1-requires c κs =
     let h = now (s .args .h) in
     let e = 2 * (length h - 1) + s .args .k in
     let p = part-length (s .args .m) (s .args .m + s .args .k) (now (s .args .t)) (omega arith) in (
-      (omega (arith, f .some), omega (arith, f .few), omega (arith, p), omega (arith, p, part-length 0 e (now (s .args .s)) (omega (arith, f .few)))),
+      (omega (arith, f .some), omega (arith, f .few), omega (arith, p), omega (arith, p, part-length 0 e (now (s .args .s)) (omega (arith, f .few))), omega (arith, f .few, part-length 0 e (now (s .args .s)) (omega (arith, f .few)))),
       (
         f .keeps,
         fir1-asks (s .pre .1 .1 .0) e (omega arith) (omega (arith, f .few)) h _ (omega (arith, p)) (λ i. omega (arith, v-size (byte-at (s .args .ch) (now (s .args .before)) (now (s .args .frames)) (now (s .args .after)) (s .args .c)) i)) (λ i. omega (arith, w-sum-size h (f .small) (byte-at (s .args .ch) (now (s .args .before)) (now (s .args .frames)) (now (s .args .after)) (s .args .c)) i)),

@@ -61,7 +61,7 @@ fir1-requires c κs =
     let e = 2 * (length (now (s .args .h)) - 1) + 168 in
     let long = g .kept .1 .1 .1 .1 .1 .1 .1 .1 .1 .1 .1 .1 .1 .1 .0 in
     let part = part-length 0 e (g .last .1 .1 .1 .1 .1 .1 .1 .1 .1 .1 .1 .1 .1 .1 .0) (omega (arith, f .few, m .long)) in (
-      (omega (arith, f .some), omega (arith, f .few), omega arith, omega (arith, part)),
+      (omega (arith, f .some), omega (arith, f .few), omega arith, omega (arith, part), omega (arith, part, f .few)),
       (
         f .keeps,
         fir1-asks (g .ensures) e (omega arith) (omega (arith, f .few, m .long)) (now (s .args .h)) _ (omega arith)

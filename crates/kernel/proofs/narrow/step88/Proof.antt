@@ -116,8 +116,8 @@ returns c =
     let h = taps s in (
       dec2-gives f _ _ (c .before .before .before .before .before .before .before .dec2 .ensures) (omega (arith, h)) (omega arith),
       (
-        next 168 _ _ (f .even-values) (omega (arith, h)) (omega (arith, h)) (f .room) (c .before .before .before .before .shift .kept .0) (c .before .before .before .before .shift .ensures),
-        next 168 _ _ (f .odd-values) (omega (arith, h)) (omega (arith, h)) (f .room) (c .before .shift2 .kept .0) (c .before .shift2 .ensures),
+        next 168 _ _ (f .even-values) (omega (arith, h)) (omega (arith, h)) (omega (arith, f .room)) (c .before .before .before .before .shift .kept .0) (c .before .before .before .before .shift .ensures),
+        next 168 _ _ (f .odd-values) (omega (arith, h)) (omega (arith, h)) (omega (arith, f .room)) (c .before .shift2 .kept .0) (c .before .shift2 .ensures),
       ),
     )
 

@@ -30,7 +30,7 @@ interp-requires c κs =
     let s = c .before .before .before .before .before in
     let t = now (s .args .t) in
     let a = interp-asks (now (s .args .h)) (s .pre .1 .0 .small) (byte-at (s .args .ch) (now (s .args .before)) (now (s .args .frames)) (now (s .args .after)) (s .args .c)) (s .args .n / 2) (omega arith) t (s .pre .1 .1 .1) (omega arith) (s .pre .0) 168 (lit≤ tt) in
-    ((omega (arith, a .0), refl, omega (arith, a .0, part-length 1 184 t (omega arith))), a .1)
+    ((omega (arith, a .0), refl, omega (arith, a .0, part-length 1 184 t (omega arith)), omega (arith, part-length 1 184 t (omega arith))), a .1)
 
 sub-weave : tie.Need-sub-weave
 sub-weave c = search needs

@@ -61,7 +61,7 @@ fir1-requires c κs =
     let a = around (c .before .before .before .before .before .before) in
     let g = bounded s in
     let t = taps s in
-    ((g .some, g .few, omega arith, omega (arith, t, part-length 0 456 (c .before .before .before .before .before .before .more-u .last .1 .1 .1 .1 .1 .1 .1 .1 .1 .1 .1 .0) (omega (arith, a .long)))), (g .keeps, fir1-asks (a .held) 456 (omega arith) (omega (arith, a .long)) (now (s .args .h)) _ (omega (arith, t)) (g .values) (g .sums)))
+    ((g .some, g .few, omega arith, omega (arith, t, part-length 0 456 (c .before .before .before .before .before .before .more-u .last .1 .1 .1 .1 .1 .1 .1 .1 .1 .1 .1 .0) (omega (arith, a .long))), omega (arith, part-length 0 456 (c .before .before .before .before .before .before .more-u .last .1 .1 .1 .1 .1 .1 .1 .1 .1 .1 .1 .0) (omega (arith, a .long)))), (g .keeps, fir1-asks (a .held) 456 (omega arith) (omega (arith, a .long)) (now (s .args .h)) _ (omega (arith, t)) (g .values) (g .sums)))
 
 shift-requires : tie.Need-shift-requires
 shift-requires c κs = omega (arith, around (c .before .before .before .before .before .before .before .before .before) .long)

@@ -1,79 +1,36 @@
 -- `lanes::round::store23` meets its contract.
 use mathlib.Core.Path.{_≡_}
-use Prim.Native.Nat.{_+_, _-_, _≤_}
 use native.Mathlib.Omega.{arith}
 use borrow.Author.Needs.{needs}
-use Rattle.lanes.specs.Lanes.{rounded, Written}
-use Rattle.numbers.proofs.Machine.{val}
-use Rattle.lanes.proofs.Places.{written-none, written-more}
-use Rattle.lanes.proofs.Bias.{sums-at, stored}
+use borrow.Author.Needs.{needs}
 use Rattle.lanes.proofs.round.store23.Statement.{statement}
 use Rattle.lanes.proofs.round.store23.Tie as tie
 
-abbrev Inv-loop : tie.InvT-loop
-Inv-loop y₀ i s l₀ y l = (l ≤ 8) × Written (λ k. rounded 23 s (k - i)) i (i + l) y₀ y
+some23-requires : tie.Need-some23-requires
+some23-requires c κs = search needs
 
-abbrev μ-loop : tie.MeasureT-loop
-μ-loop y₀ i s l₀ y l = 8 - l
-
-loop-holds : tie.Need-loop-holds Inv-loop μ-loop
-loop-holds c = (search needs, written-none (omega arith))
-
-mul-round23 : tie.Need-mul-round23 Inv-loop μ-loop
-mul-round23 c = search needs
-
-array-copy-out-round23 : tie.Need-array-copy-out-round23 Inv-loop μ-loop
-array-copy-out-round23 c = search needs
-
-round23-requires : tie.Need-round23-requires Inv-loop μ-loop
-round23-requires c κs = let l = c .before .before in sums-at (l .before .pre .1) (l .loop .l) (omega arith) (c .round23-arg .given)
-
-add-r : tie.Need-add-r Inv-loop μ-loop
-add-r c = search needs
-
-mul-r : tie.Need-mul-r Inv-loop μ-loop
-mul-r c = search needs
-
-slice-set-from-r : tie.Need-slice-set-from-r Inv-loop μ-loop
-slice-set-from-r c = search needs
-
-add-l : tie.Need-add-l Inv-loop μ-loop
-add-l c = search needs
-
-loop-less : tie.Need-loop-less Inv-loop μ-loop
-loop-less c = search needs
-
-loop-again : tie.Need-loop-again Inv-loop μ-loop
-loop-again c =
-    let l = c .before .before .before in
-    let s = l .before .args .t3 in
-    let u = l .loop .inv .1 .same in
-    (omega arith, written-more (l .loop .inv .1) (omega arith) (omega arith) (stored 23 s (l .loop .l) (omega arith) (val _ _ (c .round23 .ok) (c .round23 .ensures)) (c .before .round23-arg .given)) (omega arith))
-
-same-length : tie.Need-same-length Inv-loop μ-loop
+same-length : tie.Need-same-length
 same-length c = search needs
 
-returns : tie.Need-returns Inv-loop μ-loop
-returns c =
-    let l = c .before .loop in
-    let e : l .l ≡ 8 = omega arith in
-    rw e at (l .inv .1)
+returns : tie.Need-returns
+returns c = search needs
+
+some23-requires-2 : tie.Need-some23-requires-2
+some23-requires-2 c κs =
+    let k = c .before .before in
+    let e : k .args .n ≡ 14 = omega (arith, c .before .if1 .left) in
+    ((omega arith, omega arith), rw e at (k .pre .1))
+
+same-length-2 : tie.Need-same-length-2
+same-length-2 c = search needs
+
+returns-2 : tie.Need-returns-2
+returns-2 c =
+    let k = c .before .before .before .before in
+    let e : k .args .n ≡ 14 = omega (arith, c .before .before .before .if1 .left) in
+    rw e (c .before .some232 .ensures)
 
 pub store23-spec : {M : Type 1} → statement M
 store23-spec =
     tie.close
-    (tie.spec
-    Inv-loop
-    μ-loop
-    loop-holds
-    mul-round23
-    array-copy-out-round23
-    round23-requires
-    add-r
-    mul-r
-    slice-set-from-r
-    add-l
-    loop-less
-    loop-again
-    same-length
-    returns)
+    (tie.spec some23-requires same-length returns some23-requires-2 same-length-2 returns-2)
