@@ -40,9 +40,9 @@ module _ {S : ℕ → ℤ} {a : ℕ} where
       record { is = λ j q. getD-take (e - p) (drop p s) j (pos 0) q ∙ lib.Seq.getD-drop p s j (pos 0) ∙ held .is (p + j) (omega arith) ∙ ap S (omega arith) }
 
   -- the values from place `by` on, moved to the front
-  pub shifted : {n : ℕ} {s s' : List ℤ} (by m : ℕ) → by + m ≤ n → by + m ≤ length s → ((k : ℕ) → k + by < length s → getD s' k (pos 0) ≡ getD s (k + by) (pos 0))
+  pub shifted : {n : ℕ} {s s' : List ℤ} (by m : ℕ) → by + m ≤ n → ((k : ℕ) → k < m → getD s' k (pos 0) ≡ getD s (k + by) (pos 0))
       → Held (pos 0) S a n s → Held (pos 0) S (a + by) m s'
-  shifted by m l r moved held = record { is = λ k q. moved k (omega arith) ∙ held .is (k + by) (omega arith) ∙ ap S (omega arith) }
+  shifted by m l moved held = record { is = λ k q. moved k q ∙ held .is (k + by) (omega arith) ∙ ap S (omega arith) }
 
   -- the same place by another name
   pub held-at : {n : ℕ} {s : List ℤ} (b : ℕ) → a ≡ b → Held (pos 0) S a n s → Held (pos 0) S b n s

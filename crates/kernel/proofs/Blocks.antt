@@ -104,6 +104,6 @@ module _ {F he ho : List ℤ} {S : ℕ → ℤ} {a d e : ℕ} {s t y : List ℤ}
   dec2-gives b n filled at l = held-at b (omega (arith, seam, odd-length)) (held-some n l (half-held halves S xe-held xo-held seam filled even-room odd-room))
 
 -- ---- the margin of the next block
-pub next : {S : ℕ → ℤ} {a n : ℕ} {s s' : List ℤ} (by b m : ℕ) → Margin S a n s → a + by ≡ b → by + m ≤ n → n ≤ 512 → length s' ≡ length s
-    → ((k : ℕ) → k + by < length s → getD s' k (pos 0) ≡ getD s (k + by) (pos 0)) → Margin S b m s'
-next by b m p at l room same moved = record { long = same ∙ p .long; held = held-at b at (shifted by m l (omega (arith, p .long)) moved (p .held)) }
+pub next : {S : ℕ → ℤ} {a n : ℕ} {s s' : List ℤ} (by b m : ℕ) → Margin S a n s → a + by ≡ b → by + m ≤ n → length s' ≡ length s
+    → ((k : ℕ) → k < m → getD s' k (pos 0) ≡ getD s (k + by) (pos 0)) → Margin S b m s'
+next by b m p at l same moved = record { long = same ∙ p .long; held = held-at b at (shifted by m l moved (p .held)) }

@@ -184,8 +184,8 @@ pub fn step88<'a>(
     let d = o + 1 - he.len();
     let e = 2 * o + 168;
     lanes::dec2(y, he, ho, &s[d..e], &t[0..e]);
-    stages::shift(s, 168);
-    stages::shift(t, 168);
+    stages::shift(s, 168, 2 * o);
+    stages::shift(t, 168, 2 * o);
 }
 
 pub fn prime176<'a>(
@@ -280,7 +280,7 @@ pub fn step176<'a>(
     );
     let e = 2 * p + 168;
     lanes::fir1(y, h, &s[0..e]);
-    stages::shift(s, 168);
+    stages::shift(s, 168, 2 * p);
 }
 
 // w by the low-pass: k values more in t, which has m, from v in s. The run is that of the promise.
@@ -372,7 +372,7 @@ pub fn prime352<'a>(
         s,
     );
     more_w(before, frames, after, ch, count, c, i, 0, 16, h, s, t);
-    stages::shift(s, 16);
+    stages::shift(s, 16, 2 * p);
 }
 
 // Between the values of w in t, and those values, in turn.
@@ -449,8 +449,8 @@ pub fn step352<'a>(
     );
     more_w(before, frames, after, ch, count, c, i, 16, 168, h, s, t);
     weave352(before, frames, after, ch, count, c, n, hb, h, t, y);
-    stages::shift(s, 168);
-    stages::shift(t, 168);
+    stages::shift(s, 168, 2 * p);
+    stages::shift(t, 168, 16);
 }
 
 pub fn prime_narrow<'a>(

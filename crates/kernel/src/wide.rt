@@ -93,8 +93,8 @@ pub fn step_wide176<'a>(
         t,
     );
     lanes::dec2(y, he, ho, &s[0..284], &t[0..284]);
-    stages::shift(s, 168);
-    stages::shift(t, 168);
+    stages::shift(s, 168, 116);
+    stages::shift(t, 168, 116);
 }
 
 pub fn prime_wide352<'a>(
@@ -169,7 +169,7 @@ pub fn step_wide352<'a>(
         s,
     );
     lanes::fir1(y, h, &s[0..456]);
-    stages::shift(s, 336);
+    stages::shift(s, 336, 120);
 }
 
 pub fn prime_wide<'a>(

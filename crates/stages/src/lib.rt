@@ -326,12 +326,11 @@ pub fn fill_u_parts<'a>(
     );
 }
 
-// The last values of an array become its first: those from place `by` on.
-pub fn shift(x: &mut [i64], by: usize)
-    requires { ⌜ by ≤ length (now x) ⌝ }
-    ensures { λ _. ⌜ ((k : ℕ) → k + by < length (now (x .entry)) → getD (now (x .exit)) k (pos 0) ≡ getD (now (x .entry)) (k + by) (pos 0)) ⌝ }
+// n values of an array, those from place `by` on, become its first.
+pub fn shift(x: &mut [i64], by: usize, n: usize)
+    requires { ⌜ by + n ≤ length (now x) ⌝ }
+    ensures { λ _. ⌜ ((k : ℕ) → k < n → getD (now (x .exit)) k (pos 0) ≡ getD (now (x .entry)) (k + by) (pos 0)) ⌝ }
 {
-    let n = x.len() - by;
     let mut k: usize = 0;
     while k < n {
         let v = x[k + by];

@@ -13,13 +13,10 @@ use Rattle.stages.proofs.shift.Statement.{statement}
 use Rattle.stages.proofs.shift.Tie as tie
 
 abbrev Inv-loop : tie.InvT-loop
-Inv-loop x₀ by n k₀ x k = (k + by ≤ length x₀) × (length x ≡ length x₀) × ((j : ℕ) → j < k → getD x j (pos 0) ≡ getD x₀ (j + by) (pos 0)) × ((j : ℕ) → k ≤ j → getD x j (pos 0) ≡ getD x₀ j (pos 0))
+Inv-loop x₀ by n k₀ x k = (k ≤ n) × (length x ≡ length x₀) × ((j : ℕ) → j < k → getD x j (pos 0) ≡ getD x₀ (j + by) (pos 0)) × ((j : ℕ) → k ≤ j → getD x j (pos 0) ≡ getD x₀ j (pos 0))
 
 abbrev μ-loop : tie.MeasureT-loop
-μ-loop x₀ by n k₀ x k = length x₀ - k
-
-sub-n : tie.Need-sub-n Inv-loop μ-loop
-sub-n c = omega arith
+μ-loop x₀ by n k₀ x k = n - k
 
 loop-holds : tie.Need-loop-holds Inv-loop μ-loop
 loop-holds c = (omega arith, refl, λ j l. absurd (omega arith), λ j l. refl)
@@ -72,7 +69,6 @@ shift-spec =
     (tie.spec
     Inv-loop
     μ-loop
-    sub-n
     loop-holds
     add-v
     mul-v

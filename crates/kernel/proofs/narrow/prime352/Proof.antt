@@ -62,10 +62,15 @@ more-w-requires c κs =
     let kq = q .kept .1 .1 .1 .1 .1 .1 .1 .1 .1 .1 .1 .1 .1 .1 .0 in
     (f, ((omega (arith, f .few, f .some, s .pre .1 .0 .1, s .pre .1 .1 .1 .1 .1 .3, s .pre .1 .1 .1 .1 .1 .4, kg, kq), omega (arith, f .few, f .some, s .pre .1 .0 .1, s .pre .1 .1 .1 .1 .1 .3, s .pre .1 .1 .1 .1 .1 .4, kg, kq), omega (arith, f .few, f .some, s .pre .1 .0 .1, s .pre .1 .1 .1 .1 .1 .3, s .pre .1 .1 .1 .1 .1 .4, kg, kq), omega (arith, f .few, f .some, s .pre .1 .0 .1, s .pre .1 .1 .1 .1 .1 .3, s .pre .1 .1 .1 .1 .1 .4, kg, kq), omega (arith, f .few, f .some, s .pre .1 .0 .1, s .pre .1 .1 .1 .1 .1 .3, s .pre .1 .1 .1 .1 .1 .4, kg, kq), omega (arith, f .few, f .some, s .pre .1 .0 .1, s .pre .1 .1 .1 .1 .1 .3, s .pre .1 .1 .1 .1 .1 .4, kg, kq)), (held-at _ (omega (arith, f .few, f .some, s .pre .1 .0 .1)) (held-some _ (omega (arith, f .few, f .some)) (q .ensures)), held-none)))
 
+mul-shift : tie.Need-mul-shift
+mul-shift c =
+    let s = c .before .before .before .before .before .before .before .before .before .before .before .before .before .before .before .before .before .before .before .before .before .before .before .before .before .before .before .before .before in
+    omega (arith, s .pre .1 .1 .1 .1 .0 .few)
+
 shift-requires : tie.Need-shift-requires
 shift-requires c κs =
     let s = c .before .before .before .before .before .before .before .before .before .before .before .before .before .before .before .before .before .before .before .before .before .before .before .before .before .before .before .before .before in
-    omega (arith, s .pre .1 .1 .1 .1 .1 .3, c .before .before .before .before .before .before .before .before .before .before .before .before .before .before .before .before .before .before .before .before .more-v .kept .1 .1 .1 .1 .1 .1 .1 .1 .1 .1 .1 .1 .1 .1 .0, c .before .before .before .before .before .before .before .before .before .before .more-v2 .kept .1 .1 .1 .1 .1 .1 .1 .1 .1 .1 .1 .1 .1 .1 .0)
+    omega (arith, s .pre .1 .1 .1 .1 .0 .few, s .pre .1 .1 .1 .1 .1 .3, c .before .before .before .before .before .before .before .before .before .before .before .before .before .before .before .before .before .before .before .before .more-v .kept .1 .1 .1 .1 .1 .1 .1 .1 .1 .1 .1 .1 .1 .1 .0, c .before .before .before .before .before .before .before .before .before .before .more-v2 .kept .1 .1 .1 .1 .1 .1 .1 .1 .1 .1 .1 .1 .1 .1 .0)
 
 same-length : tie.Need-same-length
 same-length c = search needs
@@ -95,7 +100,7 @@ returns c =
       s .pre .1 .0 .3,
       record {
         long = omega (arith, long, c .before .shift .kept .0);
-        held = held-at _ (omega (arith, f .few, s .pre .1 .0 .1)) (shifted 16 (2 * p) (omega (arith, f .few)) (omega (arith, f .few, long)) (c .before .shift .ensures) (q .ensures));
+        held = held-at _ (omega (arith, f .few, s .pre .1 .0 .1)) (shifted 16 (2 * p) (omega (arith, f .few)) (c .before .shift .ensures) (q .ensures));
       },
       record { long = omega (arith, s .pre .1 .1 .1 .1 .1 .4, w .kept .1 .1 .1 .1 .1 .1 .1 .1 .1 .1 .1 .0); held = held-at _ (omega arith) (w .ensures) },
     )
@@ -115,6 +120,7 @@ prime352-spec =
     sub-more-v-2
     more-v-requires-2
     more-w-requires
+    mul-shift
     shift-requires
     same-length
     same-length-2

@@ -69,11 +69,16 @@ fir1-requires c κs =
       ),
     )
 
+mul-shift : tie.Need-mul-shift
+mul-shift c =
+    let s = c .before .before .before .before .before .before .before .before .before .before .before .before .before .before .before .before .before .before .before .before in
+    omega (arith, s .pre .1 .1 .1 .1 .0 .few)
+
 shift-requires : tie.Need-shift-requires
 unfolding NarrowState
 shift-requires c κs =
     let s = c .before .before .before .before .before .before .before .before .before .before .before .before .before .before .before .before .before .before .before .before in
-    omega (arith, s .pre .1 .1 .1 .1 .1 .1 .long, c .before .before .before .before .before .before .before .before .before .before .before .more-v .kept .1 .1 .1 .1 .1 .1 .1 .1 .1 .1 .1 .1 .1 .1 .0)
+    omega (arith, s .pre .1 .1 .1 .1 .0 .few, s .pre .1 .1 .1 .1 .1 .1 .long, c .before .before .before .before .before .before .before .before .before .before .before .more-v .kept .1 .1 .1 .1 .1 .1 .1 .1 .1 .1 .1 .1 .1 .1 .0)
 
 same-length : tie.Need-same-length
 same-length c = search needs
@@ -102,7 +107,7 @@ returns c =
       held-some _ (omega arith) (fir1-gives (g .ensures) e (omega arith) (omega (arith, f .few, m .long)) (now (s .args .h)) _ (omega arith) (c .before .before .before .before .fir1 .ensures) (omega arith)),
       λ t. (record {
         long = omega (arith, m .long, c .before .shift .kept .0);
-        held = held-at _ (omega arith) (shifted 168 (2 * (length (now (s .args .h)) - 1)) (omega arith) (omega (arith, f .few, m .long)) (c .before .shift .ensures) (g .ensures));
+        held = held-at _ (omega arith) (shifted 168 (2 * (length (now (s .args .h)) - 1)) (omega arith) (c .before .shift .ensures) (g .ensures));
       }),
     )
 
@@ -120,6 +125,7 @@ step176-spec =
     part-fir1-start
     part-fir1-end
     fir1-requires
+    mul-shift
     shift-requires
     same-length
     same-length-2

@@ -50,11 +50,16 @@ weave352-requires c κs =
     let w = c .before .before .before .more-w in
     (s .pre .1 .1 .1 .0, (f, ((omega (arith, s .pre .1 .0 .1), s .pre .1 .1 .1 .1 .1 .1 .0, omega (arith, k .long, w .kept .1 .1 .1 .1 .1 .1 .1 .1 .1 .1 .1 .0), omega (arith, s .pre .1 .1 .1 .1 .1 .0 .3)), held-at _ (omega (arith, s .pre .1 .0 .1)) (w .ensures))))
 
+mul-shift : tie.Need-mul-shift
+mul-shift c =
+    let s = c .before .before .before .before .before .before .before .before .before .before .before .before .before .before .before .before .before .before .before .before .before .before .before in
+    omega (arith, s .pre .1 .1 .1 .1 .0 .few)
+
 shift-requires : tie.Need-shift-requires
 unfolding NarrowState
 shift-requires c κs =
     let s = c .before .before .before .before .before .before .before .before .before .before .before .before .before .before .before .before .before .before .before .before .before .before .before in
-    omega (arith, s .pre .1 .1 .1 .1 .1 .1 .1 .long, c .before .before .before .before .before .before .before .before .before .before .before .before .before .before .more-v .kept .1 .1 .1 .1 .1 .1 .1 .1 .1 .1 .1 .1 .1 .1 .0)
+    omega (arith, s .pre .1 .1 .1 .1 .0 .few, s .pre .1 .1 .1 .1 .1 .1 .1 .long, c .before .before .before .before .before .before .before .before .before .before .before .before .before .before .more-v .kept .1 .1 .1 .1 .1 .1 .1 .1 .1 .1 .1 .1 .1 .1 .0)
 
 shift-requires-2 : tie.Need-shift-requires-2
 unfolding NarrowState
@@ -99,11 +104,11 @@ returns c =
         omega (arith, even),
         record {
           long = omega (arith, long, c .before .before .before .before .shift .kept .0);
-          held = held-at _ (omega (arith, f .few, low, even)) (shifted 168 (2 * p) (omega (arith, f .few)) (omega (arith, f .few, long)) (c .before .before .before .before .shift .ensures) (g .ensures));
+          held = held-at _ (omega (arith, f .few, low, even)) (shifted 168 (2 * p) (omega (arith, f .few)) (c .before .before .before .before .shift .ensures) (g .ensures));
         },
         record {
           long = omega (arith, long-w, c .before .shift2 .kept .0);
-          held = held-at _ (omega (arith, low, even)) (shifted 168 16 (omega arith) (omega (arith, long-w)) (c .before .shift2 .ensures) (w .ensures));
+          held = held-at _ (omega (arith, low, even)) (shifted 168 16 (omega arith) (c .before .shift2 .ensures) (w .ensures));
         },
       ),
     )
@@ -119,6 +124,7 @@ step352-spec =
     more-v-requires
     more-w-requires
     weave352-requires
+    mul-shift
     shift-requires
     shift-requires-2
     same-length

@@ -84,11 +84,17 @@ part-dec2-end-2 c = omega (arith, taps (c .before .before .before .before .befor
 dec2-requires : tie.Need-dec2-requires
 dec2-requires c κs = dec2-asks (around (c .before .before .before .before .before .before .before .before .before .before .before))
 
+mul-shift : tie.Need-mul-shift
+mul-shift c = omega (arith, around (c .before .before .before .before .before .before .before .before .before .before .before .before .before .before) .room)
+
 shift-requires : tie.Need-shift-requires
-shift-requires c κs = omega (arith, around (c .before .before .before .before .before .before .before .before .before .before .before .before .before .before) .even-values .long)
+shift-requires c κs = let f = around (c .before .before .before .before .before .before .before .before .before .before .before .before .before .before) in omega (arith, f .even-values .long, f .room)
+
+mul-shift-2 : tie.Need-mul-shift-2
+mul-shift-2 c = omega (arith, around (c .before .before .before .before .before .before .before .before .before .before .before .before .before .before .before .before .before) .room)
 
 shift-requires-2 : tie.Need-shift-requires-2
-shift-requires-2 c κs = omega (arith, around (c .before .before .before .before .before .before .before .before .before .before .before .before .before .before .before .before .before) .odd-values .long)
+shift-requires-2 c κs = let f = around (c .before .before .before .before .before .before .before .before .before .before .before .before .before .before .before .before .before) in omega (arith, f .odd-values .long, f .room)
 
 same-length : tie.Need-same-length
 same-length c = search needs
@@ -116,8 +122,8 @@ returns c =
     let h = taps s in (
       dec2-gives f _ _ (c .before .before .before .before .before .before .before .dec2 .ensures) (omega (arith, h)) (omega arith),
       (
-        next 168 _ _ (f .even-values) (omega (arith, h)) (omega (arith, h)) (omega (arith, f .room)) (c .before .before .before .before .shift .kept .0) (c .before .before .before .before .shift .ensures),
-        next 168 _ _ (f .odd-values) (omega (arith, h)) (omega (arith, h)) (omega (arith, f .room)) (c .before .shift2 .kept .0) (c .before .shift2 .ensures),
+        next 168 _ _ (f .even-values) (omega (arith, h)) (omega (arith, h)) (c .before .before .before .before .shift .kept .0) (λ k q. c .before .before .before .before .shift .ensures k (omega (arith, h))),
+        next 168 _ _ (f .odd-values) (omega (arith, h)) (omega (arith, h)) (c .before .shift2 .kept .0) (λ k q. c .before .shift2 .ensures k (omega (arith, h))),
       ),
     )
 
@@ -138,7 +144,9 @@ step88-spec =
     part-dec2-start-2
     part-dec2-end-2
     dec2-requires
+    mul-shift
     shift-requires
+    mul-shift-2
     shift-requires-2
     same-length
     same-length-2
