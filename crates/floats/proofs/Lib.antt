@@ -4,3 +4,4 @@ pub mod Middle
 pub mod Eighth
 pub mod Interval
 pub mod Nearest
+pub mod Wholes

@@ -1,26 +1,27 @@
--- The scaling of a y below 2^32 in size by a bounded factor, and the clamp by its two tests.
+-- The scaling of a y below 2^32 in size by a bounded factor, and the clamp of the float that holds the result.
 use mathlib.Core.Path.{_≡_, refl, sym, _∙_}
 use Prim.Native.Nat.{ℕ, suc, _*_, _^_, _≤_, _<_}
-use native.Mathlib.Nat.{le-trans, le-of-eq, le-of-lt, mul-one, mul-le-mul-right, mul-le-mul, mul-mul-mul-comm, mul-pos}
+use native.Mathlib.Nat.{le-trans, le-of-eq, le-of-lt, lt-of-lt-of-le, mul-one, mul-le-mul-right, mul-le-mul, mul-mul-mul-comm, mul-pos}
 use native.Mathlib.Omega.{arith}
-use mathlib.Core.Bool.{Bool, true, false, cond, _||_}
-use borrow.Author.Tests.{ltb-false, le-ltb}
+use mathlib.Core.Bool.{Bool, true, false, cond}
+use borrow.Author.Tests.{ltb-false}
 use lib.IntN.{ℤ, pos, negsuc, natAbs}
-use lib.Signed.{ltZ}
+use lib.Signed.{ltZ, natAbs-le}
 use lib.Dec.{T, ltb, leb, leb→le, lit≤, lit<}
-use lib.Ieee.{Float, nan, inf, fin, binary64, up, down, mul, ofInt, round, unlike}
+use lib.Ieee.{Float, nan, inf, fin, binary64, up, down, mul, ne, ofInt, toSigned, inSigned, inFloat, round, unlike}
 use lib.Ieee.Fits.{and-r, down-pos, mul-fits}
 use lib.Ieee.Exact.{HasValue}
 use lib.Ieee.Back.{round-whole}
 use mir.Syntax.{w32}
-use mir.Val.{SFits}
+use mir.Val.{SFits, boolByte}
 use Rattle.numbers.specs.Lists.{total}
 use Rattle.reference.specs.Scaling.{eighth, scaled, clamp, clips}
 use Rattle.floats.specs.Whole.{whole-over, whole-of, below-51}
 use Rattle.floats.proofs.Bound.{AtMost, round-at-most}
 use Rattle.floats.proofs.Eighth.{an-eighth, eighth-is, eighth-below}
+use Rattle.floats.proofs.Wholes.{ne-whole, in-float, whole-back}
 use Rattle.gain.specs.Tallies.{tally}
-use Rattle.gain.specs.Scale.{bounded, Clamped}
+use Rattle.gain.specs.Scale.{bounded}
 
 -- ---- the product
 
@@ -61,33 +62,8 @@ module _ (y : ℤ) (factor : Float) (small : natAbs y < 2 ^ 32) (held : T (bound
       let p = mul binary64 (ofInt binary64 y) factor in
       eighth-is p (2 ^ 36) (mul-fits binary64 (ofInt binary64 y) factor) (product-at-most y factor small held) ∙ over-8 p
 
--- ---- the clamp
-one-told : (z : ℤ) (b : Bool) → clips z ≡ b → record { clipped = cond b 1 0 } ≡ tally (λ k. z) 0 1
-unfolding tally total
-one-told z true h = rw h
-one-told z false h = rw h
-
-or-true : (b : Bool) → (b || true) ≡ true
-or-true true = refl
-or-true false = refl
-
-irrefl : (z : ℤ) → ltZ z z ≡ false
-irrefl (pos n) = le-ltb n n (omega arith)
-irrefl (negsuc n) = le-ltb n n (omega arith)
-
-pub above : (z : ℤ) → ltZ (pos 8388607) z ≡ true → Clamped z (pos 8388607) (record { clipped = 1 })
-unfolding clamp clips
-above z h = record { is-sample = rw h; is-told = one-told z true (rw (h, h)) }
-
-pub below : (z : ℤ) → ltZ (pos 8388607) z ≡ false → ltZ z (negsuc 8388607) ≡ true → Clamped z (negsuc 8388607) (record { clipped = 1 })
-unfolding clamp clips
-below z h k = record { is-sample = rw (h, k); is-told = one-told z true (rw (h, k, k) (or-true (ltZ (negsuc 8388607) z))) }
-
-pub within : (z : ℤ) → ltZ (pos 8388607) z ≡ false → ltZ z (negsuc 8388607) ≡ false → Clamped z z (record { clipped = 0 })
-unfolding clamp clips
-within z h k = record { is-sample = rw (h, k); is-told = one-told z false (rw (h, k, irrefl z)) }
-
-pub small-fits : (z : ℤ) → ltZ (pos 8388607) z ≡ false → ltZ z (negsuc 8388607) ≡ false → SFits w32 z
+-- ---- the clamp, of a float that holds the number
+small-fits : (z : ℤ) → ltZ (pos 8388607) z ≡ false → ltZ z (negsuc 8388607) ≡ false → SFits w32 z
 small-fits (pos n) h k = record { sfits = omega (arith, ltb-false 8388607 n h) }
 small-fits (negsuc n) h k = record { sfits = omega (arith, ltb-false 8388607 n k) }
 
@@ -99,3 +75,20 @@ clamp-fits z = go (ltZ (pos 8388607) z) (ltZ z (negsuc 8388607)) refl refl
     go true b h k = record { sfits = lit< tt }
     go false true h k = record { sfits = lit< tt }
     go false false h k = small-fits z h k
+
+clamp-exact : (z : ℤ) → T (inFloat binary64 (clamp z))
+clamp-exact z = in-float binary64 (clamp z) (natAbs-le (clamp z) (lt-of-lt-of-le (clamp-fits z .sfits) (lit≤ tt)))
+
+-- as an i32
+pub clamp-back : (z : ℤ) → T (inSigned binary64 31 (ofInt binary64 (clamp z))) × (toSigned 31 (ofInt binary64 (clamp z)) ≡ clamp z)
+clamp-back z = whole-back binary64 31 (clamp z) (clamp-exact z) (clamp-fits z .sfits)
+
+-- whether it changed
+one-told : (z : ℤ) (b : Bool) → clips z ≡ b → record { clipped = boolByte b } ≡ tally (λ k. z) 0 1
+unfolding tally total
+one-told z true h = rw h
+one-told z false h = rw h
+
+pub clamp-told : (z : ℤ) → T (inFloat binary64 z) → record { clipped = boolByte (ne (ofInt binary64 (clamp z)) (ofInt binary64 z)) } ≡ tally (λ k. z) 0 1
+unfolding clips
+clamp-told z h = one-told z _ (sym (ne-whole binary64 (clamp z) z (clamp-exact z) h))

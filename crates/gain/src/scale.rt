@@ -4,7 +4,8 @@ ghost use Prim.Native.Nat.{ℕ, _^_, _<_};
 ghost use lib.Dec.{T};
 ghost use lib.IntN.{pos, natAbs};
 ghost use lib.ListN.{length, getD};
-ghost use Rattle.reference.specs.Scaling.{scaled};
+ghost use lib.Ieee.{binary64, ofInt, toSigned, inSigned};
+ghost use Rattle.reference.specs.Scaling.{scaled, clamp};
 ghost use Rattle.floats.specs.Whole.{whole-of, below-51};
 ghost use Rattle.gain.specs.Scale.{bounded, Clamped, ScaledBlock};
 use crate::Tally;
@@ -18,15 +19,29 @@ struct Scaled {
 
 const MAGIC: f64 = 6755399441055744.0;
 
+// A sample's range, as floats.
+const LOWEST: f64 = -8388608.0;
+
+const HIGHEST: f64 = 8388607.0;
+
 // The whole number nearest x, ties to even, for x below 2^51 in size: no bit below 1 is left beside MAGIC, 3 × 2^51.
-fn nearest_even(x: f64) -> i64
+fn nearest_even(x: f64) -> f64
     requires { ⌜ T (below-51 x) ⌝ }
-    ensures { λ r. ⌜ r ≡ whole-of x ⌝ }
+    ensures { λ r. ⌜ r ≡ ofInt binary64 (whole-of x) ⌝ }
 {
-    ((x + MAGIC) - MAGIC) as i64
+    (x + MAGIC) - MAGIC
 }
 
-// y as a sample.
+// z, a whole number, brought into a sample's range. The second test is of the first one's answer: so each is one instruction.
+fn clip(z: f64) -> f64
+    requires { ⌜ T (inSigned binary64 63 z) ⌝ }
+    ensures { λ r. ⌜ r ≡ ofInt binary64 (clamp (toSigned 63 z)) ⌝ }
+{
+    let capped = if z > HIGHEST { HIGHEST } else { z };
+    if capped < LOWEST { LOWEST } else { capped }
+}
+
+// y as a sample. The clamp comes before the cast, and nothing branches: so the machine scales several at once.
 fn scale(y: i64, factor: f64) -> Scaled
     requires { ⌜ natAbs y < 2 ^ 32 ⌝ }
     requires { ⌜ T (bounded factor) ⌝ }
@@ -34,21 +49,12 @@ fn scale(y: i64, factor: f64) -> Scaled
 {
     let x = (y as f64) * factor * 0.125;
     let z = nearest_even(x);
-    if z > 8388607 {
-        return Scaled {
-            sample: 8388607,
-            tally: Tally { clipped: 1 },
-        };
-    }
-    if z < -8388608 {
-        return Scaled {
-            sample: -8388608,
-            tally: Tally { clipped: 1 },
-        };
-    }
+    let s = clip(z);
     Scaled {
-        sample: z as i32,
-        tally: Tally { clipped: 0 },
+        sample: s as i32,
+        tally: Tally {
+            clipped: (s != z) as u64,
+        },
     }
 }
 
