@@ -7,8 +7,10 @@ use mathlib.Core.List.{List}
 use lib.Dec.{eqb}
 use lib.Ieee.{Float}
 use lib.ListN.{length}
-use Rattle.exports.specs.Codes.{known-rate, known-cutoff, known-flag}
-use Rattle.exports.specs.Calls.{Settings, Input, Results, Call, known-settings, room, open-understood, conversion-understood}
+use Rattle.interface.specs.Codes.{known-rate, known-cutoff, known-flag}
+use Rattle.interface.specs.Settings.{Settings, known-settings}
+use Rattle.interface.specs.Told.{room}
+use Rattle.exports.specs.Calls.{Input, Results, Call, open-understood, conversion-understood}
 
 pub both-true : (a b : Bool) → (a && b) ≡ true → (a ≡ true) × (b ≡ true)
 both-true true b h = (refl, h)

@@ -12,7 +12,9 @@ use Rattle.reference.specs.declared.Converter.{Converter}
 use Rattle.reference.specs.declared.Converted.{Converted}
 use Rattle.reference.specs.declared.Opened.{Opened}
 use Rattle.reference.proofs.Promises.{gain-exact, opening-exact, samples-exact, convert-exact}
-use Rattle.exports.specs.Calls.{Settings, Input, Results, Told, ToldWhole, Call, GainDone, GainCall, OpenCall, ConversionDone, ConvertRunCall, ConvertFrameCall, ConvertCall}
+use Rattle.interface.specs.Settings.{Settings}
+use Rattle.interface.specs.Told.{Told, ToldWhole}
+use Rattle.exports.specs.Calls.{Input, Results, Call, GainDone, GainCall, OpenCall, ConversionDone, ConvertRunCall, ConvertFrameCall, ConvertCall}
 
 -- the answers are equal, and what R says holds, if both follow in either case of the call
 call-exact : (u : Bool) {a a' : ℕ} {K K' D D' R : Type 0} → Call u a K D → Call u a' K' D' → (K → K' → R) → (D → D' → (a ≡ a') × R) → (a ≡ a') × R

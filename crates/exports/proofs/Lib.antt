@@ -1,3 +1,2 @@
-mod Lists
 mod Calls
 pub mod Exact

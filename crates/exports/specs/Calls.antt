@@ -5,40 +5,22 @@ use mathlib.Core.Bool.{Bool, true, false, _&&_}
 use Prim.Native.Nat.{ℕ}
 use lib.Dec.{eqb}
 use lib.IntN.{ℤ}
-use lib.Ieee.{Float, nan}
-use lib.ListN.{length, getD}
+use lib.Ieee.{Float}
+use lib.ListN.{length}
 use Rattle.reference.specs.Frames.{Run, run}
 use Rattle.reference.specs.Stages.{reach}
 use Rattle.reference.specs.Output.{samples-per-frame}
-use Rattle.reference.specs.Refusals.{Decision, refusal-number, decision, gain-decision}
+use Rattle.reference.specs.Refusals.{decision, gain-decision}
 use Rattle.reference.specs.Promises.{by-decision, GainPromise, OpeningPromise, ConvertRunPromise, ConvertFramePromise, ConvertPromise}
 use Rattle.reference.specs.declared.Converter.{Converter}
 use Rattle.reference.specs.declared.FromDb.{FromDb}
-use Rattle.reference.specs.declared.FromDb.the-variants.{Made, Refused}
 use Rattle.reference.specs.declared.Opened.{Opened}
 use Rattle.reference.specs.declared.Converted.{Converted}
-use Rattle.exports.specs.Codes.{known-rate, rate-of, known-cutoff, cutoff-of, known-flag, flag, data-numbers, carried-decibels}
+use Rattle.interface.specs.Codes.{known-flag, flag}
+use Rattle.interface.specs.Settings.{Settings, known-settings, converter-of}
+use Rattle.interface.specs.Told.{room, room-for-all, Told, ToldWhole, gain-floats}
 
 -- ---- arguments
-
--- a converter's settings: numbers, and the gain record as decibels and factor
-pub record Settings : Type 0 where
-  pub rate : ℕ
-  pub cutoff : ℕ
-  pub channels : ℕ
-  pub gain : List Float
-
-abbrev pub settings : ℕ → ℕ → ℕ → List Float → Settings
-settings r c n g = record { rate = r; cutoff = c; channels = n; gain = g }
-
--- a known rate and cutoff, and a gain of two floats
-abbrev pub known-settings : ℕ → ℕ → ℕ → Bool
-known-settings rate cutoff floats = known-rate rate && (known-cutoff cutoff && eqb floats 2)
-
--- the converter that known settings stand for
-unfoldable pub converter-of : Settings → Converter
-converter-of s =
-    record { rate = rate-of (s .rate); cutoff = cutoff-of (s .cutoff); channels = s .channels; gain = record { db = getD (s .gain) 0 nan; linear = getD (s .gain) 1 nan } }
 
 -- a run whose neighbours are there by a flag
 pub record Input : Type 0 where
@@ -65,34 +47,12 @@ pub record Results : Type 0 where
 abbrev pub results : List ℕ → List ℕ → List Float → Results
 results c n d = record { clipped = c; numbers = n; decibels = d }
 
--- room for a refusal's data, and for clip counts besides: the lists' lengths
-abbrev pub room : ℕ → ℕ → Bool
-room numbers decibels = eqb numbers 2 && eqb decibels 1
-
-abbrev pub room-for-all : ℕ → ℕ → ℕ → Bool
-room-for-all clipped numbers decibels = eqb clipped 6 && room numbers decibels
-
--- what every call tells of its decision
-pub record Told (d : Decision) (answer : ℕ) (decibels' : List Float) : Type 0 where
-  pub number : answer ≡ refusal-number d
-  pub decibels : decibels' ≡ carried-decibels d ∷ []
-
--- and where a list is lent for the data
-pub record ToldWhole (d : Decision) (answer : ℕ) (numbers' : List ℕ) (decibels' : List Float) : Type 0 where
-  pub told : Told d answer decibels'
-  pub numbers : numbers' ≡ data-numbers d
-
 -- ---- calls
 
 -- a call whose arguments are understood is done; any other answers 255 and keeps every lent list
 pub record Call (understood : Bool) (answer : ℕ) (Kept Done : Type 0) : Type 0 where
   pub unclear : understood ≡ false → (answer ≡ 255) × Kept
   pub done : understood ≡ true → Done
-
--- decibels and factor of a gain that was made
-abbrev pub gain-floats : FromDb → List Float → List Float
-gain-floats (Made g) old = g .db ∷ g .linear ∷ []
-gain-floats (Refused e) old = old
 
 -- the gain call's answer keeps its promise, and is told
 pub record GainDone (db : Float) (gain gain' decibels' : List Float) (answer : ℕ) : Type 0 where

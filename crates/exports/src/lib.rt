@@ -1,14 +1,23 @@
 // The converter's calls for C and Rust. None asks anything of its arguments: where they are not understood, a call answers 255 and writes nothing.
 ghost use mathlib.Core.Path.{_≡_};
-ghost use mathlib.Core.Bool.{_&&_};
-ghost use Rattle.reference.specs.Promises.{PackPromise};
-ghost use Rattle.exports.specs.Codes.{known-flag};
-ghost use Rattle.exports.specs.Calls.{settings, input, results, known-settings, room-for-all, GainCall, OpenCall, ConvertRunCall, ConvertFrameCall, ConvertCall};
-
-mod codes;
-mod results;
-
-use codes::both;
+ghost use lib.ListN.{length};
+ghost use Rattle.reference.specs.Refusals.{decision};
+ghost use Rattle.reference.specs.Promises.{by-decision, PackPromise};
+ghost use Rattle.interface.specs.Settings.{settings};
+ghost use Rattle.interface.specs.Told.{ToldWhole};
+ghost use Rattle.exports.specs.Calls.{input, results, opened-numbers, GainCall, OpenCall, ConvertRunCall, ConvertFrameCall, ConvertCall};
+use interface::both;
+use interface::converter;
+use interface::known_flag;
+use interface::known_settings;
+use interface::put_two;
+use interface::room;
+use interface::tell;
+use interface::tell_conversion;
+use interface::tell_gain;
+use interface::understood;
+use reference::Opened;
+use reference::Verdict;
 
 // The gain record of some decibels.
 #[no_mangle]
@@ -17,9 +26,30 @@ pub extern "C" fn scarletbook_gain(db: f64, gain: &mut [f64], decibels: &mut [f6
 {
     if both(gain.len() == 2, decibels.len() == 1) {
         let made = gain::from_db(db);
-        return results::tell_gain(made, gain, decibels);
+        return tell_gain(made, gain, decibels);
     }
     255
+}
+
+// An opening's decision is told, and its numbers are written if it was accepted.
+fn tell_opening(made: Opened, opened: &mut [u64], data: &mut [u64], decibels: &mut [f64]) -> u8
+    requires { ⌜ length (now opened) ≡ 2 ⌝ }
+    requires { ⌜ (length (now «data») ≡ 2) × (length (now decibels) ≡ 1) ⌝ }
+    ensures { λ r. ⌜ ToldWhole (decision (made .verdict)) r (now («data» .exit)) (now (decibels .exit)) ⌝ }
+    ensures { λ _. ⌜ now (opened .exit) ≡ by-decision (decision (made .verdict)) (opened-numbers (made .converter)) (now (opened .entry)) ⌝ }
+{
+    let verdict = made.verdict;
+    match verdict {
+        Verdict::Accepted => {
+            let conv = made.converter;
+            let rate = conv.rate;
+            let per_frame = scarletbook_pcm::samples_per_frame(rate);
+            let reach = scarletbook_pcm::context_bytes(conv);
+            put_two(opened, per_frame as u64, reach as u64);
+            tell(verdict, data, decibels)
+        }
+        Verdict::Refused(_) => tell(verdict, data, decibels),
+    }
 }
 
 // Samples per frame and reach of an accepted converter.
@@ -35,33 +65,13 @@ pub extern "C" fn scarletbook_open(
 ) -> u8
     ensures { λ r. ⌜ OpenCall (settings rate cutoff channels (now (gain .entry))) (now (opened .entry)) (now (opened .exit)) (now («data» .entry)) (now («data» .exit)) (now (decibels .entry)) (now (decibels .exit)) r ⌝ }
 {
-    let known = codes::known_settings(rate, cutoff, gain.len());
-    let fits = both(opened.len() == 2, results::room(data.len(), decibels.len()));
+    let known = known_settings(rate, cutoff, gain.len());
+    let fits = both(opened.len() == 2, room(data.len(), decibels.len()));
     if both(known, fits) {
-        let made = scarletbook_pcm::open(codes::converter(rate, cutoff, channels, gain));
-        return results::tell_opening(made, opened, data, decibels);
+        let made = scarletbook_pcm::open(converter(rate, cutoff, channels, gain));
+        return tell_opening(made, opened, data, decibels);
     }
     255
-}
-
-// What each conversion asks first: its numbers, and the lengths of its gain and result lists.
-fn understood(
-    rate: u32,
-    cutoff: u8,
-    floats: usize,
-    has_before: u8,
-    has_after: u8,
-    clipped: usize,
-    data: usize,
-    decibels: usize,
-) -> bool
-    ensures { λ r. ⌜ r ≡ (known-settings rate cutoff floats && (known-flag «has_before» && (known-flag «has_after» && room-for-all clipped «data» decibels))) ⌝ }
-{
-    let known = codes::known_settings(rate, cutoff, floats);
-    let before = codes::known_flag(has_before);
-    let after = codes::known_flag(has_after);
-    let fits = results::room_for_all(clipped, data, decibels);
-    both(known, both(before, both(after, fits)))
 }
 
 // 32-bit samples of a run.
@@ -93,7 +103,7 @@ pub extern "C" fn scarletbook_convert_run<'a>(
         data.len(),
         decibels.len(),
     ) {
-        let conv = codes::converter(rate, cutoff, channels, gain);
+        let conv = converter(rate, cutoff, channels, gain);
         let made = scarletbook_pcm::convert_run_parts(
             conv,
             has_before == 1,
@@ -103,7 +113,7 @@ pub extern "C" fn scarletbook_convert_run<'a>(
             after,
             out,
         );
-        return results::tell_conversion(made, clipped, data, decibels);
+        return tell_conversion(made, clipped, data, decibels);
     }
     255
 }
@@ -137,7 +147,7 @@ pub extern "C" fn scarletbook_convert_frame<'a>(
         data.len(),
         decibels.len(),
     ) {
-        let conv = codes::converter(rate, cutoff, channels, gain);
+        let conv = converter(rate, cutoff, channels, gain);
         let made = scarletbook_pcm::convert_frame_parts(
             conv,
             has_before == 1,
@@ -147,7 +157,7 @@ pub extern "C" fn scarletbook_convert_frame<'a>(
             after,
             out,
         );
-        return results::tell_conversion(made, clipped, data, decibels);
+        return tell_conversion(made, clipped, data, decibels);
     }
     255
 }
@@ -183,8 +193,8 @@ pub extern "C" fn scarletbook_convert<'a>(
         data.len(),
         decibels.len(),
     );
-    if both(codes::known_flag(lent), known) {
-        let conv = codes::converter(rate, cutoff, channels, gain);
+    if both(known_flag(lent), known) {
+        let conv = converter(rate, cutoff, channels, gain);
         let made = scarletbook_pcm::convert_parts(
             conv,
             has_before == 1,
@@ -196,7 +206,7 @@ pub extern "C" fn scarletbook_convert<'a>(
             out,
             counts,
         );
-        return results::tell_conversion(made, clipped, data, decibels);
+        return tell_conversion(made, clipped, data, decibels);
     }
     255
 }

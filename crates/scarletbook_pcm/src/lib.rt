@@ -1,6 +1,5 @@
 // The converter's calls. None asks anything: a call that document 01's table turns down is refused, and all lent memory keeps its contents.
 ghost use mathlib.Core.Path.{_≡_};
-ghost use Prim.Native.Nat.{_≤_};
 ghost use Rattle.reference.specs.Frames.{run};
 ghost use Rattle.reference.specs.Output as output;
 ghost use Rattle.reference.specs.Stages.{reach};
@@ -12,7 +11,6 @@ use reference::Cutoff;
 use reference::Opened;
 use reference::PcmRate;
 
-mod checks;
 mod record;
 mod work;
 

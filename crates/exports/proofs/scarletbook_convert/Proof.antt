@@ -3,8 +3,9 @@ use mathlib.Core.Path.{_≡_, refl}
 use mathlib.Core.Bool.{Bool, true, false, _&&_}
 use denote.Ref.{now}
 use borrow.Author.Needs.{needs}
-use Rattle.exports.specs.Codes.{known-flag}
-use Rattle.exports.specs.Calls.{Settings, Input, Results, settings, input, results, conversion-understood}
+use Rattle.interface.specs.Codes.{known-flag}
+use Rattle.interface.specs.Settings.{Settings, settings}
+use Rattle.exports.specs.Calls.{Input, Results, input, results, conversion-understood}
 use Rattle.exports.proofs.Calls.{both-true, Lengths, lengths, turned-away, worked}
 use Rattle.exports.proofs.scarletbook_convert.Statement.{statement}
 use Rattle.exports.proofs.scarletbook_convert.Tie as tie

@@ -3,7 +3,8 @@ use mathlib.Core.Path.{_≡_, refl}
 use mathlib.Core.Bool.{Bool, true, false}
 use denote.Ref.{now}
 use borrow.Author.Needs.{needs}
-use Rattle.exports.specs.Calls.{Settings, settings, open-understood}
+use Rattle.interface.specs.Settings.{Settings, settings}
+use Rattle.exports.specs.Calls.{open-understood}
 use Rattle.exports.proofs.Calls.{Lengths, open-lengths, turned-away, worked}
 use Rattle.exports.proofs.scarletbook_open.Statement.{statement}
 use Rattle.exports.proofs.scarletbook_open.Tie as tie

@@ -4,7 +4,8 @@ use borrow.Author.Needs.{needs}
 use denote.Ref.{now}
 use Rattle.reference.specs.Refusals.{Place, convert-frame-places}
 use Rattle.reference.specs.Frames.{Run, run}
-use Rattle.scarletbook_pcm.proofs.Steps.{passed, turned-down, frame-accepted, samples-promise, samples-refused}
+use Rattle.checks.proofs.Steps.{passed, turned-down}
+use Rattle.scarletbook_pcm.proofs.Answers.{frame-accepted, samples-promise, samples-refused}
 use Rattle.scarletbook_pcm.proofs.convert_frame_parts.Statement.{statement}
 use Rattle.scarletbook_pcm.proofs.convert_frame_parts.Tie as tie
 

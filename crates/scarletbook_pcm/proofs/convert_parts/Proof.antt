@@ -6,7 +6,8 @@ use denote.Ref.{now}
 use Rattle.reference.specs.Refusals.{Place, convert-places}
 use Rattle.reference.specs.Output.{per-frame-clips}
 use Rattle.reference.specs.Frames.{Run, run}
-use Rattle.scarletbook_pcm.proofs.Steps.{passed, turned-down, bytes-accepted, convert-promise, convert-refused, counts-lent, counts-kept}
+use Rattle.checks.proofs.Steps.{passed, turned-down}
+use Rattle.scarletbook_pcm.proofs.Answers.{bytes-accepted, convert-promise, convert-refused, counts-lent, counts-kept}
 use Rattle.scarletbook_pcm.proofs.convert_parts.Statement.{statement}
 use Rattle.scarletbook_pcm.proofs.convert_parts.Tie as tie
 

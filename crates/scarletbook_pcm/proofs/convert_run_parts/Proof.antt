@@ -4,7 +4,8 @@ use borrow.Author.Needs.{needs}
 use denote.Ref.{now}
 use Rattle.reference.specs.Refusals.{Place, convert-run-places}
 use Rattle.reference.specs.Frames.{Run, run}
-use Rattle.scarletbook_pcm.proofs.Steps.{passed, turned-down, run-accepted, samples-promise, samples-refused}
+use Rattle.checks.proofs.Steps.{passed, turned-down}
+use Rattle.scarletbook_pcm.proofs.Answers.{run-accepted, samples-promise, samples-refused}
 use Rattle.scarletbook_pcm.proofs.convert_run_parts.Statement.{statement}
 use Rattle.scarletbook_pcm.proofs.convert_run_parts.Tie as tie
 

@@ -1,0 +1,49 @@
+-- `item_lengths` meets its contract.
+use mathlib.Core.List.{List}
+use mathlib.Core.Bool.{not}
+use mathlib.Core.Path.{ap, sym, _∙_}
+use borrow.Author.Tests.{ne-eqb, eq-eqb}
+use borrow.Author.Needs.{needs}
+use denote.Ref.{now}
+use Rattle.reference.specs.Refusals.{Place, input-places, run-lengths, lent-length}
+use Rattle.reference.specs.Output.{channel-samples, all-samples}
+use Rattle.reference.specs.Frames.{Run, run}
+use Rattle.reference.proofs.Refusals.{at-first, at-next, at-end, few-frames}
+use Rattle.checks.proofs.Steps.{passed, stands, goes-on}
+use Rattle.checks.proofs.item_lengths.Statement.{statement}
+use Rattle.checks.proofs.item_lengths.Tie as tie
+
+input-requires : tie.Need-input-requires
+input-requires c κs = search needs
+
+accepted-requires : tie.Need-accepted-requires
+accepted-requires c κs = search needs
+
+abbrev run-of : (s : tie.Start) → Run
+run-of s = run (s .args .has-before) (now (s .args .before)) (now (s .args .frames)) (s .args .has-after) (now (s .args .after))
+
+abbrev first : (s : tie.Start) → List Place
+first s = input-places (s .args .conv) (run-of s)
+
+all-samples-requires : tie.Need-all-samples-requires
+all-samples-requires c κs = let s = c .before .before .before .before .before .before in (s .pre, few-frames (s .args .conv) (run-of s) (passed (first s) (c .before .before .input .ensures) (c .before .accepted .ensures) (c .if1 .taken)))
+
+returns : tie.Need-returns
+unfolding run-lengths lent-length all-samples channel-samples
+returns c = let s = c .before .before .before .before .before .before .before .before in
+    sym (goes-on (first s) (c .before .before .before .before .input .ensures) (c .before .before .before .accepted .ensures) _ (c .before .before .if1 .taken) ∙ rw (← c .before .all-samples .ensures .0) (at-first _ _ (ap not (ne-eqb _ _ (c .if2 .taken)))))
+
+returns-2 : tie.Need-returns-2
+unfolding run-lengths lent-length all-samples channel-samples
+returns-2 c = let s = c .before .before .before .before .before .before .before .before in
+    c .before .before .before .before .input .ensures ∙ passed (first s) (c .before .before .before .before .input .ensures) (c .before .before .before .accepted .ensures) (c .before .before .if1 .taken)
+    ∙ sym (goes-on (first s) (c .before .before .before .before .input .ensures) (c .before .before .before .accepted .ensures) _ (c .before .before .if1 .taken) ∙ rw (← c .before .all-samples .ensures .0) (at-next _ _ (ap not (eq-eqb _ _ (c .if2 .left))) ∙ at-end))
+
+returns-3 : tie.Need-returns-3
+unfolding run-lengths
+returns-3 c = let s = c .before .before .before .before .before .before in stands (first s) (c .before .before .input .ensures) (c .before .accepted .ensures) _ (c .if1 .left)
+
+pub item-lengths-spec : {M : Type 1} → statement M
+item-lengths-spec =
+    tie.close
+    (tie.spec input-requires accepted-requires all-samples-requires returns returns-2 returns-3)

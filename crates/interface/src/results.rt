@@ -1,0 +1,151 @@
+// What a call tells: the number of its decision, and data, decibels and clip counts in lent lists.
+ghost use mathlib.Core.Path.{_≡_};
+ghost use mathlib.Core.List.{[], _∷_};
+ghost use lib.ListN.{length};
+ghost use Rattle.reference.specs.Refusals.{error-decision, decision, gain-decision};
+ghost use Rattle.reference.specs.Scaling.{whole};
+ghost use Rattle.interface.specs.Codes.{report};
+ghost use Rattle.interface.specs.Told as told;
+ghost use Rattle.interface.specs.Told.{Told, ToldWhole, gain-floats};
+use crate::codes::both;
+use crate::codes::cutoff_number;
+use crate::codes::hertz;
+use reference::ConvertStats;
+use reference::Converted;
+use reference::FromDb;
+use reference::PcmError;
+use reference::Verdict;
+
+// A decision's number, data and decibels.
+pub struct Report {
+    pub number: u8,
+    pub first: u64,
+    pub second: u64,
+    pub decibels: f64,
+}
+
+fn numbers(number: u8, first: u64, second: u64) -> Report
+    ensures { λ r. ⌜ r ≡ record { number = number; first = first; second = second; decibels = whole 0 } ⌝ }
+{
+    Report {
+        number,
+        first,
+        second,
+        decibels: 0.0,
+    }
+}
+
+pub fn of_error(e: PcmError) -> Report
+    ensures { λ r. ⌜ r ≡ report (error-decision e) ⌝ }
+{
+    match e {
+        PcmError::Channels(n) => numbers(1, n as u64, 0),
+        PcmError::Unsupported(rate, cutoff) => numbers(2, hertz(rate), cutoff_number(cutoff)),
+        PcmError::Gain(db) => Report {
+            number: 3,
+            first: 0,
+            second: 0,
+            decibels: db,
+        },
+        PcmError::InputLength(n, kind) => numbers(4, n as u64, kind as u64),
+        PcmError::Frames(n) => numbers(5, n as u64, 0),
+        PcmError::OutputLength(n, expected) => numbers(6, n as u64, expected as u64),
+        PcmError::OutputBytes(n, expected) => numbers(7, n as u64, expected as u64),
+        PcmError::FrameCounts(n, expected) => numbers(8, n as u64, expected as u64),
+    }
+}
+
+pub fn of_verdict(v: Verdict) -> Report
+    ensures { λ r. ⌜ r ≡ report (decision v) ⌝ }
+{
+    match v {
+        Verdict::Accepted => numbers(0, 0, 0),
+        Verdict::Refused(e) => of_error(e),
+    }
+}
+
+// The lengths of the lists for data and decibels.
+pub fn room(data: usize, decibels: usize) -> bool
+    ensures { λ r. ⌜ r ≡ told.room «data» decibels ⌝ }
+{
+    both(data == 2, decibels == 1)
+}
+
+// And of that for clip counts.
+pub fn room_for_all(clipped: usize, data: usize, decibels: usize) -> bool
+    ensures { λ r. ⌜ r ≡ told.room-for-all clipped «data» decibels ⌝ }
+{
+    both(clipped == 6, room(data, decibels))
+}
+
+// Two numbers in a list of two.
+pub fn put_two(list: &mut [u64], first: u64, second: u64)
+    requires { ⌜ length (now list) ≡ 2 ⌝ }
+    ensures { λ _. ⌜ now (list .exit) ≡ first ∷ second ∷ [] ⌝ }
+{
+    list[0] = first;
+    list[1] = second;
+}
+
+// Clip counts.
+pub fn put_counts(stats: ConvertStats, clipped: &mut [u64])
+    requires { ⌜ length (now clipped) ≡ 6 ⌝ }
+    ensures { λ _. ⌜ now (clipped .exit) ≡ stats .clipped ⌝ }
+{
+    let counts = stats.clipped;
+    let mut c = 0usize;
+    while c < 6 {
+        clipped[c] = counts[c];
+        c += 1;
+    }
+}
+
+// A decision's number is answered, its data and decibels written.
+pub fn tell(v: Verdict, data: &mut [u64], decibels: &mut [f64]) -> u8
+    requires { ⌜ (length (now «data») ≡ 2) × (length (now decibels) ≡ 1) ⌝ }
+    ensures { λ r. ⌜ ToldWhole (decision v) r (now («data» .exit)) (now (decibels .exit)) ⌝ }
+{
+    let report = of_verdict(v);
+    put_two(data, report.first, report.second);
+    decibels[0] = report.decibels;
+    report.number
+}
+
+// The same of a gain, whose record is written if it was made.
+pub fn tell_gain(made: FromDb, gain: &mut [f64], decibels: &mut [f64]) -> u8
+    requires { ⌜ (length (now gain) ≡ 2) × (length (now decibels) ≡ 1) ⌝ }
+    ensures { λ r. ⌜ Told (gain-decision made) r (now (decibels .exit)) ⌝ }
+    ensures { λ _. ⌜ now (gain .exit) ≡ gain-floats made (now (gain .entry)) ⌝ }
+{
+    match made {
+        FromDb::Made(g) => {
+            gain[0] = g.db;
+            gain[1] = g.linear;
+            decibels[0] = 0.0;
+            0
+        }
+        FromDb::Refused(e) => {
+            let report = of_error(e);
+            decibels[0] = report.decibels;
+            report.number
+        }
+    }
+}
+
+// The same of a conversion, with its clip counts.
+pub fn tell_conversion(
+    made: Converted,
+    clipped: &mut [u64],
+    data: &mut [u64],
+    decibels: &mut [f64],
+) -> u8
+    requires { ⌜ length (now clipped) ≡ 6 ⌝ }
+    requires { ⌜ (length (now «data») ≡ 2) × (length (now decibels) ≡ 1) ⌝ }
+    ensures { λ r. ⌜ ToldWhole (decision (made .verdict)) r (now («data» .exit)) (now (decibels .exit)) ⌝ }
+    ensures { λ _. ⌜ now (clipped .exit) ≡ made .stats .clipped ⌝ }
+{
+    let stats = made.stats;
+    put_counts(stats, clipped);
+    let verdict = made.verdict;
+    tell(verdict, data, decibels)
+}
