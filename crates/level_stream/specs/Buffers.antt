@@ -1,6 +1,6 @@
 -- The buffer of three frames (the one before, the one at hand, the one after), what is counted of them, and the report's end.
 use mathlib.Core.Bool.{Bool, cond}
-use mathlib.Core.List.{List, _++_}
+use mathlib.Core.List.{List}
 use Prim.Native.Nat.{ℕ, _-_, _*_}
 use lib.Dec.{eqb, ltb}
 use lib.IntN.{ℤ}
@@ -15,10 +15,6 @@ use Rattle.report_lines.specs.Lines.{last-line, refused-line}
 -- the elements from a place up to another
 abbrev pub part : ℕ → ℕ → List ℕ → List ℕ
 part a e l = take (e - a) (drop a l)
-
--- the frames move one place to the front; the last stays where it was, too
-unfoldable pub moved-on : ℕ → List ℕ → List ℕ
-moved-on size three = drop size three ++ drop (2 * size) three
 
 -- the frame at hand with its neighbours: frame `number` of the input, which has one before unless it is the first
 unfoldable pub at-hand : ℕ → Bool → ℕ → List ℕ → Run

@@ -6,10 +6,11 @@ ghost use lib.Dec.{eqb};
 ghost use lib.ListN.{length};
 ghost use Rattle.levels.specs.Levels.{FrameReported};
 ghost use Rattle.report_lines.specs.Text.{with-text};
+ghost use Rattle.level_input.specs.Moved.{moved-on};
 ghost use Rattle.level_stream.specs.Buffers as buffers;
-ghost use Rattle.level_stream.specs.Buffers.{moved-on, at-hand, clips-at-hand};
-use crate::input::fill;
-use crate::input::move_on;
+ghost use Rattle.level_stream.specs.Buffers.{at-hand, clips-at-hand};
+use level_input::fill;
+use level_input::move_on;
 use levels::Reported;
 use reference::Converter;
 

@@ -2,17 +2,16 @@
 ghost use Prim.Native.Nat.{_≤_};
 ghost use lib.ListN.{length};
 use reference::Verdict;
-use report_lines::FirstLine;
-use report_lines::Settings;
+use settings_line::FirstLine;
+use settings_line::Settings;
 
 mod frames;
-mod input;
 
 // Reads the line from one descriptor and the frames from another, which may be the same, and writes the report to a third. A read or a write
 // that fails ends the report where it is, with a word on standard error.
 pub fn report(line_from: i32, frames_from: i32, to: i32) {
     let mut line = [0u8; 23];
-    let came = input::read_line(line_from, &mut line);
+    let came = level_input::read_line(line_from, &mut line);
     if came.failed {
         os::fail(b"read");
         return;
@@ -32,7 +31,7 @@ fn refused_settings(to: i32) {
 fn settings(line: &[u8], n: usize, from: i32, to: i32)
     requires { ⌜ n ≤ length (now line) ⌝ }
 {
-    let first = report_lines::first_line(&line[..n]);
+    let first = settings_line::first_line(&line[..n]);
     match first {
         FirstLine::Set(s) => opened(s, from, to),
         FirstLine::Refused => refused_settings(to),

@@ -18,7 +18,7 @@ use Rattle.reference.specs.declared.Converter.{Converter}
 use Rattle.report_lines.specs.Text.{joined, Printed}
 use Rattle.report_lines.specs.Lines.{level-line}
 use Rattle.report_lines.specs.declared.Level.{Level}
-use Rattle.report_lines.specs.declared.Settings.{Settings}
+use Rattle.settings_line.specs.declared.Settings.{Settings}
 use Rattle.levels.specs.declared.Reported.{Reported}
 
 -- ---- settings

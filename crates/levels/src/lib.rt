@@ -18,7 +18,7 @@ use reference::Opened;
 use reference::PcmError;
 use reference::Verdict;
 use report_lines::Level;
-use report_lines::Settings;
+use settings_line::Settings;
 
 // What is told of a frame: how the call was decided, how long its lines are, and its clips over all channels.
 pub struct Reported {

@@ -2,16 +2,15 @@
 use mathlib.Core.Path.{_≡_, refl, ap, _∙_}
 use mathlib.Core.Bool.{true, false, true≢false}
 use mathlib.Core.List.{_∷_}
-use Prim.Native.Nat.{ℕ, suc, _<_, _≤_}
+use Prim.Native.Nat.{suc, _≤_}
 use native.Mathlib.Omega.{arith}
 use lib.Dec.{T}
-use lib.IntN.{ℤ, pos, negsuc, negℤ, natAbs, _-ℤ_, +ℤ-idl}
+use lib.IntN.{ℤ, pos, negsuc, natAbs, _-ℤ_, +ℤ-idl}
 use lib.Signed.{ltZ, nonNeg, natAbs-le}
 use mir.Syntax.{w32, w64}
 use mir.Val.{SFits, Fits, toZ, ofZ}
-use mir.Facts.{toZ-ofZ, toZ-pos}
+use mir.Facts.{toZ-ofZ}
 use borrow.Author.Tests.{ltb-true}
-use Rattle.numbers.proofs.Integers.{sfits-abs, abs-neg}
 use Rattle.numbers.proofs.Machine.{wide-is}
 use Rattle.report_lines.specs.Text.{decimal, signed}
 
@@ -63,14 +62,3 @@ module _ (z : ℤ) (f : SFits w32 z) where
 
   pub plain-text : ltZ v (pos 0) ≡ false → signed z ≡ decimal (natAbs v)
   plain-text e = rw (toZ-ofZ f) (without z (rw (toZ-ofZ f) at e))
-
--- -n of an n that is small
-module _ (n : ℕ) (h : n < 2147483648) where
-  negated : pos 0 -ℤ toZ w32 n ≡ negℤ (pos n)
-  negated = rw (toZ-pos w32 h) (+ℤ-idl (negℤ (pos n)))
-
-  pub negated-fits : SFits w32 (pos 0 -ℤ toZ w32 n)
-  negated-fits = rw negated (sfits-abs (rw (abs-neg (pos n)) h))
-
-  pub negated-is : toZ w32 (ofZ w32 (pos 0 -ℤ toZ w32 n)) ≡ negℤ (pos n)
-  negated-is = toZ-ofZ negated-fits ∙ negated

@@ -1,4 +1,2 @@
 pub mod Text
-pub mod Settings
-pub mod Reading
 pub mod Lines

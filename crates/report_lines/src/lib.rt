@@ -1,27 +1,10 @@
-// The lines of the level report: the first, which it reads, and those that it prints.
+// The lines that the level report prints.
 ghost use Prim.Native.Nat.{_+_, _≤_};
 ghost use lib.ListN.{length};
 ghost use Rattle.report_lines.specs.Text.{Printed};
 ghost use Rattle.report_lines.specs.Lines as lines;
-ghost use Rattle.report_lines.specs.Settings.{LineRead};
-use reference::Cutoff;
-use reference::PcmRate;
 
-mod reading;
 mod text;
-
-// What the first line sets.
-pub struct Settings {
-    pub rate: PcmRate,
-    pub cutoff: Cutoff,
-    pub channels: u8,
-    pub db: i32,
-}
-
-pub enum FirstLine {
-    Set(Settings),
-    Refused,
-}
 
 // What is told of one channel of a frame.
 pub struct Level {
@@ -29,13 +12,6 @@ pub struct Level {
     pub low: i32,
     pub high: i32,
     pub over: u64,
-}
-
-// Reads the first line, without its newline.
-pub fn first_line(line: &[u8]) -> FirstLine
-    ensures { λ r. ⌜ LineRead (now (line .entry)) r ⌝ }
-{
-    reading::rate(line)
 }
 
 // Channel c of frame f.

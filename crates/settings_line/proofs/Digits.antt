@@ -1,0 +1,80 @@
+-- Laws of `NumberRead`: a number digit by digit.
+use mathlib.Core.Path.{_≡_, refl, sym, ap, _∙_}
+use mathlib.Core.Logic.{⊎-elim}
+use mathlib.Core.List.{List, [], _∷_, _++_}
+use Prim.Native.Nat.{ℕ, _+_, _*_, _/_, _%_, _≤_, _<_}
+use native.Mathlib.Omega.{arith}
+use lib.ListN.{length, take, getD, length-append}
+use lib.Seq.{take-at, getD-at}
+use Rattle.numbers.proofs.Lists.{below-or}
+use Rattle.report_lines.specs.Text.{decimal}
+use Rattle.settings_line.specs.Reading.{NumberRead}
+use Rattle.report_lines.proofs.Numerals.{one-digit, last-digit, some-digit}
+
+-- the same last element, and the same before it
+unsnoc : (s t : List ℕ) (a b : ℕ) → s ++ (a ∷ []) ≡ t ++ (b ∷ []) → (s ≡ t) × (a ≡ b)
+unsnoc s t a b e =
+    let n : length s ≡ length t = omega (arith, simp length-append at (ap length e)) in (
+      sym (take-at s (a ∷ []) (length t) n) ∙ ap (take (length t)) e ∙ take-at t (b ∷ []) (length t) refl,
+      sym (getD-at s a [] 0 (length t) n) ∙ ap (λ (l : List ℕ). getD l (length t) 0) e ∙ getD-at t b [] 0 (length t) refl,
+    )
+
+-- a number whose text is one digit, or a text and a digit after it
+single : (b n : ℕ) → b ∷ [] ≡ decimal n → (n < 10) × (b ≡ 48 + n)
+single b n e =
+    ⊎-elim (λ l. (l, cc (one-digit n l)))
+    (λ l. absurd (omega (arith, some-digit (n / 10), simp length-append at (ap length (e ∙ last-digit n l)))))
+    (below-or n 10)
+
+split : (t : List ℕ) (b n : ℕ) → 0 < length t → t ++ (b ∷ []) ≡ decimal n → (10 ≤ n) × (t ≡ decimal (n / 10)) × (b ≡ 48 + n % 10)
+split t b n h e =
+    ⊎-elim (λ l. absurd (omega (arith, simp length-append at (ap length (e ∙ one-digit n l)))))
+    (λ l. let u = unsnoc t (decimal (n / 10)) b (48 + n % 10) (e ∙ last-digit n l) in (l, u .0, u .1))
+    (below-or n 10)
+
+pub empty : (t : List ℕ) → length t ≡ 0 → NumberRead t 1000
+empty t z =
+    record {
+      takes = λ n h e. absurd (omega (arith, some-digit n, ap length e));
+      takes-only = λ h. absurd (omega arith);
+    }
+
+-- a digit, and any other byte
+pub digit : (b d : ℕ) → b ≡ 48 + d → d < 10 → NumberRead (b ∷ []) d
+digit b d e h =
+    record {
+      takes = λ n l q. omega (arith, single b n q);
+      takes-only = λ l. rw e (sym (one-digit d h));
+    }
+
+pub no-digit : (b : ℕ) → ((d : ℕ) → d < 10 → b ≡ 48 + d → ⊥) → NumberRead (b ∷ []) 1000
+no-digit b never =
+    record {
+      takes = λ n l q. absurd (never n (single b n q .0) (single b n q .1));
+      takes-only = λ l. absurd (omega arith);
+    }
+
+-- the same after a number
+module _ {t : List ℕ} {m b d : ℕ} (h : 0 < length t) (r : NumberRead t m) (f : NumberRead (b ∷ []) d) where
+  parts : (n : ℕ) → n < 1000 → t ++ (b ∷ []) ≡ decimal n → (10 ≤ n) × (m ≡ n / 10) × (d ≡ n % 10)
+  parts n l e =
+      let s = split t b n h e in
+      let last : n % 10 < 10 = omega arith in
+      (s .0, r .takes (n / 10) (omega arith) (s .1), f .takes (n % 10) (omega arith) (rw (s .2) (sym (one-digit (n % 10) last))))
+
+  pub more : d < 10 → 0 < m → m < 100 → NumberRead (t ++ (b ∷ [])) (m * 10 + d)
+  more l p q =
+      record {
+        takes = λ n k e. omega (arith, parts n k e);
+        takes-only = λ k.
+            let tens : (m * 10 + d) / 10 ≡ m = omega arith in
+            let ones : (m * 10 + d) % 10 ≡ d = omega arith in
+            rw (last-digit (m * 10 + d) (omega arith), tens, ones, ← r .takes-only (omega arith), ← single b d (f .takes-only (omega arith)) .1);
+      }
+
+  pub no-more : (d < 10 → 0 < m → m < 100 → ⊥) → NumberRead (t ++ (b ∷ [])) 1000
+  no-more never =
+      record {
+        takes = λ n k e. let p = parts n k e in absurd (never (omega arith) (omega arith) (omega arith));
+        takes-only = λ k. absurd (omega arith);
+      }
