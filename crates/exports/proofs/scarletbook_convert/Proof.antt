@@ -1,5 +1,5 @@
 -- `scarletbook_convert` meets its contract.
-use mathlib.Core.Path.{_≡_, refl}
+use mathlib.Core.Path.{_≡_, refl, sym, ap₂, _∙_}
 use mathlib.Core.Bool.{Bool, true, false, _&&_}
 use denote.Ref.{now}
 use borrow.Author.Needs.{needs}
@@ -26,8 +26,12 @@ asked s = known-flag (s .args .lent) && conversion-understood (the-settings s) (
 abbrev start : tie.After-both → tie.Start
 start c = c .before .before .before .before .before .before .before .before .before .before .before .before
 
+-- what the test finds
+found : (c : tie.After-both) → c .both .result ≡ asked (start c)
+found c = c .both .ensures ∙ ap₂ _&&_ (c .before .known-flag .ensures) (c .before .before .understood .ensures)
+
 known : (c : tie.Then1) → asked (start (c .before)) ≡ true
-known c = cc
+known c = sym (found (c .before)) ∙ c .if1 .taken
 
 fit : (c : tie.Then1) → let s = start (c .before) in Lengths (now (s .args .gain)) 6 (now (s .args .clipped)) (now (s .args .«data»)) (now (s .args .decibels))
 fit c =
@@ -78,7 +82,7 @@ returns c =
 
 returns-2 : tie.Need-returns-2
 returns-2 c =
-    let h : asked (start (c .before)) ≡ false = cc in
+    let h : asked (start (c .before)) ≡ false = sym (found (c .before)) ∙ c .if1 .left in
     turned-away h (refl, refl, refl)
 
 pub scarletbook-convert-spec : {M : Type 1} → statement M

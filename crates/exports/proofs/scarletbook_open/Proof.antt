@@ -1,6 +1,8 @@
 -- `scarletbook_open` meets its contract.
-use mathlib.Core.Path.{_≡_, refl}
-use mathlib.Core.Bool.{Bool, true, false}
+use mathlib.Core.Path.{_≡_, refl, sym, ap, ap₂, _∙_}
+use mathlib.Core.Bool.{Bool, true, false, _&&_}
+use lib.Dec.{eqb}
+use lib.ListN.{length}
 use denote.Ref.{now}
 use borrow.Author.Needs.{needs}
 use Rattle.interface.specs.Settings.{Settings, settings}
@@ -19,8 +21,14 @@ asked s = open-understood (the-settings s) (now (s .args .opened)) (now (s .args
 abbrev start : tie.After-both2 → tie.Start
 start c = c .before .before .before .before .before .before .before .before
 
+-- what the test finds
+found : (c : tie.After-both2) → c .both2 .result ≡ asked (start c)
+found c =
+    let fits = c .before .both .ensures ∙ ap (λ r. eqb (length (now (start c .args .opened))) 2 && r) (c .before .before .room .ensures) in
+    c .both2 .ensures ∙ ap₂ _&&_ (c .before .before .before .known-settings .ensures) fits
+
 known : (c : tie.Then1) → asked (start (c .before)) ≡ true
-known c = cc
+known c = sym (found (c .before)) ∙ c .if1 .taken
 
 fit : (c : tie.Then1) → let s = start (c .before) in Lengths (now (s .args .gain)) 2 (now (s .args .opened)) (now (s .args .«data»)) (now (s .args .decibels))
 fit c =
@@ -68,7 +76,7 @@ returns c =
 
 returns-2 : tie.Need-returns-2
 returns-2 c =
-    let h : asked (start (c .before)) ≡ false = cc in
+    let h : asked (start (c .before)) ≡ false = sym (found (c .before)) ∙ c .if1 .left in
     turned-away h (refl, refl, refl)
 
 pub scarletbook-open-spec : {M : Type 1} → statement M

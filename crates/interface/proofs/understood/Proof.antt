@@ -1,4 +1,5 @@
 -- `understood` meets its contract.
+use mathlib.Core.Path.{refl}
 use borrow.Author.Needs.{needs}
 use Rattle.interface.proofs.understood.Statement.{statement}
 use Rattle.interface.proofs.understood.Tie as tie
@@ -25,7 +26,18 @@ both-requires-3 : tie.Need-both-requires-3
 both-requires-3 c κs = search needs
 
 returns : tie.Need-returns
-returns c = cc
+returns c =
+    let tests = c .before .before .before in
+    rw (
+      c .both3 .ensures,
+      c .before .both2 .ensures,
+      c .before .before .both .ensures,
+      tests .room-for-all .ensures,
+      tests .before .known-flag2 .ensures,
+      tests .before .before .known-flag .ensures,
+      tests .before .before .before .known-settings .ensures,
+    )
+    refl
 
 pub understood-spec : {M : Type 1} → statement M
 understood-spec =
