@@ -49,7 +49,7 @@ pub record Dec2 (F he ho : List ℤ) (S : ℕ → ℤ) (a d e : ℕ) (s t y : Li
   pub odd : ho ≡ odd-taps F
   pub even-values : Margin (evens S) a e s
   pub odd-values : Margin (odds S) a e t
-  pub room : e ≤ 298
+  pub room : e ≤ 304
   pub from : d + (length F + 1) / 2 ≡ length F / 2 + 1
   pub all : length y + 2 * (length F / 2) ≤ e
   pub eights : length y % 8 ≡ 0
@@ -85,7 +85,7 @@ module _ {F he ho : List ℤ} {S : ℕ → ℤ} {a d e : ℕ} {s t y : List ℤ}
   odd-room : length y + 2 * length ho ≤ e - 0 + 1
   odd-room = omega (arith, f .all, odd-length)
 
-  pub dec2-asks : ((0 < length he) × (length he + length ho ≤ 117) × (length y % 8 ≡ 0) × (length y + 2 * (length he - 1) ≤ length (take (e - d) (drop d s))) × (length y + 2 * length ho ≤ length (take (e - 0) (drop 0 t)) + 1) × (length (take (e - d) (drop d s)) ≤ 298) × (length (take (e - 0) (drop 0 t)) ≤ 298))
+  pub dec2-asks : ((0 < length he) × (length he + length ho ≤ 117) × (length y % 8 ≡ 0) × (length y + 2 * (length he - 1) ≤ length (take (e - d) (drop d s))) × (length y + 2 * length ho ≤ length (take (e - 0) (drop 0 t)) + 1) × (length (take (e - d) (drop d s)) ≤ 304) × (length (take (e - 0) (drop 0 t)) ≤ 304))
       × (Phases he ho × (Small (2 ^ 29) (take (e - d) (drop d s)) × (Small (2 ^ 29) (take (e - 0) (drop 0 t)) × Fit (half-rate he ho (take (e - d) (drop d s)) (take (e - 0) (drop 0 t))) (length y))))
   dec2-asks =
       let g = f .bounded in (

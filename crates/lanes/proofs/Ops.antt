@@ -15,7 +15,7 @@ use mir.Val.{SFits, Fits, toZ}
 use mir.Facts.{toZ-ofZ}
 use Rattle.numbers.specs.Sums.{at0}
 use Rattle.numbers.proofs.Integers.{pp, nn, zext, add-parts, abs-parts, abs-add, abs-neg, neg-mul, sfits-abs}
-use Rattle.numbers.proofs.Machine.{t, val, sized, add-fits, add-is}
+use Rattle.numbers.proofs.Machine.{t, val, sized, add-fits, add-is, mul-fits}
 use Rattle.lanes.specs.Filters.{Small}
 use Rattle.lanes.specs.Lanes.{lifted, raised, Low}
 
@@ -136,20 +136,40 @@ pub read-lifted : (x : List ℤ) (i : ℕ) {r : ℕ} → pos r ≡ t (at0 x i) +
 unfolding lifted
 read-lifted x i e m = e ∙ ap (λ (z : ℤ). z +ℤ pos (2 ^ 29)) (val (at0 x i) (at0 x i) m refl)
 
--- ---- a product of the centre
-low-part : (a : ℕ) → a ≤ 2 ^ 30 → a % 4294967296 ≡ a
+-- ---- one place
+module _ (s : ℤ) {h : ℤ} (f : SFits w64 h) {n : ℕ} (w : ℕ) (e : n ≡ natAbs (t h)) where
+  pub tap-neg : {r : ℤ} → mag r < 2 ^ 63 → r ≡ s -ℤ pos (n * w) → ltZ (t h) (pos 0) ≡ true → t r ≡ s +ℤ h *ℤ pos w
+  tap-neg {r} m p b = val r _ m p ∙ ap (λ (z : ℤ). s +ℤ z) (neg-gain f (pos w) e b)
+
+  pub tap-pos : {r : ℤ} → mag r < 2 ^ 63 → r ≡ s +ℤ pos (n * w) → ltZ (t h) (pos 0) ≡ false → t r ≡ s +ℤ h *ℤ pos w
+  tap-pos {r} m p b = val r _ m p ∙ ap (λ (z : ℤ). s +ℤ z) (pos-gain f (pos w) e b)
+
+pub low-part : (a : ℕ) → a ≤ 2 ^ 30 → a % 4294967296 ≡ a
 low-part a q = omega arith
 
-pub product-room : (h a : ℕ) → h ≤ 2 ^ 25 → a ≤ 2 ^ 30 → 0 + h * (a % 4294967296) < 2 ^ 63
-product-room h a p q = rw (low-part a q) (omega (arith, mul-le-mul p q))
+-- the centre of a half band
+module _ {a : ℤ} (f : SFits w64 a) (small : natAbs a ≤ 2 ^ 29) where
+  size : natAbs (t a +ℤ pos 536870912) ≤ 2 ^ 30
+  size = rw (toZ-ofZ f) (omega (arith, abs-add a (pos (2 ^ 29))))
 
-module _ {h : ℤ} (f : SFits w64 h) {n a : ℕ} (low : a ≤ 2 ^ 30) (e : n ≡ natAbs (t h)) where
-  pub product-neg : {r : ℤ} → mag r < 2 ^ 63 → r ≡ pos 0 -ℤ pos (n * (a % 4294967296)) → ltZ (t h) (pos 0) ≡ true → t r ≡ h *ℤ pos a
-  product-neg {r} m p b = val r _ m p ∙ ap (λ (k : ℕ). pos 0 -ℤ pos (n * k)) (low-part a low) ∙ +ℤ-comm (pos 0) (negℤ (pos (n * a))) ∙ +ℤ-idr (negℤ (pos (n * a))) ∙ neg-gain f (pos a) e b
+  pub halved-fits : SFits w64 (pos 8388608 *ℤ t (t a +ℤ pos 536870912))
+  halved-fits = let s = size in mul-fits (pos-fits {n = 8388608} (omega arith)) (lift-fits f small) (omega (arith, s))
 
-  pub product-pos : {r : ℤ} → mag r < 2 ^ 63 → r ≡ pos 0 +ℤ pos (n * (a % 4294967296)) → ltZ (t h) (pos 0) ≡ false → t r ≡ h *ℤ pos a
-  product-pos {r} m p b = val r _ m p ∙ ap (λ (k : ℕ). pos 0 +ℤ pos (n * k)) (low-part a low) ∙ +ℤ-comm (pos 0) (pos (n * a)) ∙ +ℤ-idr (pos (n * a)) ∙ pos-gain f (pos a) e b
+  pub halved-is : t (pos 8388608 *ℤ t (t a +ℤ pos 536870912)) ≡ pos 8388608 *ℤ (a +ℤ pos (2 ^ 29))
+  halved-is = toZ-ofZ halved-fits ∙ ap (λ (z : ℤ). pos 8388608 *ℤ z) (toZ-ofZ (lift-fits f small) ∙ ap (λ (z : ℤ). z +ℤ pos 536870912) (toZ-ofZ f))
 
 pub centre-lane : (h : ℤ) (v : List ℕ) (i : ℕ) {r : ℤ} → r ≡ h *ℤ pos (getD v i 0) → r ≡ h *ℤ raised v i
 unfolding raised
 centre-lane h v i e = e
+
+pub halved-lane : (x : List ℤ) (i : ℕ) {r : ℤ} → r ≡ pos 8388608 *ℤ (t (at0 x i) +ℤ pos (2 ^ 29)) → mag (at0 x i) < 2 ^ 63 → r ≡ pos 8388608 *ℤ lifted x i
+unfolding lifted
+halved-lane x i e m = e ∙ ap (λ (z : ℤ). pos 8388608 *ℤ (z +ℤ pos (2 ^ 29))) (val (at0 x i) (at0 x i) m refl)
+
+pub lane-one : (h : ℤ) (v : List ℕ) (i j : ℕ) {w : ℕ} → w ≡ getD v i 0 + getD v j 0 → h *ℤ pos w ≡ h *ℤ (raised v i +ℤ raised v j)
+unfolding raised
+lane-one h v i j e = ap (λ (q : ℕ). h *ℤ pos q) e
+
+pub product-is : {h : ℤ} → SFits w64 h → (a : ℕ) → a ≤ 2 ^ 30 → {r : ℤ} → mag r < 2 ^ 63 → r ≡ pos 0 +ℤ t h *ℤ pos (a % 4294967296) → t r ≡ h *ℤ pos a
+product-is {h} f a q {r} m p =
+    val r _ m p ∙ ap₂ (λ (z : ℤ) (k : ℕ). pos 0 +ℤ z *ℤ pos k) (toZ-ofZ f) (low-part a q) ∙ +ℤ-comm (pos 0) (h *ℤ pos a) ∙ +ℤ-idr (h *ℤ pos a)

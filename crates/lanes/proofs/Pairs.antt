@@ -11,7 +11,7 @@ use Rattle.numbers.proofs.Integers.{abs-add, abs-mul, +ℤ-left-comm, mul-add, 
 use Rattle.numbers.proofs.Sums.{sum-same, sum-head}
 use Rattle.reference.specs.Stages.{tap, M, fir}
 use Rattle.lanes.specs.Filters.{Small, between-by, ones}
-use Rattle.lanes.specs.Lanes.{lifted, raised, arms, Low, Hold, Lanes}
+use Rattle.lanes.specs.Lanes.{lifted, raised, arms, Low, Hold, Added}
 use Rattle.lanes.proofs.Ops.{raised-size}
 
 -- ---- sizes
@@ -20,8 +20,11 @@ unfolding sumTo
 sum-each zero f m h = omega arith
 sum-each (suc n) f m h = omega (arith, abs-add (sumTo n f) (f n), sum-each n f m h, h n)
 
-pub centre-lanes : (h : ℤ) {v : List ℕ} (at : ℕ) {s : List ℤ} → natAbs h ≤ 2 ^ 25 → Low v → Hold (λ l. h *ℤ raised v (at + l)) s → Lanes (2 ^ 55) s
-centre-lanes h {v} at p q c = record { size = λ l m. rw (c .is l m) (omega (arith, abs-mul h (raised v (at + l)), mul-le-mul p (raised-size q (at + l)))) }
+pub product-size : (h a : ℤ) → natAbs h ≤ 2 ^ 25 → natAbs a ≤ 2 ^ 30 → natAbs (h *ℤ a) ≤ 2 ^ 55
+product-size h a p q = omega (arith, abs-mul h a, mul-le-mul p q)
+
+pub centre-size : (h : ℤ) {v : List ℕ} → natAbs h ≤ 2 ^ 25 → Low v → (k : ℕ) → natAbs (h *ℤ raised v k) ≤ 2 ^ 55
+centre-size h {v} p low k = product-size h (raised v k) p (raised-size low k)
 
 pub arms-size : (h : List ℤ) (s : ℕ → ℤ) (from down up n : ℕ) → Small (2 ^ 25) h → ((k : ℕ) → natAbs (s k) ≤ 2 ^ 30) → natAbs (arms h s from down up n) ≤ n * 2 ^ 56
 unfolding arms
@@ -33,20 +36,30 @@ arms-size h s from down up n hs b = sum-each n _ (2 ^ 56) (λ k. each (from + k)
     each : (k : ℕ) → natAbs (tap h k *ℤ (s (down - k) +ℤ s (up + k))) ≤ 2 ^ 56
     each k = omega (arith, abs-mul (tap h k) (s (down - k) +ℤ s (up + k)), mul-le-mul (hs .size k) (two k))
 
+-- room for a tap more
+pub tap-room : (s a g h : ℤ) (n k w : ℕ) → s ≡ a +ℤ g → natAbs a ≤ (127 - n) * 2 ^ 56 → natAbs g ≤ k * 2 ^ 56 → k < n → n ≤ 117 → natAbs h ≤ 2 ^ 25 → w ≤ 2 ^ 31
+    → natAbs s + natAbs h * w < 2 ^ 63
+tap-room s a g h n k w e p q l m ph pw = rw e (omega (arith, abs-add a g, mul-le-mul ph pw))
+
 -- ---- no tap, and a tap more
 pub arms-none : (h : List ℤ) (s : ℕ → ℤ) (from down up n : ℕ) → n ≡ 0 → arms h s from down up n ≡ pos 0
 unfolding arms sumTo
 arms-none h s from down up n e = ap (arms h s from down up) e
 
-pub arms-more : (h : List ℤ) (s : ℕ → ℤ) (from end up j l : ℕ) → from ≤ j → j < end
-    → arms h s from (end + l - 1) (up + l) (j - from) +ℤ tap h j *ℤ (s (end - 1 - j + l) +ℤ s (up + j + l)) ≡ arms h s from (end + l - 1) (up + l) (j + 1 - from)
+pub arms-one : (h : List ℤ) (s : ℕ → ℤ) (from end up j : ℕ) → from ≤ j → arms h s from (end - 1) up (j - from) +ℤ tap h j *ℤ (s (end - 1 - j) +ℤ s (up + j)) ≡ arms h s from (end - 1) up (j + 1 - from)
 unfolding arms sumTo
-arms-more h s from end up j l p q =
+arms-one h s from end up j p =
     let e : j + 1 - from ≡ suc (j - from) = omega arith in
     let f : from + (j - from) ≡ j = omega arith in
-    let u : up + l + j ≡ up + j + l = omega arith in
-    let d : end + l - 1 - j ≡ end - 1 - j + l = omega arith in
-    rw (e, f, u, d)
+    rw (e, f)
+
+-- for lane l
+pub arms-more : (h : List ℤ) (s : ℕ → ℤ) (from end up j l : ℕ) → from ≤ j → j < end
+    → arms h s from (end + l - 1) (up + l) (j - from) +ℤ tap h j *ℤ (s (end - 1 - j + l) +ℤ s (up + j + l)) ≡ arms h s from (end + l - 1) (up + l) (j + 1 - from)
+arms-more h s from end up j l p q =
+    let u : up + j + l ≡ up + l + j = omega arith in
+    let d : end - 1 - j + l ≡ end + l - 1 - j = omega arith in
+    rw (u, d) (arms-one h s from (end + l) (up + l) j p)
 
 -- ---- the filter's sum: the centre, and the pairs
 module _ (h : List ℤ) (s : ℕ → ℤ) (c : ℕ) where
@@ -103,6 +116,10 @@ unfolding between-by
 between-same h s r c e =
     sum-same (length h) _ _ (λ j m. ap₂ (λ (y z : ℤ). tap h j *ℤ (y +ℤ z)) (e (c - j) (omega arith) (omega arith)) (e (c + 1 + j) (omega arith) (omega arith)))
 
+pub lifted-size : (x : List ℤ) → Small (2 ^ 29) x → (k : ℕ) → natAbs (lifted x k) ≤ 2 ^ 30
+unfolding lifted
+lifted-size x s k = omega (arith, abs-add (at0 x k) (pos (2 ^ 29)), s .size k)
+
 -- ---- the lift adds the taps' sum times 2^29
 sum-lift : (n : ℕ) (g s u : ℕ → ℤ) (c : ℤ) → sumTo n (λ k. g k *ℤ (s k +ℤ u k *ℤ c)) ≡ sumTo n (λ k. g k *ℤ s k) +ℤ sumTo n (λ k. g k *ℤ u k) *ℤ c
 unfolding sumTo
@@ -125,3 +142,12 @@ between-lift h x k =
   where
     each : (a b c : ℤ) → (a +ℤ c) +ℤ (b +ℤ c) ≡ a +ℤ b +ℤ (c +ℤ c)
     each a b c = simp sums
+
+-- ---- fourteen places of y, taken to the lanes, have gained the taps
+pub lanes-gain : (h : List ℤ) (s : ℕ → ℤ) (from end up n i : ℕ) (y₀ y : List ℤ) {s₀ s₁ : List ℤ} → Hold (λ l. at0 y (i + l)) s₀ → Added (λ l. arms h s from (end + i + l - 1) (up + i + l) n) s₀ s₁
+    → ((m : ℕ) → i ≤ m → at0 y m ≡ at0 y₀ m) → (m : ℕ) → i ≤ m → m < i + 14 → at0 s₁ (m - i) ≡ at0 y₀ m +ℤ arms h s from (end + m - 1) (up + m) n
+lanes-gain h s from end up n i y₀ y a g e m p q =
+    let w : i + (m - i) ≡ m = omega arith in
+    let d : end + i + (m - i) - 1 ≡ end + m - 1 = omega arith in
+    let u : up + i + (m - i) ≡ up + m = omega arith in
+    g .is (m - i) (omega arith) ∙ ap₂ (λ (y z : ℤ). y +ℤ z) (a .is (m - i) (omega arith) ∙ ap (at0 y) w ∙ e m p) (rw (d, u))

@@ -11,7 +11,7 @@ use lib.Seq.{getD-set-same, getD-set-other}
 use Rattle.numbers.specs.Sums.{at0}
 use Rattle.numbers.proofs.Integers.{abs-add}
 use Rattle.numbers.proofs.Lists.{below-or}
-use Rattle.lanes.specs.Filters.{Filled}
+use Rattle.lanes.specs.Filters.{Small, Filled}
 use Rattle.lanes.specs.Lanes.{lifted, raised, Low, Raised, Written, Added, Hold, Lanes}
 
 pub written-none : {f : ℕ → ℤ} {a b : ℕ} {old : List ℤ} → b ≤ a → Written f a b old old
@@ -50,12 +50,32 @@ written-then {f} {a} {i} {j} {new} u w p q e =
 pub written-filled : {f : ℕ → ℤ} {i : ℕ} {old new : List ℤ} → Written f 0 i old new → length old ≤ i → Filled f old new
 written-filled u l = record { same = u .same; is = λ k m. u .done k (omega arith) (omega arith) }
 
+-- ---- whole lists
+pub filled-as : {f g : ℕ → ℤ} {old new : List ℤ} → Filled f old new → ((k : ℕ) → k < length old → f k ≡ g k) → Filled g old new
+filled-as u e = record { same = u .same; is = λ k m. u .is k m ∙ e k m }
+
+-- every place has gained g
+pub filled-then : {f m : ℕ → ℤ} (g : ℕ → ℤ) {a b c : List ℤ} → Filled f a b → Filled (λ k. at0 b k +ℤ g k) b c → ((k : ℕ) → k < length a → f k +ℤ g k ≡ m k) → Filled m a c
+filled-then g u w e =
+    record { same = w .same ∙ u .same; is = λ k l. w .is k (omega (arith, u .same)) ∙ ap (λ (z : ℤ). z +ℤ g k) (u .is k l) ∙ e k l }
+
+-- every place has been written anew
+pub filled-again : {f g : ℕ → ℤ} {a b c : List ℤ} → Filled f a b → Filled g b c → Filled g a c
+filled-again u w = record { same = w .same ∙ u .same; is = λ k l. w .is k (omega (arith, u .same)) }
+
+pub filled-small : {f : ℕ → ℤ} {old new : List ℤ} (B : ℕ) → Filled f old new → ((k : ℕ) → natAbs (f k) ≤ B) → Small B new
+filled-small {old} {new} B u e =
+    record {
+      size = λ k. ⊎-elim (λ l. rw (u .is k l) (e k)) (λ l. rw (List·getD-eq-default {A = ℤ} new (pos 0) {n = k} (omega (arith, u .same))) (omega arith)) (below-or k (length old));
+    }
+
+-- every place has gained g
+pub gained-small : (g : ℕ → ℤ) {old new : List ℤ} {A G : ℕ} (B : ℕ) → Filled (λ k. at0 old k +ℤ g k) old new → Small A old → ((k : ℕ) → natAbs (g k) ≤ G) → A + G ≤ B → Small B new
+gained-small g {old} B u a e l = filled-small B u (λ k. omega (arith, abs-add (at0 old k) (g k), a .size k, e k))
+
 -- ---- the lanes
 pub written-hold : {f : ℕ → ℤ} {i : ℕ} {old new : List ℤ} → Written f 0 i old new → 14 ≤ i → Hold f new
 written-hold u l = record { is = λ k m. u .done k (omega arith) (omega arith) }
-
-pub hold-as : {f g : ℕ → ℤ} {s : List ℤ} → Hold f s → ((l : ℕ) → f l ≡ g l) → Hold g s
-hold-as a e = record { is = λ l m. a .is l m ∙ e l }
 
 pub written-added : {g : ℕ → ℤ} {i : ℕ} {old new : List ℤ} → Written (λ k. at0 old k +ℤ g k) 0 i old new → 14 ≤ i → Added g old new
 written-added u l = record { is = λ k m. u .done k (omega arith) (omega arith) }
@@ -70,18 +90,12 @@ pub added-then : {g k m : ℕ → ℤ} {a b c : List ℤ} → Added g a b → Ad
 added-then {g} {k} {m} {a} p q e =
     record { is = λ l n. q .is l n ∙ ap (λ (z : ℤ). z +ℤ k l) (p .is l n) ∙ +ℤ-assoc (at0 a l) (g l) (k l) ∙ ap (λ (z : ℤ). at0 a l +ℤ z) (e l) }
 
-pub hold-then : {f g m : ℕ → ℤ} {a b : List ℤ} → Hold f a → Added g a b → ((l : ℕ) → f l +ℤ g l ≡ m l) → Hold m b
-hold-then {g} p q e = record { is = λ l n. q .is l n ∙ ap (λ (z : ℤ). z +ℤ g l) (p .is l n) ∙ e l }
-
 -- sizes
 pub hold-lanes : {f : ℕ → ℤ} {s : List ℤ} (B : ℕ) → Hold f s → ((l : ℕ) → natAbs (f l) ≤ B) → Lanes B s
 hold-lanes B p b = record { size = λ l n. rw (p .is l n) (b l) }
 
 pub lanes-then : {g : ℕ → ℤ} {a b : List ℤ} {A : ℕ} (G B : ℕ) → Added g a b → Lanes A a → ((l : ℕ) → natAbs (g l) ≤ G) → A + G ≤ B → Lanes B b
 lanes-then {g} {a} G B p s e m = record { size = λ l n. rw (p .is l n) (omega (arith, abs-add (at0 a l) (g l), s .size l n, e l)) }
-
-pub lanes-up : {A : ℕ} {s : List ℤ} (B : ℕ) → Lanes A s → A ≤ B → Lanes B s
-lanes-up B a l = record { size = λ k m. omega (arith, a .size k m) }
 
 -- ---- the copy
 pub low-zeros : (n : ℕ) → Low (replicate n 0)

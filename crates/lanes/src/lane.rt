@@ -1,33 +1,12 @@
-// Fourteen lanes gain a tap's products. A value is below 2^29 in size, and a copy of the block has it lifted by that; a tap's sign stands
-// outside: so each product is of two numbers below 2^32, which the machine multiplies several at a time.
+// Sums gain the taps' products, fourteen places at a time: the lanes. A copy of the block has each value lifted by 2^29, and a tap's sign
+// stands outside: so each product is of two numbers below 2^32, which the machine multiplies several at a time.
 ghost use mathlib.Core.Path.{_≡_};
-ghost use Prim.Native.Nat.{_+_, _*_, _-_, _^_, _≤_, _<_};
+ghost use Prim.Native.Nat.{ℕ, _+_, _*_, _-_, _^_, _≤_, _<_};
 ghost use lib.IntN.{pos, natAbs, negℤ, _+ℤ_, _-ℤ_, _*ℤ_};
 ghost use lib.ListN.{length};
-ghost use Rattle.lanes.specs.Filters.{Small};
-ghost use Rattle.lanes.specs.Lanes.{raised, arms, Low, Raised, Lanes, Hold, Added};
-
-fn lift(a: i64) -> u64
-    requires { ⌜ natAbs a ≤ 2 ^ 29 ⌝ }
-    ensures { λ r. ⌜ (pos r ≡ a +ℤ pos (2 ^ 29)) × (r ≤ 2 ^ 30) ⌝ }
-{
-    (a + 536870912) as u64
-}
-
-// The copy: x, each value lifted, and past it what v had.
-pub fn raise(x: &[i64], v: &mut [u64])
-    requires { ⌜ length (now x) ≤ length (now v) ⌝ }
-    requires { ⌜ Small (2 ^ 29) (now x) ⌝ }
-    requires { ⌜ Low (now v) ⌝ }
-    ensures { λ _. ⌜ Raised (length (now (x .entry))) (now (x .entry)) (now (v .exit)) ⌝ }
-{
-    let mut k: usize = 0;
-    while k < x.len() {
-        let r = lift(x[k]);
-        v[k] = r;
-        k += 1;
-    }
-}
+ghost use Rattle.numbers.specs.Sums.{at0};
+ghost use Rattle.lanes.specs.Filters.{Small, Filled};
+ghost use Rattle.lanes.specs.Lanes.{raised, arms, Low, Lanes, Hold, Added, Written};
 
 // Two values of the copy.
 fn both(a: u64, b: u64) -> u64
@@ -110,14 +89,7 @@ fn tap14(acc: [i64; 14], h: i64, v: &[u64], down: usize, up: usize) -> [i64; 14]
 }
 
 // The taps from place `from` on: tap j with the values j + 1 below `end` and j above `up`.
-pub fn pairs14(
-    acc: [i64; 14],
-    h: &[i64],
-    from: usize,
-    v: &[u64],
-    end: usize,
-    up: usize,
-) -> [i64; 14]
+fn pairs14(acc: [i64; 14], h: &[i64], from: usize, v: &[u64], end: usize, up: usize) -> [i64; 14]
     requires { ⌜ (from ≤ length (now h)) × (length (now h) ≤ 117) × (length (now h) ≤ end) × (end + 13 ≤ length (now v)) × (up + length (now h) + 13 ≤ length (now v)) ⌝ }
     requires { ⌜ Small (2 ^ 25) (now h) ⌝ }
     requires { ⌜ Low (now v) ⌝ }
@@ -134,28 +106,90 @@ pub fn pairs14(
     s
 }
 
-fn product(h: i64, a: u64) -> i64
-    requires { ⌜ (natAbs h ≤ 2 ^ 25) × (a ≤ 2 ^ 30) ⌝ }
-    ensures { λ r. ⌜ r ≡ h *ℤ pos a ⌝ }
-{
-    if h < 0 {
-        return less(0, size(h), a % 4294967296);
-    }
-    more(0, size(h), a % 4294967296)
-}
-
-// Fourteen lanes start with the centre's products.
-pub fn centre14(h: i64, v: &[u64], at: usize) -> [i64; 14]
-    requires { ⌜ (at + 14 ≤ length (now v)) × (natAbs h ≤ 2 ^ 25) ⌝ }
-    requires { ⌜ Low (now v) ⌝ }
-    ensures { λ r. ⌜ Hold (λ l. h *ℤ raised (now (v .entry)) (at + l)) r ⌝ }
+fn load14(y: &[i64], i: usize) -> [i64; 14]
+    requires { ⌜ i + 14 ≤ length (now y) ⌝ }
+    ensures { λ r. ⌜ Hold (λ l. at0 (now (y .entry)) (i + l)) r ⌝ }
 {
     let mut s = [0i64; 14];
     let mut l: usize = 0;
     while l < 14 {
-        let r = product(h, v[at + l]);
-        s[l] = r;
+        s[l] = y[i + l];
         l += 1;
     }
     s
+}
+
+fn put14(y: &mut [i64], i: usize, s: [i64; 14])
+    requires { ⌜ i + 14 ≤ length (now y) ⌝ }
+    ensures { λ _. ⌜ Written (λ k. at0 s (k - i)) i (i + 14) (now (y .entry)) (now (y .exit)) ⌝ }
+{
+    let mut l: usize = 0;
+    while l < 14 {
+        y[i + l] = s[l];
+        l += 1;
+    }
+}
+
+// s + h * w
+pub fn tap1(s: i64, h: i64, w: u64) -> i64
+    requires { ⌜ (natAbs s + natAbs h * w < 2 ^ 63) × (natAbs h ≤ 2 ^ 25) ⌝ }
+    ensures { λ r. ⌜ r ≡ s +ℤ h *ℤ pos w ⌝ }
+{
+    if h < 0 {
+        return less(s, size(h), w);
+    }
+    more(s, size(h), w)
+}
+
+// One place, as `pairs14` has fourteen.
+fn pairs1(acc: i64, h: &[i64], from: usize, v: &[u64], end: usize, up: usize) -> i64
+    requires { ⌜ (from ≤ length (now h)) × (length (now h) ≤ 117) × (length (now h) ≤ end) × (end ≤ length (now v)) × (up + length (now h) ≤ length (now v)) ⌝ }
+    requires { ⌜ Small (2 ^ 25) (now h) ⌝ }
+    requires { ⌜ Low (now v) ⌝ }
+    requires { ⌜ natAbs acc ≤ (127 - length (now h)) * 2 ^ 56 ⌝ }
+    ensures { λ r. ⌜ r ≡ acc +ℤ arms (now (h .entry)) (raised (now (v .entry))) from (end - 1) up (length (now (h .entry)) - from) ⌝ }
+{
+    let mut s = acc;
+    let mut j: usize = from;
+    while j < h.len() {
+        let w = both(v[end - 1 - j], v[up + j]);
+        let r = tap1(s, h[j], w);
+        s = r;
+        j += 1;
+    }
+    s
+}
+
+// The last places, from i on.
+fn add_last(y: &mut [i64], i: usize, h: &[i64], from: usize, v: &[u64], end: usize, up: usize)
+    requires { ⌜ (i ≤ length (now y)) × (from ≤ length (now h)) × (length (now h) ≤ 117) × (length (now h) ≤ end) × (end + length (now y) ≤ length (now v) + 1) × (up + length (now h) + length (now y) ≤ length (now v) + 1) × (length (now v) ≤ 512) ⌝ }
+    requires { ⌜ Small (2 ^ 25) (now h) ⌝ }
+    requires { ⌜ Low (now v) ⌝ }
+    requires { ⌜ ((k : ℕ) → i ≤ k → natAbs (at0 (now y) k) ≤ (127 - length (now h)) * 2 ^ 56) ⌝ }
+    ensures { λ _. ⌜ Written (λ k. at0 (now (y .entry)) k +ℤ arms (now (h .entry)) (raised (now (v .entry))) from (end + k - 1) (up + k) (length (now (h .entry)) - from)) i (length (now (y .entry))) (now (y .entry)) (now (y .exit)) ⌝ }
+{
+    let mut k: usize = i;
+    while k < y.len() {
+        let r = pairs1(y[k], h, from, v, end + k, up + k);
+        y[k] = r;
+        k += 1;
+    }
+}
+
+// Every place k of y gains the taps from place `from` on: tap j with the values j + 1 below `end` + k and j above `up` + k.
+pub fn add_pairs(y: &mut [i64], h: &[i64], from: usize, v: &[u64], end: usize, up: usize)
+    requires { ⌜ (from ≤ length (now h)) × (length (now h) ≤ 117) × (length (now h) ≤ end) × (end + length (now y) ≤ length (now v) + 1) × (up + length (now h) + length (now y) ≤ length (now v) + 1) × (length (now v) ≤ 512) ⌝ }
+    requires { ⌜ Small (2 ^ 25) (now h) ⌝ }
+    requires { ⌜ Low (now v) ⌝ }
+    requires { ⌜ Small ((127 - length (now h)) * 2 ^ 56) (now y) ⌝ }
+    ensures { λ _. ⌜ Filled (λ k. at0 (now (y .entry)) k +ℤ arms (now (h .entry)) (raised (now (v .entry))) from (end + k - 1) (up + k) (length (now (h .entry)) - from)) (now (y .entry)) (now (y .exit)) ⌝ }
+{
+    let mut i: usize = 0;
+    while i + 14 <= y.len() {
+        let s0 = load14(y, i);
+        let s1 = pairs14(s0, h, from, v, end + i, up + i);
+        put14(y, i, s1);
+        i += 14;
+    }
+    add_last(y, i, h, from, v, end, up);
 }

@@ -1,10 +1,11 @@
-// The lanes to the output: the nearest whole number, a tie to the even one, with no branch, and the lift of 2^53 taken away.
+// The sums to the output: the nearest whole number, a tie to the even one, with no branch, and the lift of 2^53 taken away.
 ghost use mathlib.Core.Path.{_≡_};
 ghost use Prim.Native.Nat.{_+_, _*_, _-_, _/_, _%_, _^_, _≤_};
 ghost use lib.IntN.{pos, natAbs, _-ℤ_};
 ghost use lib.ListN.{length};
 ghost use Rattle.reference.specs.Rounding.{R};
-ghost use Rattle.lanes.specs.Lanes.{Sums, rounded, Written};
+ghost use Rattle.lanes.specs.Filters.{Filled};
+ghost use Rattle.lanes.specs.Lanes.{Sums, rounded};
 
 fn whole(s: i64) -> u64
     requires { ⌜ s ≡ pos (natAbs s) ⌝ }
@@ -48,93 +49,44 @@ fn round23(s: i64) -> i64
     lower(near23(whole(s)), 1073741824)
 }
 
-// The lesser of two numbers.
-pub fn least(a: usize, b: usize) -> usize
-    ensures { λ r. ⌜ r ≡ b - (b - a) ⌝ }
+// Every place of y, rounded.
+pub fn all24(y: &mut [i64])
+    requires { ⌜ Sums (length (now y)) (now y) ⌝ }
+    ensures { λ _. ⌜ Filled (rounded 24 (now (y .entry))) (now (y .entry)) (now (y .exit)) ⌝ }
 {
-    if a < b {
-        return a;
-    }
-    b
-}
-
-fn some24(y: &mut [i64], i: usize, n: usize, s: [i64; 14])
-    requires { ⌜ (i + n ≤ length (now y)) × (n ≤ 14) ⌝ }
-    requires { ⌜ Sums n s ⌝ }
-    ensures { λ _. ⌜ Written (λ k. rounded 24 s (k - i)) i (i + n) (now (y .entry)) (now (y .exit)) ⌝ }
-{
-    let mut l: usize = 0;
-    while l < n {
-        let r = round24(s[l]);
-        y[i + l] = r;
-        l += 1;
+    let mut k: usize = 0;
+    while k < y.len() {
+        let r = round24(y[k]);
+        y[k] = r;
+        k += 1;
     }
 }
 
-// The places of y from i on, n of them. Fourteen is spelt out: the loop then has no end to test.
-pub fn store24(y: &mut [i64], i: usize, n: usize, s: [i64; 14])
-    requires { ⌜ (i + n ≤ length (now y)) × (n ≤ 14) ⌝ }
-    requires { ⌜ Sums n s ⌝ }
-    ensures { λ _. ⌜ Written (λ k. rounded 24 s (k - i)) i (i + n) (now (y .entry)) (now (y .exit)) ⌝ }
+pub fn all23(y: &mut [i64])
+    requires { ⌜ Sums (length (now y)) (now y) ⌝ }
+    ensures { λ _. ⌜ Filled (rounded 23 (now (y .entry))) (now (y .entry)) (now (y .exit)) ⌝ }
 {
-    if n < 14 {
-        some24(y, i, n, s);
-        return;
-    }
-    some24(y, i, 14, s);
-}
-
-fn some23(y: &mut [i64], i: usize, n: usize, s: [i64; 14])
-    requires { ⌜ (i + n ≤ length (now y)) × (n ≤ 14) ⌝ }
-    requires { ⌜ Sums n s ⌝ }
-    ensures { λ _. ⌜ Written (λ k. rounded 23 s (k - i)) i (i + n) (now (y .entry)) (now (y .exit)) ⌝ }
-{
-    let mut l: usize = 0;
-    while l < n {
-        let r = round23(s[l]);
-        y[i + l] = r;
-        l += 1;
+    let mut k: usize = 0;
+    while k < y.len() {
+        let r = round23(y[k]);
+        y[k] = r;
+        k += 1;
     }
 }
 
-pub fn store23(y: &mut [i64], i: usize, n: usize, s: [i64; 14])
-    requires { ⌜ (i + n ≤ length (now y)) × (n ≤ 14) ⌝ }
-    requires { ⌜ Sums n s ⌝ }
-    ensures { λ _. ⌜ Written (λ k. rounded 23 s (k - i)) i (i + n) (now (y .entry)) (now (y .exit)) ⌝ }
+// The even and the odd places of z, rounded, into two outputs.
+pub fn parts24(z: &[i64], ye: &mut [i64], yo: &mut [i64])
+    requires { ⌜ (length (now yo) ≡ length (now ye)) × (length (now z) ≡ 2 * length (now ye)) ⌝ }
+    requires { ⌜ Sums (2 * length (now ye)) (now z) ⌝ }
+    ensures { λ _. ⌜ Filled (λ k. rounded 24 (now (z .entry)) (2 * k)) (now (ye .entry)) (now (ye .exit)) ⌝ }
+    ensures { λ _. ⌜ Filled (λ k. rounded 24 (now (z .entry)) (2 * k + 1)) (now (yo .entry)) (now (yo .exit)) ⌝ }
 {
-    if n < 14 {
-        some23(y, i, n, s);
-        return;
+    let mut k: usize = 0;
+    while k < ye.len() {
+        let a = round24(z[2 * k]);
+        ye[k] = a;
+        let b = round24(z[2 * k + 1]);
+        yo[k] = b;
+        k += 1;
     }
-    some23(y, i, 14, s);
-}
-
-fn some_parts(ye: &mut [i64], yo: &mut [i64], i: usize, n: usize, s: [i64; 14])
-    requires { ⌜ (i + n ≤ length (now ye)) × (i + n ≤ length (now yo)) × (n ≤ 7) ⌝ }
-    requires { ⌜ Sums (2 * n) s ⌝ }
-    ensures { λ _. ⌜ Written (λ k. rounded 24 s (2 * (k - i))) i (i + n) (now (ye .entry)) (now (ye .exit)) ⌝ }
-    ensures { λ _. ⌜ Written (λ k. rounded 24 s (2 * (k - i) + 1)) i (i + n) (now (yo .entry)) (now (yo .exit)) ⌝ }
-{
-    let mut l: usize = 0;
-    while l < n {
-        let a = round24(s[2 * l]);
-        ye[i + l] = a;
-        let b = round24(s[2 * l + 1]);
-        yo[i + l] = b;
-        l += 1;
-    }
-}
-
-// The places of two outputs from i on, n of each: the even lanes, and the odd ones.
-pub fn part24(ye: &mut [i64], yo: &mut [i64], i: usize, n: usize, s: [i64; 14])
-    requires { ⌜ (i + n ≤ length (now ye)) × (i + n ≤ length (now yo)) × (n ≤ 7) ⌝ }
-    requires { ⌜ Sums (2 * n) s ⌝ }
-    ensures { λ _. ⌜ Written (λ k. rounded 24 s (2 * (k - i))) i (i + n) (now (ye .entry)) (now (ye .exit)) ⌝ }
-    ensures { λ _. ⌜ Written (λ k. rounded 24 s (2 * (k - i) + 1)) i (i + n) (now (yo .entry)) (now (yo .exit)) ⌝ }
-{
-    if n < 7 {
-        some_parts(ye, yo, i, n, s);
-        return;
-    }
-    some_parts(ye, yo, i, 7, s);
 }

@@ -1,159 +1,95 @@
 -- `lanes::dec2` meets its contract.
-use Rattle.numbers.specs.Sums.{at0}
-use Rattle.lanes.proofs.Places.{low-zeros, written-none, written-then, written-filled, lanes-up, lanes-then}
-use Rattle.lanes.proofs.Pairs.{centre-lanes, arms-size}
+use Rattle.lanes.proofs.Bias.{fir-filled, half-filled, filled-sums, filled-round}
+use Rattle.lanes.proofs.Places.{low-zeros, filled-small, gained-small, filled-again}
+use Rattle.lanes.proofs.Pairs.{centre-size, arms-size}
 use Rattle.lanes.proofs.Ops.{got, raised-size}
-use Rattle.numbers.proofs.Machine.{t}
-use Rattle.lanes.proofs.Bias.{same-hold, middle-added, half-lifted, lifted-sums, placed}
-use Rattle.reference.specs.Rounding.{R}
 use Rattle.lanes.specs.Filters.{half-rate}
-use Rattle.lanes.specs.Lanes.{Written}
-use Prim.Native.Nat.{_+_, _*_, _-_, _≤_, _^_}
+use Rattle.numbers.proofs.Machine.{t}
+use Rattle.numbers.specs.Sums.{at0}
+use Prim.Native.Nat.{_+_, _*_, _-_, _^_}
 use native.Mathlib.Omega.{arith}
 use borrow.Author.Needs.{needs}
 use denote.Ref.{now}
 use lib.ListN.{length}
+use borrow.Author.Needs.{needs}
 use Rattle.lanes.proofs.dec2.Statement.{statement}
 use Rattle.lanes.proofs.dec2.Tie as tie
 
-abbrev Inv-loop : tie.InvT-loop
-Inv-loop y₀ he ho xe xo ve vo m o c i₀ y i = (i ≤ length y) × Written (λ k. R (half-rate he ho xe xo k) 24) 0 i y₀ y
-
-abbrev μ-loop : tie.MeasureT-loop
-μ-loop y₀ he ho xe xo ve vo m o c i₀ y i = length y - i
-
-slice-aggregate-raise : tie.Need-slice-aggregate-raise Inv-loop μ-loop
+slice-aggregate-raise : tie.Need-slice-aggregate-raise
 slice-aggregate-raise c = search needs
 
-raise-requires : tie.Need-raise-requires Inv-loop μ-loop
-raise-requires c κs = let k = c .before in (omega arith, (k .pre .1 .1 .0, low-zeros 312))
+raise-requires : tie.Need-raise-requires
+raise-requires c κs = let k = c .before in (omega arith, (k .pre .1 .1 .0, low-zeros 304))
 
-slice-aggregate-raise-2 : tie.Need-slice-aggregate-raise-2 Inv-loop μ-loop
+slice-aggregate-raise-2 : tie.Need-slice-aggregate-raise-2
 slice-aggregate-raise-2 c = search needs
 
-raise-requires-2 : tie.Need-raise-requires-2 Inv-loop μ-loop
-raise-requires-2 c κs = let k = c .before .before .before .before in (omega arith, (k .pre .1 .1 .1 .0, low-zeros 312))
+raise-requires-2 : tie.Need-raise-requires-2
+raise-requires-2 c κs = let k = c .before .before .before .before in (omega arith, (k .pre .1 .1 .1 .0, low-zeros 304))
 
-sub-m : tie.Need-sub-m Inv-loop μ-loop
+sub-m : tie.Need-sub-m
 sub-m c = search needs
 
-shared-slice-copy-out-c : tie.Need-shared-slice-copy-out-c Inv-loop μ-loop
+shared-slice-copy-out-c : tie.Need-shared-slice-copy-out-c
 shared-slice-copy-out-c c = search needs
 
-loop-holds : tie.Need-loop-holds Inv-loop μ-loop
-loop-holds c = (omega arith, written-none (omega arith))
+slice-aggregate-centre : tie.Need-slice-aggregate-centre
+slice-aggregate-centre c = search needs
 
-slice-aggregate-centre14 : tie.Need-slice-aggregate-centre14 Inv-loop μ-loop
-slice-aggregate-centre14 c = search needs
-
-add-centre14 : tie.Need-add-centre14 Inv-loop μ-loop
-add-centre14 c = search needs
-
-centre14-requires : tie.Need-centre14-requires Inv-loop μ-loop
-centre14-requires c κs =
-    let l = c .before .before in
-    let a = l .before in
+centre-requires : tie.Need-centre-requires
+centre-requires c κs =
+    let a = c .before .before in
     let we = a .before .before .before .before .before in
     let k = we .before .before in
-    let u = l .loop .inv .1 .same in
     ((omega arith, got 0 (k .pre .1 .0 .small-even) (a .c .given)), we .raise .ensures .low)
 
-slice-aggregate-pairs14 : tie.Need-slice-aggregate-pairs14 Inv-loop μ-loop
-slice-aggregate-pairs14 c = search needs
+slice-aggregate-add-pairs : tie.Need-slice-aggregate-add-pairs
+slice-aggregate-add-pairs c = search needs
 
-add-pairs14 : tie.Need-add-pairs14 Inv-loop μ-loop
-add-pairs14 c = search needs
+add-add-pairs : tie.Need-add-add-pairs
+add-add-pairs c = search needs
 
-add-pairs14-2 : tie.Need-add-pairs14-2 Inv-loop μ-loop
-add-pairs14-2 c = search needs
-
-add-pairs14-3 : tie.Need-add-pairs14-3 Inv-loop μ-loop
-add-pairs14-3 c = search needs
-
-pairs14-requires : tie.Need-pairs14-requires Inv-loop μ-loop
-pairs14-requires c κs =
-    let l = c .before .before .before .before in
-    let a = l .before in
+add-pairs-requires : tie.Need-add-pairs-requires
+add-pairs-requires c κs =
+    let p = c .before .before .before in
+    let a = p .before .before .before in
     let we = a .before .before .before .before .before in
     let k = we .before .before in
     let h = now (k .args .he) in
-    let u = l .loop .inv .1 .same in
-    let low = we .raise .ensures .low in (
-      (omega arith, omega arith, omega arith, omega arith, omega arith),
-      (k .pre .1 .0 .small-even, (low, lanes-up ((127 - length h) * 2 ^ 56) (centre-lanes (t (at0 h 0)) (l .loop .i + (length h - 1)) (got 0 (k .pre .1 .0 .small-even) (a .c .given)) low (c .before .centre14 .ensures)) (omega arith))),
+    let low = we .raise .ensures .low in
+    let u = p .centre .ensures .same in (
+      (omega arith, omega arith, omega arith, omega arith, omega arith, omega arith),
+      (k .pre .1 .0 .small-even, (low, filled-small ((127 - length h) * 2 ^ 56) (p .centre .ensures) (λ j. omega (arith, centre-size (t (at0 h 0)) (got 0 (k .pre .1 .0 .small-even) (a .c .given)) low (length h - 1 + j))))),
     )
 
-slice-aggregate-pairs14-2 : tie.Need-slice-aggregate-pairs14-2 Inv-loop μ-loop
-slice-aggregate-pairs14-2 c = search needs
+slice-aggregate-add-pairs-2 : tie.Need-slice-aggregate-add-pairs-2
+slice-aggregate-add-pairs-2 c = search needs
 
-add-pairs14-4 : tie.Need-add-pairs14-4 Inv-loop μ-loop
-add-pairs14-4 c = search needs
-
-add-pairs14-5 : tie.Need-add-pairs14-5 Inv-loop μ-loop
-add-pairs14-5 c = search needs
-
-pairs14-requires-2 : tie.Need-pairs14-requires-2 Inv-loop μ-loop
-pairs14-requires-2 c κs =
-    let b = c .before in
-    let l = b .before .before .before .before .before in
-    let a = l .before in
+add-pairs-requires-2 : tie.Need-add-pairs-requires-2
+add-pairs-requires-2 c κs =
+    let q = c .before .before .before in
+    let p = q .before .before .before .before in
+    let a = p .before .before .before in
     let wo = a .before .before in
     let we = wo .before .before .before in
     let k = we .before .before in
     let h = now (k .args .he) in
-    let m = length h - 1 in
     let n = length (now (k .args .ho)) in
-    let u = l .loop .inv .1 .same in
+    let m = length h - 1 in
     let low = we .raise .ensures .low in
-    let start = centre-lanes (t (at0 h 0)) (l .loop .i + (length h - 1)) (got 0 (k .pre .1 .0 .small-even) (a .c .given)) low (b .before .before .centre14 .ensures) in (
-      (omega arith, omega arith, omega arith, omega arith, omega arith),
-      (k .pre .1 .0 .small-odd, (wo .raise2 .ensures .low, lanes-then (m * 2 ^ 56) ((127 - n) * 2 ^ 56) (b .pairs14 .ensures) start (λ j. arms-size h _ 1 _ _ m (k .pre .1 .0 .small-even) (raised-size low)) (omega arith))),
+    let u = p .centre .ensures .same in
+    let v = q .add-pairs .ensures .same in
+    let start = filled-small (2 ^ 55) (p .centre .ensures) (λ j. centre-size (t (at0 h 0)) (got 0 (k .pre .1 .0 .small-even) (a .c .given)) low (m + j)) in (
+      (omega arith, omega arith, omega arith, omega arith, omega arith, omega arith),
+      (k .pre .1 .0 .small-odd, (wo .raise2 .ensures .low, gained-small _ ((127 - n) * 2 ^ 56) (q .add-pairs .ensures) start (λ j. arms-size h _ 1 _ _ m (k .pre .1 .0 .small-even) (raised-size low)) (omega arith))),
     )
 
-sub-least : tie.Need-sub-least Inv-loop μ-loop
-sub-least c = search needs
-
-least-requires : tie.Need-least-requires Inv-loop μ-loop
-least-requires c κs = search needs
-
-store24-requires : tie.Need-store24-requires Inv-loop μ-loop
-store24-requires c κs =
-    let b = c .before in
-    let p = b .before .before .before in
-    let l = p .before .before .before .before .before in
-    let a = l .before in
-    let wo = a .before .before in
-    let we = wo .before .before .before in
-    let k = we .before .before in
-    let he = now (k .args .he) in
-    let ho = now (k .args .ho) in
-    let i = l .loop .i in
-    let u = l .loop .inv .1 .same in
-    let evens = same-hold he _ i (a .c .given) (p .before .before .centre14 .ensures) (p .pairs14 .ensures) in
-    let odds = middle-added ho _ i (b .before .pairs142 .ensures) in
-    ((omega (arith, b .least .ensures), omega (arith, b .least .ensures)), lifted-sums (half-lifted i (b .least .result) (length (now (k .args .y))) (omega (arith, b .least .ensures)) (omega (arith, b .least .ensures)) he ho (now (k .args .xe)) (now (k .args .xo)) _ _ (omega arith) (we .raise .ensures) (omega arith) (wo .raise2 .ensures) (k .pre .1 .0) evens odds (k .pre .1 .1 .1 .1)))
-
-add-i : tie.Need-add-i Inv-loop μ-loop
-add-i c =
-    let b = c .before .before .before in
-    let l = b .before .before .before .before .before .before .before .before in
-    let k = l .before .before .before .before .before .before .before .before in
-    let n = b .least .ensures in
-    let i = l .loop .inv .0 in
-    let u = l .loop .inv .1 .same in
-    let y = k .pre .0 .3 in
-    let x = k .pre .0 .5 in
-    record { fits = omega arith }
-
-loop-less : tie.Need-loop-less Inv-loop μ-loop
-loop-less c = let b = c .before .before .before in omega (arith, b .least .ensures, c .before .store24 .ensures .same)
-
-loop-again : tie.Need-loop-again Inv-loop μ-loop
-loop-again c =
-    let b = c .before .before .before in
-    let p = b .before .before .before in
-    let l = p .before .before .before .before .before in
-    let a = l .before in
+all24-requires : tie.Need-all24-requires
+all24-requires c κs =
+    let r = c .before .before in
+    let q = r .before .before .before .before in
+    let p = q .before .before .before .before in
+    let a = p .before .before .before in
     let wo = a .before .before in
     let we = wo .before .before .before in
     let k = we .before .before in
@@ -161,50 +97,47 @@ loop-again c =
     let ho = now (k .args .ho) in
     let xe = now (k .args .xe) in
     let xo = now (k .args .xo) in
-    let i = l .loop .i in
-    let u = l .loop .inv .1 .same in
-    let evens = same-hold he _ i (a .c .given) (p .before .before .centre14 .ensures) (p .pairs14 .ensures) in
-    let odds = middle-added ho _ i (b .before .pairs142 .ensures) in
-    let s = half-lifted i (b .least .result) (length (now (k .args .y))) (omega (arith, b .least .ensures)) (omega (arith, b .least .ensures)) he ho xe xo _ _ (omega arith) (we .raise .ensures) (omega arith) (wo .raise2 .ensures) (k .pre .1 .0) evens odds (k .pre .1 .1 .1 .1) in
-    let r = c .before .store24 .ensures in
-    (omega (arith, r .same, b .least .ensures), written-then (l .loop .inv .1) r (omega arith) (omega arith) (placed (half-rate he ho xe xo) 24 s))
+    let evens = fir-filled he xe _ (a .c .given) (omega arith) (we .raise .ensures) (p .centre .ensures) (q .add-pairs .ensures) in
+    let u = half-filled he ho xe xo _ (omega arith) (wo .raise2 .ensures) (k .pre .1 .0) evens (r .add-pairs2 .ensures) in
+    filled-sums (half-rate he ho xe xo) u _ (omega (arith, u .same)) (k .pre .1 .1 .1 .1)
 
-same-length : tie.Need-same-length Inv-loop μ-loop
+same-length : tie.Need-same-length
 same-length c = search needs
 
-returns : tie.Need-returns Inv-loop μ-loop
-returns c = let l = c .before .loop in written-filled (l .inv .1) (omega (arith, l .inv .1 .same))
+returns : tie.Need-returns
+returns c =
+    let r = c .before .before .before .before in
+    let q = r .before .before .before .before in
+    let p = q .before .before .before .before in
+    let a = p .before .before .before in
+    let wo = a .before .before in
+    let we = wo .before .before .before in
+    let k = we .before .before in
+    let he = now (k .args .he) in
+    let ho = now (k .args .ho) in
+    let xe = now (k .args .xe) in
+    let xo = now (k .args .xo) in
+    let evens = fir-filled he xe _ (a .c .given) (omega arith) (we .raise .ensures) (p .centre .ensures) (q .add-pairs .ensures) in
+    let u = half-filled he ho xe xo _ (omega arith) (wo .raise2 .ensures) (k .pre .1 .0) evens (r .add-pairs2 .ensures) in
+    filled-again u (filled-round (half-rate he ho xe xo) u 24 (λ j. j) (c .before .all24 .ensures) (λ j m. omega (arith, u .same)))
 
 pub dec2-spec : {M : Type 1} → statement M
 dec2-spec =
     tie.close
     (tie.spec
-    Inv-loop
-    μ-loop
     slice-aggregate-raise
     raise-requires
     slice-aggregate-raise-2
     raise-requires-2
     sub-m
     shared-slice-copy-out-c
-    loop-holds
-    slice-aggregate-centre14
-    add-centre14
-    centre14-requires
-    slice-aggregate-pairs14
-    add-pairs14
-    add-pairs14-2
-    add-pairs14-3
-    pairs14-requires
-    slice-aggregate-pairs14-2
-    add-pairs14-4
-    add-pairs14-5
-    pairs14-requires-2
-    sub-least
-    least-requires
-    store24-requires
-    add-i
-    loop-less
-    loop-again
+    slice-aggregate-centre
+    centre-requires
+    slice-aggregate-add-pairs
+    add-add-pairs
+    add-pairs-requires
+    slice-aggregate-add-pairs-2
+    add-pairs-requires-2
+    all24-requires
     same-length
     returns)

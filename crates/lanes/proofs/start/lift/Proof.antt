@@ -1,7 +1,7 @@
--- `lanes::lane::lift` meets its contract.
+-- `lanes::start::lift` meets its contract.
 use Rattle.lanes.proofs.Ops.{lift-fits, lift-cast, lift-is}
-use Rattle.lanes.proofs.lane.lift.Statement.{statement}
-use Rattle.lanes.proofs.lane.lift.Tie as tie
+use Rattle.lanes.proofs.start.lift.Statement.{statement}
+use Rattle.lanes.proofs.start.lift.Tie as tie
 
 add-result : tie.Need-add-result
 add-result c = lift-fits (c .fits .a) (c .pre)

@@ -1,4 +1,4 @@
--- `lanes::lane::raise` meets its contract.
+-- `lanes::start::raise` meets its contract.
 use Rattle.lanes.proofs.Places.{raised-none, raised-more}
 use Rattle.lanes.proofs.Ops.{got, read-lifted}
 use Rattle.lanes.specs.Lanes.{Raised}
@@ -8,8 +8,8 @@ use native.Mathlib.Omega.{arith}
 use borrow.Author.Needs.{needs}
 use denote.Ref.{now}
 use lib.ListN.{length}
-use Rattle.lanes.proofs.lane.raise.Statement.{statement}
-use Rattle.lanes.proofs.lane.raise.Tie as tie
+use Rattle.lanes.proofs.start.raise.Statement.{statement}
+use Rattle.lanes.proofs.start.raise.Tie as tie
 
 abbrev Inv-loop : tie.InvT-loop
 Inv-loop x v₀ k₀ v k = (k ≤ length x) × (length v ≡ length v₀) × Raised k x v

@@ -1,29 +1,29 @@
--- `lanes::lane::centre14` meets its contract.
-use Rattle.lanes.proofs.Places.{written-none, written-more, written-hold, hold-as}
+-- `lanes::start::centre` meets its contract.
+use Rattle.lanes.proofs.Places.{written-none, written-more, written-filled, filled-as}
 use Rattle.lanes.proofs.Ops.{centre-lane}
 use Rattle.numbers.proofs.Machine.{t, val}
 use Rattle.lanes.specs.Lanes.{raised, Written}
 use mir.Facts.{toZ-ofZ}
 use mir.Val.{toZ}
 use mir.Syntax.{w64}
-use mathlib.Core.Path.{_≡_, refl, ap}
+use mathlib.Core.Path.{ap}
 use Prim.Native.Nat.{_+_, _-_, _≤_}
 use native.Mathlib.Omega.{arith}
 use borrow.Author.Needs.{needs}
 use denote.Ref.{now}
 use lib.IntN.{ℤ, natAbs, _*ℤ_}
 use lib.ListN.{length}
-use Rattle.lanes.proofs.lane.centre14.Statement.{statement}
-use Rattle.lanes.proofs.lane.centre14.Tie as tie
+use Rattle.lanes.proofs.start.centre.Statement.{statement}
+use Rattle.lanes.proofs.start.centre.Tie as tie
 
 abbrev Inv-loop : tie.InvT-loop
-Inv-loop h v at s₀ l₀ s l = (l ≤ 14) × (length s ≡ 14) × Written (λ k. toZ w64 h *ℤ raised v (at + k)) 0 l s₀ s
+Inv-loop y₀ h v at k₀ y k = (k ≤ length y₀) × Written (λ i. toZ w64 h *ℤ raised v (at + i)) 0 k y₀ y
 
 abbrev μ-loop : tie.MeasureT-loop
-μ-loop h v at s₀ l₀ s l = 14 - l
+μ-loop y₀ h v at k₀ y k = length y₀ - k
 
 loop-holds : tie.Need-loop-holds Inv-loop μ-loop
-loop-holds c = (search needs, refl, written-none (omega arith))
+loop-holds c = (omega arith, written-none (omega arith))
 
 add-product : tie.Need-add-product Inv-loop μ-loop
 add-product c = search needs
@@ -41,14 +41,14 @@ product-requires c κs =
     let f = k .fits .h in
     (omega (arith, ap natAbs (toZ-ofZ f), k .pre .0 .1), k .pre .1 .size _)
 
-mul-s : tie.Need-mul-s Inv-loop μ-loop
-mul-s c = search needs
+mul-r : tie.Need-mul-r Inv-loop μ-loop
+mul-r c = search needs
 
-array-set-from-s : tie.Need-array-set-from-s Inv-loop μ-loop
-array-set-from-s c = search needs
+slice-set-from-r : tie.Need-slice-set-from-r Inv-loop μ-loop
+slice-set-from-r c = search needs
 
-add-l : tie.Need-add-l Inv-loop μ-loop
-add-l c = search needs
+add-k : tie.Need-add-k Inv-loop μ-loop
+add-k c = search needs
 
 loop-less : tie.Need-loop-less Inv-loop μ-loop
 loop-less c = search needs
@@ -57,16 +57,21 @@ loop-again : tie.Need-loop-again Inv-loop μ-loop
 loop-again c =
     let l = c .before .before .before in
     let k = l .before .before .args in
-    let u = written-more {j = l .loop .l + 1} (l .loop .inv .2) (omega arith) (omega arith) (centre-lane (t (k .h)) (now (k .v)) (k .at + l .loop .l) (val _ _ (c .product .ok) (c .product .ensures))) (omega arith) in
-    (omega arith, omega (arith, u .same, l .loop .inv .2 .same), u)
+    let u = l .loop .inv .1 .same in
+    let w = written-more {j = l .loop .k + 1} (l .loop .inv .1) (omega arith) (omega arith) (centre-lane (t (k .h)) (now (k .v)) (k .at + l .loop .k) (val _ _ (c .product .ok) (c .product .ensures))) (omega arith) in
+    (omega (arith, w .same), w)
+
+same-length : tie.Need-same-length Inv-loop μ-loop
+same-length c = search needs
 
 returns : tie.Need-returns Inv-loop μ-loop
 returns c =
     let k = c .before .before .before in
-    hold-as (written-hold (c .before .loop .inv .2) (omega arith)) (λ l. ap (λ (z : ℤ). z *ℤ raised (now (k .args .v)) (k .args .at + l)) (toZ-ofZ (k .fits .h)))
+    let l = c .before .loop in
+    filled-as (written-filled (l .inv .1) (omega (arith, l .inv .1 .same))) (λ i m. ap (λ (z : ℤ). z *ℤ raised (now (k .args .v)) (k .args .at + i)) (toZ-ofZ (k .fits .h)))
 
-pub centre14-spec : {M : Type 1} → statement M
-centre14-spec =
+pub centre-spec : {M : Type 1} → statement M
+centre-spec =
     tie.close
     (tie.spec
     Inv-loop
@@ -76,9 +81,10 @@ centre14-spec =
     mul-product
     shared-slice-read-product
     product-requires
-    mul-s
-    array-set-from-s
-    add-l
+    mul-r
+    slice-set-from-r
+    add-k
     loop-less
     loop-again
+    same-length
     returns)

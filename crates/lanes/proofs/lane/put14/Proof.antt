@@ -1,0 +1,75 @@
+-- `lanes::lane::put14` meets its contract.
+use Rattle.lanes.proofs.Places.{written-none, written-more}
+use Rattle.numbers.proofs.Machine.{val}
+use Rattle.lanes.specs.Lanes.{Written}
+use Rattle.numbers.specs.Sums.{at0}
+use mathlib.Core.Path.{_≡_, ap}
+use Prim.Native.Nat.{_+_, _-_, _≤_}
+use native.Mathlib.Omega.{arith}
+use borrow.Author.Needs.{needs}
+use Rattle.lanes.proofs.lane.put14.Statement.{statement}
+use Rattle.lanes.proofs.lane.put14.Tie as tie
+
+abbrev Inv-loop : tie.InvT-loop
+Inv-loop y₀ i s l₀ y l = (l ≤ 14) × Written (λ k. at0 s (k - i)) i (i + l) y₀ y
+
+abbrev μ-loop : tie.MeasureT-loop
+μ-loop y₀ i s l₀ y l = 14 - l
+
+loop-holds : tie.Need-loop-holds Inv-loop μ-loop
+loop-holds c = (search needs, written-none (omega arith))
+
+mul-y : tie.Need-mul-y Inv-loop μ-loop
+mul-y c = search needs
+
+array-copy-out-y : tie.Need-array-copy-out-y Inv-loop μ-loop
+array-copy-out-y c = search needs
+
+add-t11 : tie.Need-add-t11 Inv-loop μ-loop
+add-t11 c = search needs
+
+mul-t12 : tie.Need-mul-t12 Inv-loop μ-loop
+mul-t12 c = search needs
+
+slice-set-from-y : tie.Need-slice-set-from-y Inv-loop μ-loop
+slice-set-from-y c = search needs
+
+add-l : tie.Need-add-l Inv-loop μ-loop
+add-l c = search needs
+
+loop-less : tie.Need-loop-less Inv-loop μ-loop
+loop-less c = search needs
+
+loop-again : tie.Need-loop-again Inv-loop μ-loop
+loop-again c =
+    let l = c .before .before in
+    let u = l .loop .inv .1 .same in
+    let s = l .before .args .t3 in
+    (omega arith, written-more (l .loop .inv .1) (omega arith) (omega arith) (val _ _ (c .y .given) (ap (at0 s) (omega arith))) (omega arith))
+
+same-length : tie.Need-same-length Inv-loop μ-loop
+same-length c = search needs
+
+returns : tie.Need-returns Inv-loop μ-loop
+returns c =
+    let l = c .before .loop in
+    let e : l .l ≡ 14 = omega arith in
+    rw e at (l .inv .1)
+
+pub put14-spec : {M : Type 1} → statement M
+put14-spec =
+    tie.close
+    (tie.spec
+    Inv-loop
+    μ-loop
+    loop-holds
+    mul-y
+    array-copy-out-y
+    add-t11
+    mul-t12
+    slice-set-from-y
+    add-l
+    loop-less
+    loop-again
+    same-length
+    returns)
