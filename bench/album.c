@@ -1,4 +1,5 @@
-/* Seconds that a 60-minute album takes, for every route, in stereo and six channels, as one run and in pieces. bench/album builds and runs it.
+/* Seconds that a 60-minute album takes, for every route, in stereo and six channels, as one run and in pieces; and ns a sample by the length
+ * of a run and by the number of channels. bench/album builds and runs it.
  *
  * A stretch of the album is converted (argument: seconds of it, 20 by default) and its time scaled to 60 minutes. Conversions run in a
  * thread whose stack is painted before, so that the deepest use of it can be read off after. */
@@ -68,6 +69,41 @@ static size_t on_painted_stack(struct album *a, unsigned char *stack) {
     return STACK - untouched;
 }
 
+static struct album stretch(int route, uint8_t channels, size_t frames, size_t piece, const uint8_t *in, uint8_t *out) {
+    size_t samples = (size_t)rates[route % 3] / FRAMES_A_SECOND;
+    return (struct album){.rate = rates[route % 3], .cutoff = (uint8_t)(route / 3), .channels = channels, .frames = frames, .piece = piece,
+                          .size = (size_t)SCARLETBOOK_FRAME_BYTES * channels, .out_size = samples * channels * 3, .in = in, .out = out};
+}
+
+/* ns a sample of runs of that many frames with no neighbours, over some 1,000 frames; the best of the rounds. */
+static double each(int route, uint8_t channels, size_t frames, const uint8_t *in, uint8_t *out) {
+    struct album a = stretch(route, channels, frames, 0, in, out);
+    double best = 1e9;
+    size_t runs = 1000 / frames;
+    for (int round = 0; round < ROUNDS; round++) {
+        double total = 0;
+        for (size_t k = 0; k < runs; k++) {
+            convert(&a);
+            total += a.seconds;
+        }
+        if (total < best) best = total;
+    }
+    return 3e9 * best / (double)(runs * frames * a.out_size);
+}
+
+static void lengths_and_channels(const uint8_t *in, uint8_t *out) {
+    printf("\n| Route | 1 frame | 10 | 100 | 1,000 | 1 channel | 2 | 3 | 4 | 5 | 6 |\n|---|---|---|---|---|---|---|---|---|---|---|\n");
+    for (int route = 0; route < 9; route++) {
+        if (route == 6) continue; /* wide at 88,200 */
+        printf("| %s %u |", cutoffs[route / 3], rates[route % 3]);
+        for (size_t frames = 1; frames <= 1000; frames *= 10) printf(" %.2f |", each(route, 2, frames, in, out));
+        for (uint8_t channels = 1; channels <= 6; channels++) printf(" %.2f |", each(route, channels, 100, in, out));
+        printf("\n");
+        fflush(stdout);
+    }
+    printf("\nns a sample, packed; runs of 1 to 1,000 frames in stereo, and of 100 frames with 1 to 6 channels; the best of %d.\n", ROUNDS);
+}
+
 int main(int argc, char **argv) {
     size_t frames = (argc > 1 ? strtoul(argv[1], NULL, 10) : 20) * FRAMES_A_SECOND;
     size_t deepest = 0;
@@ -82,9 +118,7 @@ int main(int argc, char **argv) {
         for (uint8_t channels = 2; channels <= 6; channels += 4) {
             printf("| %s %u | %u |", cutoffs[route / 3], rates[route % 3], channels);
             for (size_t p = 0; p < sizeof pieces / sizeof *pieces; p++) {
-                struct album a = {.rate = rates[route % 3], .cutoff = (uint8_t)(route / 3), .channels = channels, .frames = frames,
-                                  .piece = pieces[p], .size = (size_t)SCARLETBOOK_FRAME_BYTES * channels,
-                                  .out_size = (size_t)rates[route % 3] / FRAMES_A_SECOND * channels * 3, .in = in, .out = out};
+                struct album a = stretch(route, channels, frames, pieces[p], in, out);
                 double best = 1e9;
                 for (int round = 0; round < ROUNDS; round++) {
                     size_t used = on_painted_stack(&a, stack);
@@ -99,5 +133,6 @@ int main(int argc, char **argv) {
     }
     printf("\nSeconds for 60 minutes, scaled from %zu s; the best of %d. Deepest stack %zu bytes, the thread's own part included.\n",
            frames / FRAMES_A_SECOND, ROUNDS, deepest);
+    if (frames >= 1000) lengths_and_channels(in, out);
     return 0;
 }

@@ -1,4 +1,4 @@
--- Fourteen neighbouring places of the output at a time: the lanes. A copy of the block has every value lifted by 2^29, so that the machine multiplies numbers that are not negative.
+-- How the sums are made. A copy of the block has every value lifted by 2^29, so that the machine multiplies numbers that are not negative; fourteen places of the output at a time, the lanes, gain a tap.
 use mathlib.Core.Path.{_≡_}
 use mathlib.Core.List.{List}
 use Prim.Native.Nat.{ℕ, _+_, _-_, _^_, _≤_, _<_}
@@ -8,6 +8,7 @@ use Rattle.numbers.specs.Sums.{sumTo, at0}
 use Rattle.reference.specs.Rounding.{R}
 use Rattle.reference.specs.Stages.{tap}
 
+-- value k of x, lifted
 unfoldable pub lifted : List ℤ → ℕ → ℤ
 lifted x k = at0 x k +ℤ pos (2 ^ 29)
 
@@ -40,12 +41,12 @@ pub record Hold (f : ℕ → ℤ) (s : List ℤ) : Type 0 where
 pub record Added (g : ℕ → ℤ) (old new : List ℤ) : Type 0 where
   pub is : (l : ℕ) → l < 14 → at0 new l ≡ at0 old l +ℤ g l
 
--- of the first n lanes none is negative, or over 2^54
+-- of the first n sums none is negative, or over 2^54
 pub record Sums (n : ℕ) (s : List ℤ) : Type 0 where
   pub is : (l : ℕ) → l < n → at0 s l ≡ pos (natAbs (at0 s l))
   pub size : (l : ℕ) → l < n → natAbs (at0 s l) ≤ 2 ^ 54
 
--- lane l, the lift of 2^53 taken away, rounded
+-- sum l, the lift of 2^53 taken away, rounded
 unfoldable pub rounded : ℕ → List ℤ → ℕ → ℤ
 rounded q s l = R (at0 s l -ℤ pos (2 ^ 53)) q
 

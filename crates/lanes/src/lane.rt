@@ -106,6 +106,7 @@ fn pairs14(acc: [i64; 14], h: &[i64], from: usize, v: &[u64], end: usize, up: us
     s
 }
 
+// Fourteen places of y, from i on.
 fn load14(y: &[i64], i: usize) -> [i64; 14]
     requires { ⌜ i + 14 ≤ length (now y) ⌝ }
     ensures { λ r. ⌜ Hold (λ l. at0 (now (y .entry)) (i + l)) r ⌝ }

@@ -8,6 +8,7 @@ ghost use Rattle.lanes.specs.Filters.{Small, Filled};
 ghost use Rattle.lanes.specs.Lanes.{lifted, raised, Low, Raised};
 use crate::lane;
 
+// A value lifted.
 fn lift(a: i64) -> u64
     requires { ⌜ natAbs a ≤ 2 ^ 29 ⌝ }
     ensures { λ r. ⌜ (pos r ≡ a +ℤ pos (2 ^ 29)) × (r ≤ 2 ^ 30) ⌝ }
@@ -15,7 +16,7 @@ fn lift(a: i64) -> u64
     (a + 536870912) as u64
 }
 
-// The copy: x, each value lifted, and past it what v had.
+// The copy: v begins with x, each value lifted.
 pub fn raise(x: &[i64], v: &mut [u64])
     requires { ⌜ length (now x) ≤ length (now v) ⌝ }
     requires { ⌜ Small (2 ^ 29) (now x) ⌝ }
@@ -30,6 +31,7 @@ pub fn raise(x: &[i64], v: &mut [u64])
     }
 }
 
+// h * a
 fn product(h: i64, a: u64) -> i64
     requires { ⌜ (natAbs h ≤ 2 ^ 25) × (a ≤ 2 ^ 30) ⌝ }
     ensures { λ r. ⌜ r ≡ h *ℤ pos a ⌝ }
@@ -51,6 +53,7 @@ pub fn centre(y: &mut [i64], h: i64, v: &[u64], at: usize)
     }
 }
 
+// 2^23 times a, lifted.
 fn halved(a: i64) -> i64
     requires { ⌜ natAbs a ≤ 2 ^ 29 ⌝ }
     ensures { λ r. ⌜ r ≡ pos 8388608 *ℤ (a +ℤ pos (2 ^ 29)) ⌝ }
