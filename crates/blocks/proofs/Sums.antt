@@ -3,7 +3,7 @@ use mathlib.Core.Path.{_≡_, refl, sym, ap, _∙_, subst}
 use mathlib.Core.Bool.{Bool, true, false, true≢false}
 use mathlib.Core.List.{List}
 use Prim.Native.Nat.{ℕ, _+_, _*_, _%_, _^_, _≤_, _<_}
-use native.Mathlib.Nat.{mul-le-mul, mul-le-mul-right}
+use native.Mathlib.Nat.{mul-le-mul}
 use native.Mathlib.Omega.{arith}
 use lib.Dec.{lit≤, lit<}
 use lib.IntN.{ℤ, pos, natAbs}
@@ -82,10 +82,6 @@ no-block Hz352800 = refl
 -- the samples of a channel of a run
 pub few-samples : (rate : PcmRate) (n : ℕ) → n ≤ 540000 → n * samples-per-frame rate ≤ 540000 * 4704
 few-samples rate n l = mul-le-mul l (frame-samples rate)
-
--- the k-th stretch of so many is within n of them
-pub part-end : (k n size : ℕ) → k < n → k * size + size ≤ n * size
-part-end k n size h = omega (arith, mul-le-mul-right size h)
 
 -- the arrays after a call that keeps their lengths
 pub sized-kept : {rate : PcmRate} {b b' : List ℕ} {e o s t y l e' o' s' t' y' l' : List ℤ} → Sized rate b e o s t y l

@@ -12,13 +12,9 @@ use lib.Dec.{ltb, leb, eqb}
 use lib.ListN.{length, getD, take, drop, replicate, length-append, length-drop, length-replicate, getD-replicate, List·getD-append, List·getD-eq-default}
 use lib.Seq.{getD-append-add, getD-take, getD-drop, length-take-le}
 use Rattle.numbers.specs.Lists.{Held, Wrote}
-use Rattle.numbers.proofs.Lists.{below-or}
+use Rattle.numbers.proofs.Lists.{below-or, part-end}
 use Rattle.reference.specs.Frames.{frame-length, frame, neighbour, sequence, channel-byte}
 use Rattle.channel_bytes.specs.Lent.{lent-run, Lent, frame-part, byte-at}
-
--- frame k of count frames ends within them
-pub frame-end : (k count size : ℕ) → k < count → k * size + size ≤ count * size
-frame-end k count size l = omega (arith, mul-le-mul-right size l)
 
 -- a neighbour's frame and the slice that is lent for it
 module _ (ch : ℕ) (bytes : List ℕ) (one : 0 < length bytes → length bytes ≡ frame-length ch) where
@@ -103,7 +99,7 @@ module _ {ch count : ℕ} {b f a : List ℕ} (lent : Lent ch count b f a) where
       go true d u g w = lent .first
       go false d true g w =
           λ some. length-take-le size (drop ((q - 1) * size) f)
-          (omega (arith, length-drop ((q - 1) * size) f, lent .whole, frame-end (q - 1) count size (omega (arith, leb-true q count g, eqb-false q 0 d))))
+          (omega (arith, length-drop ((q - 1) * size) f, lent .whole, part-end (q - 1) count size (omega (arith, leb-true q count g, eqb-false q 0 d))))
       go false d false g true = lent .last
       go false d false g false = λ some. absurd (omega arith)
 

@@ -69,7 +69,6 @@ filled-small {old} {new} B u e =
       size = λ k. ⊎-elim (λ l. rw (u .is k l) (e k)) (λ l. rw (List·getD-eq-default {A = ℤ} new (pos 0) {n = k} (omega (arith, u .same))) (omega arith)) (below-or k (length old));
     }
 
--- every place has gained g
 pub gained-small : (g : ℕ → ℤ) {old new : List ℤ} {A G : ℕ} (B : ℕ) → Filled (λ k. at0 old k +ℤ g k) old new → Small A old → ((k : ℕ) → natAbs (g k) ≤ G) → A + G ≤ B → Small B new
 gained-small g {old} B u a e l = filled-small B u (λ k. omega (arith, abs-add (at0 old k) (g k), a .size k, e k))
 

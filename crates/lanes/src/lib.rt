@@ -1,4 +1,5 @@
-// Module 5: filters over blocks of whole numbers, sums first, for every place of the output, and then their rounding. Every place of the output is written, nothing else is.
+// Module 5: filters over blocks of whole numbers: the sums of every place, then their rounding. Every place of the output is written, nothing
+// else is.
 ghost use mathlib.Core.Path.{_≡_};
 ghost use Prim.Native.Nat.{_+_, _*_, _-_, _%_, _^_, _≤_, _<_};
 ghost use lib.IntN.{pos, _+ℤ_};

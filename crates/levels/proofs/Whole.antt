@@ -10,14 +10,13 @@ use lib.IntN.{ℤ}
 use lib.ListN.{length, take, drop, length-drop, replicate, length-replicate, take-append-drop}
 use lib.Seq.{length-take-le, take-append-le, drop-append-le}
 use Rattle.numbers.specs.Lists.{count}
-use Rattle.numbers.proofs.Lists.{tabulate-same, total-same, below-or}
+use Rattle.numbers.proofs.Lists.{tabulate-same, total-same, below-or, part-end}
 use Rattle.reference.specs.Frames.{Run, frame-length, frame-count, frame, idle, neighbour, before-frame, after-frame, sequence, channel-byte}
 use Rattle.reference.specs.Scaling.{clamp}
 use Rattle.reference.specs.Output.{samples-per-frame, sample, clipped, frame-clips}
 use Rattle.reference.specs.declared.Converter.{Converter}
 use Rattle.reference.proofs.Frames.{some-samples, channel-left, channel-right, channel-frame}
 use Rattle.reference.proofs.Locality.{reach-small}
-use Rattle.blocks.proofs.Sums.{part-end}
 use Rattle.joins.proofs.Pieces.{PieceOf, unclamped-same, piece-clips}
 use Rattle.report_lines.specs.Text.{joined}
 use Rattle.report_lines.specs.Lines.{level-line}

@@ -3,12 +3,17 @@ use mathlib.Core.Path.{_≡_, refl, ap, ap₂, sym, _∙_}
 use mathlib.Core.List.{List, [], _∷_, _++_, append-assoc, append-nil}
 use mathlib.Core.Bool.{Bool, true, false, cond, not}
 use mathlib.Core.Logic.{_⊎_, inl, inr, ⊎-elim}
-use Prim.Native.Nat.{ℕ, zero, suc, _+_, _≤_, _<_}
+use Prim.Native.Nat.{ℕ, zero, suc, _+_, _*_, _≤_, _<_}
+use native.Mathlib.Nat.{mul-le-mul-right}
 use native.Mathlib.Omega.{arith}
 use lib.Dec.{T, leb, leb→le, nleb→lt}
 use lib.ListN.{length, getD, set, length-set, length-append, List·getD-append, replicate, length-replicate, getD-replicate}
 use lib.Seq.{getD-at, ext-getD, getD-set-same, getD-set-other}
 use Rattle.numbers.specs.Lists.{tabulate, total, Held, Wrote}
+
+-- the k-th stretch of so many is within n of them
+pub part-end : (k n size : ℕ) → k < n → k * size + size ≤ n * size
+part-end k n size h = omega (arith, mul-le-mul-right size h)
 
 -- what stands at a place of a list does not go by the default
 pub getD-any : {A : Type 0} (l : List A) (i : ℕ) (d e : A) → i < length l → getD l i d ≡ getD l i e

@@ -326,10 +326,11 @@ pub fn fill_u_parts<'a>(
     );
 }
 
-// n values of an array, those from place `by` on, become its first.
+// n values of an array, those from place `by` on, become its first; the places past them keep theirs.
 pub fn shift(x: &mut [i64], by: usize, n: usize)
     requires { ⌜ by + n ≤ length (now x) ⌝ }
     ensures { λ _. ⌜ ((k : ℕ) → k < n → getD (now (x .exit)) k (pos 0) ≡ getD (now (x .entry)) (k + by) (pos 0)) ⌝ }
+    ensures { λ _. ⌜ ((k : ℕ) → n ≤ k → getD (now (x .exit)) k (pos 0) ≡ getD (now (x .entry)) k (pos 0)) ⌝ }
 {
     let mut k: usize = 0;
     while k < n {

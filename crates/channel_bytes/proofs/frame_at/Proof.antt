@@ -6,7 +6,7 @@ use native.Mathlib.Omega.{arith}
 use borrow.Author.Tests.{eq-eqb, ne-eqb, le-leb, lt-leb}
 use Rattle.reference.specs.Frames.{frame}
 use Rattle.channel_bytes.specs.Lent.{frame-part}
-use Rattle.channel_bytes.proofs.Frames.{frame-end}
+use Rattle.numbers.proofs.Lists.{part-end}
 use Rattle.channel_bytes.proofs.frame_at.Statement.{statement}
 use Rattle.channel_bytes.proofs.frame_at.Tie as tie
 
@@ -23,7 +23,7 @@ sub-start c = search needs
 within : (c : tie.Then2) →
     (c .before .before .before .before .before .args .p / 4704 - 1) * (4704 * c .before .before .before .before .before .args .ch) + 4704 * c .before .before .before .before .before .args .ch
     ≤ c .before .before .before .before .before .args .count * (4704 * c .before .before .before .before .before .args .ch)
-within c = frame-end _ _ _ (omega arith)
+within c = part-end _ _ _ (omega arith)
 
 mul-start : tie.Need-mul-start
 mul-start c = omega (arith, within c)

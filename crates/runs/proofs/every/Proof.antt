@@ -8,7 +8,8 @@ use borrow.Author.Needs.{needs}
 use Rattle.reference.specs.Output.{samples-per-frame}
 use Rattle.channel_bytes.specs.Lent.{lent-run}
 use Rattle.blocks.specs.Blocks.{Sized}
-use Rattle.blocks.proofs.Sums.{even-frames, sized-kept, part-end, room-same}
+use Rattle.numbers.proofs.Lists.{part-end}
+use Rattle.blocks.proofs.Sums.{even-frames, sized-kept, room-same}
 use Rattle.runs.proofs.Sums.{Frames, frames-none, frames-past, frames-more, run-done}
 use Rattle.runs.proofs.every.Statement.{statement}
 use Rattle.runs.proofs.every.Tie as tie

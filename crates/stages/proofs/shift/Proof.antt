@@ -61,7 +61,7 @@ same-length : tie.Need-same-length Inv-loop μ-loop
 same-length c = c .before .loop .inv .1
 
 returns : tie.Need-returns Inv-loop μ-loop
-returns c k l = c .before .loop .inv .2 k (omega arith)
+returns c = (λ k l. c .before .loop .inv .2 k (omega arith), λ k l. c .before .loop .inv .3 k (omega arith))
 
 pub shift-spec : {M : Type 1} → statement M
 shift-spec =

@@ -100,7 +100,7 @@ returns c =
       s .pre .1 .0 .3,
       record {
         long = omega (arith, long, c .before .shift .kept .0);
-        held = held-at _ (omega (arith, f .few, s .pre .1 .0 .1)) (shifted 16 (2 * p) (omega (arith, f .few)) (c .before .shift .ensures) (q .ensures));
+        held = held-at _ (omega (arith, f .few, s .pre .1 .0 .1)) (shifted 16 (2 * p) (omega (arith, f .few)) (c .before .shift .ensures .0) (q .ensures));
       },
       record { long = omega (arith, s .pre .1 .1 .1 .1 .1 .4, w .kept .1 .1 .1 .1 .1 .1 .1 .1 .1 .1 .1 .0); held = held-at _ (omega arith) (w .ensures) },
     )

@@ -107,7 +107,7 @@ returns c =
       held-some _ (omega arith) (fir1-gives (g .ensures) e (omega arith) (omega (arith, f .few, m .long)) (now (s .args .h)) _ (omega arith) (c .before .before .before .before .fir1 .ensures) (omega arith)),
       λ t. (record {
         long = omega (arith, m .long, c .before .shift .kept .0);
-        held = held-at _ (omega arith) (shifted 168 (2 * (length (now (s .args .h)) - 1)) (omega arith) (c .before .shift .ensures) (g .ensures));
+        held = held-at _ (omega arith) (shifted 168 (2 * (length (now (s .args .h)) - 1)) (omega arith) (c .before .shift .ensures .0) (g .ensures));
       }),
     )
 

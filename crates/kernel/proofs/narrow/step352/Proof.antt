@@ -104,11 +104,11 @@ returns c =
         omega (arith, even),
         record {
           long = omega (arith, long, c .before .before .before .before .shift .kept .0);
-          held = held-at _ (omega (arith, f .few, low, even)) (shifted 168 (2 * p) (omega (arith, f .few)) (c .before .before .before .before .shift .ensures) (g .ensures));
+          held = held-at _ (omega (arith, f .few, low, even)) (shifted 168 (2 * p) (omega (arith, f .few)) (c .before .before .before .before .shift .ensures .0) (g .ensures));
         },
         record {
           long = omega (arith, long-w, c .before .shift2 .kept .0);
-          held = held-at _ (omega (arith, low, even)) (shifted 168 16 (omega arith) (c .before .shift2 .ensures) (w .ensures));
+          held = held-at _ (omega (arith, low, even)) (shifted 168 16 (omega arith) (c .before .shift2 .ensures .0) (w .ensures));
         },
       ),
     )

@@ -122,8 +122,8 @@ returns c =
     let h = taps s in (
       dec2-gives f _ _ (c .before .before .before .before .before .before .before .dec2 .ensures) (omega (arith, h)) (omega arith),
       (
-        next 168 _ _ (f .even-values) (omega (arith, h)) (omega (arith, h)) (c .before .before .before .before .shift .kept .0) (λ k q. c .before .before .before .before .shift .ensures k (omega (arith, h))),
-        next 168 _ _ (f .odd-values) (omega (arith, h)) (omega (arith, h)) (c .before .shift2 .kept .0) (λ k q. c .before .shift2 .ensures k (omega (arith, h))),
+        next 168 _ _ (f .even-values) (omega (arith, h)) (omega (arith, h)) (c .before .before .before .before .shift .kept .0) (λ k q. c .before .before .before .before .shift .ensures .0 k (omega (arith, h))),
+        next 168 _ _ (f .odd-values) (omega (arith, h)) (omega (arith, h)) (c .before .shift2 .kept .0) (λ k q. c .before .shift2 .ensures .0 k (omega (arith, h))),
       ),
     )
 

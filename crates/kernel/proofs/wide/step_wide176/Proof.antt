@@ -88,8 +88,8 @@ returns c =
     let f = around (c .before .before .before .before .before .before .before .before .before .before .before .before .before .before .before .before .before) in (
       dec2-gives f _ _ (c .before .before .before .before .before .before .before .dec2 .ensures) (omega (arith, F80-last)) (omega arith),
       (
-        next 168 _ 116 (f .even-values) (omega arith) (omega arith) (c .before .before .before .before .shift .kept .0) (c .before .before .before .before .shift .ensures),
-        next 168 _ 116 (f .odd-values) (omega arith) (omega arith) (c .before .shift2 .kept .0) (c .before .shift2 .ensures),
+        next 168 _ 116 (f .even-values) (omega arith) (omega arith) (c .before .before .before .before .shift .kept .0) (c .before .before .before .before .shift .ensures .0),
+        next 168 _ 116 (f .odd-values) (omega arith) (omega arith) (c .before .shift2 .kept .0) (c .before .shift2 .ensures .0),
       ),
     )
 

@@ -83,7 +83,7 @@ returns c =
     let t = taps s in
     let y = fir1-gives (a .held) 456 (omega arith) (omega (arith, a .long)) (now (s .args .h)) (s .args .n) (omega (arith, t)) (c .before .before .before .before .fir1 .ensures) (omega (arith, t)) in (
       held-some _ (omega arith) (held-as y (λ k. ap (λ h. R (fir h (u S1-WIDE (β s)) k) 24) (s .pre .1 .1 .1 .0))),
-      λ t. next 336 _ 120 a (omega arith) (omega arith) (c .before .shift .kept .0) (c .before .shift .ensures),
+      λ t. next 336 _ 120 a (omega arith) (omega arith) (c .before .shift .kept .0) (c .before .shift .ensures .0),
     )
 
 pub step-wide352-spec : {M : Type 1} → statement M
