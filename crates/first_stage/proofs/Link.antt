@@ -2,6 +2,7 @@
 use mathlib.Core.Path.{_≡_, refl, sym, _∙_, ap, ap₂}
 use mathlib.Core.List.{List}
 use Prim.Native.Nat.{ℕ, suc, _+_, _-_, _*_, _/_, _%_, _<_, _≤_}
+use native.Mathlib.Nat.{mul-le-mul-left}
 use native.Mathlib.Omega.{arith}
 use lib.IntN.{ℤ, pos, _+ℤ_, _*ℤ_, +ℤ-idl, zero-*ℤ}
 use lib.ListN.{length, getD, take, drop, length-drop, List·getD-eq-default}
@@ -11,6 +12,7 @@ use Rattle.numbers.specs.Lists.{Held}
 use Rattle.numbers.proofs.Sums.{sum-same, sum-head, sum-blocks}
 use Rattle.reference.specs.Stages.{tap, M, fir, bit, sign, entry, x, u}
 use Rattle.tables.specs.Tables.{ByteTables}
+use Rattle.first_stage.specs.Windows.{window-sum}
 
 module _ (h : List ℤ) (half : ℕ) (long : length h ≡ 8 * half) (some : 0 < half) (β : ℕ → ℕ) (m : ℕ) (room : half ≤ m) where
   -- the 16 × half samples of the window, with the taps from -8 × half on; the first tap is past the table's end
@@ -39,10 +41,6 @@ module _ (h : List ℤ) (half : ℕ) (long : length h ≡ 8 * half) (some : 0 < 
 
 -- ---- the code's windows
 
--- the tables over 2 × half bytes from `at` on
-unfoldable pub window-sum : List ℤ → ℕ → List ℕ → ℕ → ℤ
-window-sum tables half bytes at = sumTo (2 * half) (λ j. at0 tables (256 * j + getD bytes (at + j) 0))
-
 -- of a part of the bytes
 pub window-is : (tables : List ℤ) (half : ℕ) (bytes : List ℕ) (at : ℕ) (part : List ℕ) → part ≡ take (2 * half) (drop at bytes) → at + 2 * half ≤ length bytes
     → sumTo (length part) (λ j. at0 tables (256 * j + getD part j 0)) ≡ window-sum tables half bytes at
@@ -51,8 +49,8 @@ window-is tables half bytes at part e l =
     let n : length part ≡ 2 * half = ap length e ∙ length-take-le (2 * half) (drop at bytes) (omega (arith, length-drop at bytes)) in
     rw n (sum-same (2 * half) _ _ (λ j m. ap (λ b. at0 tables (256 * j + b)) (ap (λ z. getD z j 0) e ∙ getD-take (2 * half) (drop at bytes) j 0 m ∙ getD-drop at bytes j 0)))
 
--- u at every place that the sums stand for
-pub u-held : {h tables : List ℤ} {bytes : List ℕ} {β : ℕ → ℕ} {base : ℕ} (half at : ℕ) → length h ≡ 8 * half → 0 < half → ByteTables h (2 * half) tables
+-- u at the place that a sum stands for
+u-held : {h tables : List ℤ} {bytes : List ℕ} {β : ℕ → ℕ} {base : ℕ} (half at : ℕ) → length h ≡ 8 * half → 0 < half → ByteTables h (2 * half) tables
     → ((i : ℕ) → getD bytes i 0 < 256) → Held 0 β base (length bytes) bytes → at + 2 * half ≤ length bytes → window-sum tables half bytes at ≡ u h β (base + at + half)
 unfolding window-sum
 u-held {h} {tables} {bytes} {β} {base} half at long some rule small held l =
@@ -63,3 +61,18 @@ u-held {h} {tables} {bytes} {β} {base} half at long some rule small held l =
     let i : base + at + half - half + j ≡ base + (at + j) = omega arith in
     rule .rule (256 * j + b) (omega (arith, small (at + j))) ∙ ap₂ (entry h (2 * half)) q (r ∙ held .is (at + j) (omega arith)) ∙ ap (λ k. entry h (2 * half) j (β k)) (sym i))
     ∙ sym (u-is h half long some β (base + at + half) (omega arith))
+
+-- place k's window ends no later than the last one's
+pub not-later : (step k n : ℕ) → k < n → step * k + step ≤ step * n
+not-later step k n l = omega (arith, mul-le-mul-left {m = k + 1} {n = n} step (omega arith))
+
+-- u at every step-th place
+pub all-held : {tables : List ℤ} {bytes : List ℕ} (half start step n : ℕ) {out : List ℤ} → Held (pos 0) (λ i. window-sum tables half bytes (start + step * i)) 0 n out → start + step * n + 2 * half ≤ length bytes + step
+    → ((i : ℕ) → getD bytes i 0 < 256) → (h : List ℤ) (β : ℕ → ℕ) (base : ℕ) → length h ≡ 8 * half → 0 < half → ByteTables h (2 * half) tables → Held 0 β base (length bytes) bytes
+    → Held (pos 0) (λ k. u h β (base + start + half + step * k)) 0 n out
+all-held half start step n sums room small h β base long some rule held =
+    record {
+      is = λ k l. sums .is k l
+          ∙ u-held half (start + step * (0 + k)) long some rule small held (omega (arith, not-later step k n l))
+          ∙ ap (u h β) (omega arith);
+    }

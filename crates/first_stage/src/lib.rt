@@ -8,6 +8,7 @@ ghost use Rattle.numbers.specs.Sums.{sumTo, at0};
 ghost use Rattle.numbers.specs.Lists.{Held};
 ghost use Rattle.reference.specs.Stages.{u};
 ghost use Rattle.tables.specs.Tables.{ByteTables};
+ghost use Rattle.first_stage.specs.Windows.{window-sum};
 
 fn look(tables: &[i32], i: usize) -> i64
     requires { ⌜ i < length (now tables) ⌝ }
@@ -44,7 +45,17 @@ fn table_sum(tables: &[i32], window: &[u8]) -> i64
     sum
 }
 
-// u at every step-th place, by 2 × half tables: of bytes from position base on, the first value is the one at base + start + half.
+// The sum over the window from byte `at` on, by 2 × half tables.
+fn window(tables: &[i32], half: usize, bytes: &[u8], at: usize) -> i64
+    requires { ⌜ (length (now tables) ≡ 256 * (2 * half)) × (half ≤ 6) × (at + 2 * half ≤ length (now bytes)) × (length (now bytes) ≤ 512) ⌝ }
+    ensures { λ r. ⌜ r ≡ window-sum (now (tables .entry)) half (now (bytes .entry)) at ⌝ }
+{
+    let end = at + 2 * half;
+    table_sum(tables, &bytes[at..end])
+}
+
+// u at every step-th place: of bytes from position base on, the first value is the one at base + start + half. Two windows are summed in a
+// turn: most bytes of the second are loaded for the first.
 pub fn first_stage(
     tables: &[i32],
     half: usize,
@@ -57,11 +68,16 @@ pub fn first_stage(
     ensures { λ _. ⌜ ((h : List ℤ) (β : ℕ → ℕ) (base : ℕ) → length h ≡ 8 * half → 0 < half → ByteTables h (2 * half) (now (tables .entry)) → Held 0 β base (length (now (bytes .entry))) (now (bytes .entry)) → Held (pos 0) (λ k. u h β (base + start + half + step * k)) 0 (length (now (out .entry))) (now (out .exit))) ⌝ }
 {
     let mut k: usize = 0;
-    while k < out.len() {
+    while k + 1 < out.len() {
         let at = start + step * k;
-        let end = at + 2 * half;
-        let sum = table_sum(tables, &bytes[at..end]);
-        out[k] = sum;
-        k += 1;
+        let a = window(tables, half, bytes, at);
+        let b = window(tables, half, bytes, at + step);
+        out[k] = a;
+        out[k + 1] = b;
+        k += 2;
+    }
+    if k < out.len() {
+        let a = window(tables, half, bytes, start + step * k);
+        out[k] = a;
     }
 }

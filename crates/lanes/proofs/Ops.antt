@@ -62,16 +62,10 @@ module _ {s : ℤ} (p : ℕ) (fs : SFits w64 s) (small : natAbs s + p < 2 ^ 63) 
   pub less-is : t (t s -ℤ toZ w64 p) ≡ s -ℤ pos p
   less-is = toZ-ofZ less-fits ∙ minus
 
--- a lane's new value, from what each step of the code says; f is the sign
-pub lane : (f : ℤ → ℤ) (v : List ℕ) (i j h : ℕ) {r s s₀ : ℤ} {w : ℕ} → r ≡ s +ℤ f (pos h *ℤ pos w) → s ≡ s₀ → w ≡ getD v i 0 + getD v j 0
-    → r ≡ s₀ +ℤ f (pos h *ℤ (raised v i +ℤ raised v j))
-unfolding raised
-lane f v i j h e es ev = e ∙ ap₂ (λ (p : ℤ) (q : ℕ). p +ℤ f (pos h *ℤ pos q)) es ev
-
-pub lane-room : (s s₀ : ℤ) (h w a b : ℕ) → s ≡ s₀ → natAbs s₀ ≤ 126 * 2 ^ 56 → h ≤ 2 ^ 25 → w ≡ a + b → a ≤ 2 ^ 30 → b ≤ 2 ^ 30 → natAbs s + h * w < 2 ^ 63
-lane-room s s₀ h w a b e p q f l m =
+pub pair-room : (s : ℤ) (h w a b : ℕ) → natAbs s ≤ 126 * 2 ^ 56 → h ≤ 2 ^ 25 → w ≡ a + b → a ≤ 2 ^ 30 → b ≤ 2 ^ 30 → natAbs s + h * w < 2 ^ 63
+pair-room s h w a b p q f l m =
     let two : w ≤ 2 ^ 31 = omega arith in
-    rw e (omega (arith, mul-le-mul q two))
+    omega (arith, mul-le-mul q two)
 
 pub raised-size : {v : List ℕ} → Low v → (k : ℕ) → natAbs (raised v k) ≤ 2 ^ 30
 unfolding raised
@@ -166,9 +160,11 @@ pub halved-lane : (x : List ℤ) (i : ℕ) {r : ℤ} → r ≡ pos 8388608 *ℤ 
 unfolding lifted
 halved-lane x i e m = e ∙ ap (λ (z : ℤ). pos 8388608 *ℤ (z +ℤ pos (2 ^ 29))) (val (at0 x i) (at0 x i) m refl)
 
-pub lane-one : (h : ℤ) (v : List ℕ) (i j : ℕ) {w : ℕ} → w ≡ getD v i 0 + getD v j 0 → h *ℤ pos w ≡ h *ℤ (raised v i +ℤ raised v j)
+-- a sum's new value, from what each step of the code says
+pub pair-is : {s h : ℤ} → SFits w64 s → SFits w64 h → (v : List ℕ) (i j : ℕ) {w : ℕ} {r : ℤ} → mag r < 2 ^ 63 → r ≡ t s +ℤ t h *ℤ pos w → w ≡ getD v i 0 + getD v j 0
+    → t r ≡ s +ℤ h *ℤ (raised v i +ℤ raised v j)
 unfolding raised
-lane-one h v i j e = ap (λ (q : ℕ). h *ℤ pos q) e
+pair-is {s} {h} fs fh v i j {r} m p e = val r _ m p ∙ rw (toZ-ofZ fs, toZ-ofZ fh, e) refl
 
 pub product-is : {h : ℤ} → SFits w64 h → (a : ℕ) → a ≤ 2 ^ 30 → {r : ℤ} → mag r < 2 ^ 63 → r ≡ pos 0 +ℤ t h *ℤ pos (a % 4294967296) → t r ≡ h *ℤ pos a
 product-is {h} f a q {r} m p =

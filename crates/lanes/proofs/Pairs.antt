@@ -8,10 +8,10 @@ use lib.IntN.{ℤ, pos, natAbs, _+ℤ_, _*ℤ_, +ℤ-comm, +ℤ-assoc, zero-*ℤ
 use lib.ListN.{length}
 use Rattle.numbers.specs.Sums.{sumTo, apart, at0}
 use Rattle.numbers.proofs.Integers.{abs-add, abs-mul, +ℤ-left-comm, mul-add, add-mul, *ℤ-assoc, sums}
-use Rattle.numbers.proofs.Sums.{sum-same, sum-head}
+use Rattle.numbers.proofs.Sums.{sum-same, sum-head, sum-join}
 use Rattle.reference.specs.Stages.{tap, M, fir}
 use Rattle.lanes.specs.Filters.{Small, between-by, ones}
-use Rattle.lanes.specs.Lanes.{lifted, raised, arms, Low, Hold, Added}
+use Rattle.lanes.specs.Lanes.{lifted, raised, arm, arms, fourths, Low, Hold, Added}
 use Rattle.lanes.proofs.Ops.{raised-size}
 
 -- ---- sizes
@@ -26,20 +26,22 @@ product-size h a p q = omega (arith, abs-mul h a, mul-le-mul p q)
 pub centre-size : (h : ℤ) {v : List ℕ} → natAbs h ≤ 2 ^ 25 → Low v → (k : ℕ) → natAbs (h *ℤ raised v k) ≤ 2 ^ 55
 centre-size h {v} p low k = product-size h (raised v k) p (raised-size low k)
 
-pub arms-size : (h : List ℤ) (s : ℕ → ℤ) (from down up n : ℕ) → Small (2 ^ 25) h → ((k : ℕ) → natAbs (s k) ≤ 2 ^ 30) → natAbs (arms h s from down up n) ≤ n * 2 ^ 56
-unfolding arms
-arms-size h s from down up n hs b = sum-each n _ (2 ^ 56) (λ k. each (from + k))
-  where
-    two : (k : ℕ) → natAbs (s (down - k) +ℤ s (up + k)) ≤ 2 ^ 31
-    two k = omega (arith, abs-add (s (down - k)) (s (up + k)), b (down - k), b (up + k))
+pub pair-size : (h a b : ℤ) → natAbs h ≤ 2 ^ 25 → natAbs a ≤ 2 ^ 30 → natAbs b ≤ 2 ^ 30 → natAbs (h *ℤ (a +ℤ b)) ≤ 2 ^ 56
+pair-size h a b p q r =
+    let two : natAbs (a +ℤ b) ≤ 2 ^ 31 = omega (arith, abs-add a b) in
+    omega (arith, abs-mul h (a +ℤ b), mul-le-mul p two)
 
-    each : (k : ℕ) → natAbs (tap h k *ℤ (s (down - k) +ℤ s (up + k))) ≤ 2 ^ 56
-    each k = omega (arith, abs-mul (tap h k) (s (down - k) +ℤ s (up + k)), mul-le-mul (hs .size k) (two k))
+module _ (h : List ℤ) (s : ℕ → ℤ) (from down up n : ℕ) (hs : Small (2 ^ 25) h) (b : (k : ℕ) → natAbs (s k) ≤ 2 ^ 30) where
+  arm-size : (k : ℕ) → natAbs (arm h s down up k) ≤ 2 ^ 56
+  arm-size k = pair-size (tap h k) (s (down - k)) (s (up + k)) (hs .size k) (b (down - k)) (b (up + k))
 
--- room for a tap more
-pub tap-room : (s a g h : ℤ) (n k w : ℕ) → s ≡ a +ℤ g → natAbs a ≤ (127 - n) * 2 ^ 56 → natAbs g ≤ k * 2 ^ 56 → k < n → n ≤ 117 → natAbs h ≤ 2 ^ 25 → w ≤ 2 ^ 31
-    → natAbs s + natAbs h * w < 2 ^ 63
-tap-room s a g h n k w e p q l m ph pw = rw e (omega (arith, abs-add a g, mul-le-mul ph pw))
+  pub arms-size : natAbs (arms h s from down up n) ≤ n * 2 ^ 56
+  unfolding arms
+  arms-size = sum-each n _ (2 ^ 56) (λ k. arm-size (from + k))
+
+  pub fourths-size : natAbs (fourths h s from down up n) ≤ 2 * n * 2 ^ 56
+  unfolding fourths
+  fourths-size = omega (arith, sum-each n (λ k. arm h s down up (from + 4 * k) +ℤ arm h s down up (from + 4 * k + 2)) (2 ^ 57) (λ k. omega (arith, abs-add (arm h s down up (from + 4 * k)) (arm h s down up (from + 4 * k + 2)), arm-size (from + 4 * k), arm-size (from + 4 * k + 2))))
 
 -- ---- no tap, and a tap more
 pub arms-none : (h : List ℤ) (s : ℕ → ℤ) (from down up n : ℕ) → n ≡ 0 → arms h s from down up n ≡ pos 0
@@ -60,6 +62,52 @@ arms-more h s from end up j l p q =
     let u : up + j + l ≡ up + l + j = omega arith in
     let d : end - 1 - j + l ≡ end + l - 1 - j = omega arith in
     rw (u, d) (arms-one h s from (end + l) (up + l) j p)
+
+-- ---- every fourth tap, with the one two places after it
+pub fourths-none : (h : List ℤ) (s : ℕ → ℤ) (from down up : ℕ) → fourths h s from down up 0 ≡ pos 0
+unfolding fourths sumTo
+fourths-none h s from down up = refl
+
+-- for lane l
+pub fourths-more : (h : List ℤ) (s : ℕ → ℤ) (from end up k l : ℕ) → from + 4 * k + 2 < end
+    → fourths h s from (end + l - 1) (up + l) k +ℤ (tap h (from + 4 * k) *ℤ (s (end - 3 - (from + 4 * k) + 2 + l) +ℤ s (up + (from + 4 * k) + l)) +ℤ tap h (from + 4 * k + 2) *ℤ (s (end - 3 - (from + 4 * k) + l) +ℤ s (up + (from + 4 * k) + 2 + l)))
+    ≡ fourths h s from (end + l - 1) (up + l) (k + 1)
+unfolding fourths sumTo
+fourths-more h s from end up k l p =
+    let e : k + 1 ≡ suc k = omega arith in
+    let a : end - 3 - (from + 4 * k) + 2 + l ≡ end + l - 1 - (from + 4 * k) = omega arith in
+    let b : end - 3 - (from + 4 * k) + l ≡ end + l - 1 - (from + 4 * k + 2) = omega arith in
+    let c : up + (from + 4 * k) + l ≡ up + l + (from + 4 * k) = omega arith in
+    let d : up + (from + 4 * k) + 2 + l ≡ up + l + (from + 4 * k + 2) = omega arith in
+    rw (e, a, b, c, d)
+
+module _ (h : List ℤ) (s : ℕ → ℤ) (from down up : ℕ) where
+  -- those from `from` and those from the place after it are all taps
+  fourths-both : (n : ℕ) → fourths h s from down up n +ℤ fourths h s (from + 1) down up n ≡ arms h s from down up (4 * n)
+  unfolding fourths arms sumTo
+  fourths-both zero = refl
+  fourths-both (suc n) =
+      let e : 4 * suc n ≡ suc (suc (suc (suc (4 * n)))) = omega arith in
+      let g : (k : ℕ) → ℤ = λ k. arm h s down up (from + k) in
+      let b : from + 1 + 4 * n ≡ from + suc (4 * n) = omega arith in
+      let c : from + 4 * n + 2 ≡ from + suc (suc (4 * n)) = omega arith in
+      let d : from + suc (4 * n) + 2 ≡ from + suc (suc (suc (4 * n))) = omega arith in
+      rw (e, b, c, d)
+      (turn (fourths h s from down up n) (fourths h s (from + 1) down up n) (g (4 * n)) (g (suc (4 * n))) (g (suc (suc (4 * n)))) (g (suc (suc (suc (4 * n)))))
+      ∙ ap (λ (z : ℤ). z +ℤ g (4 * n) +ℤ g (suc (4 * n)) +ℤ g (suc (suc (4 * n))) +ℤ g (suc (suc (suc (4 * n))))) (fourths-both n))
+    where
+      turn : (f g a b c d : ℤ) → f +ℤ (a +ℤ c) +ℤ (g +ℤ (b +ℤ d)) ≡ f +ℤ g +ℤ a +ℤ b +ℤ c +ℤ d
+      turn f g a b c d = simp sums
+
+  -- and with the rest, up to place m
+  pub by-fourths : (n m : ℕ) → from + 4 * n ≤ m → fourths h s from down up n +ℤ fourths h s (from + 1) down up n +ℤ arms h s (from + 4 * n) down up (m - (from + 4 * n)) ≡ arms h s from down up (m - from)
+  unfolding arms
+  by-fourths n m l =
+      let r = m - (from + 4 * n) in
+      let e : 4 * n + r ≡ m - from = omega arith in
+      ap₂ (λ (y z : ℤ). y +ℤ z) (fourths-both n) (sum-same r _ (λ k. arm h s down up (from + (4 * n + k))) (λ k p. ap (arm h s down up) (omega arith)))
+      ∙ sym (sum-join (4 * n) r (λ k. arm h s down up (from + k)))
+      ∙ ap (arms h s from down up) e
 
 -- ---- the filter's sum: the centre, and the pairs
 module _ (h : List ℤ) (s : ℕ → ℤ) (c : ℕ) where

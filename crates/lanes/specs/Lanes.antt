@@ -1,7 +1,7 @@
 -- How the sums are made. A copy of the block has every value lifted by 2^29, so that the machine multiplies numbers that are not negative; fourteen places of the output at a time, the lanes, gain a tap.
 use mathlib.Core.Path.{_≡_}
 use mathlib.Core.List.{List}
-use Prim.Native.Nat.{ℕ, _+_, _-_, _^_, _≤_, _<_}
+use Prim.Native.Nat.{ℕ, _+_, _-_, _*_, _^_, _≤_, _<_}
 use lib.IntN.{ℤ, pos, natAbs, _+ℤ_, _-ℤ_, _*ℤ_}
 use lib.ListN.{length, getD}
 use Rattle.numbers.specs.Sums.{sumTo, at0}
@@ -25,9 +25,17 @@ pub record Raised (n : ℕ) (x : List ℤ) (v : List ℕ) : Type 0 where
   pub is : (k : ℕ) → k < n → raised v k ≡ lifted x k
   pub low : Low v
 
--- n taps of h from place `from` on, each with the two values at its distance below `down` and above `up`
+-- tap k with the two values at its distance below `down` and above `up`
+abbrev pub arm : List ℤ → (ℕ → ℤ) → ℕ → ℕ → ℕ → ℤ
+arm h s down up k = tap h k *ℤ (s (down - k) +ℤ s (up + k))
+
+-- n taps from place `from` on
 unfoldable pub arms : List ℤ → (ℕ → ℤ) → ℕ → ℕ → ℕ → ℕ → ℤ
-arms h s from down up n = sumTo n (λ k. tap h (from + k) *ℤ (s (down - (from + k)) +ℤ s (up + (from + k))))
+arms h s from down up n = sumTo n (λ k. arm h s down up (from + k))
+
+-- n taps, every fourth from place `from` on, each with the one two places after it
+unfoldable pub fourths : List ℤ → (ℕ → ℤ) → ℕ → ℕ → ℕ → ℕ → ℤ
+fourths h s from down up n = sumTo n (λ k. arm h s down up (from + 4 * k) +ℤ arm h s down up (from + 4 * k + 2))
 
 -- no lane is over B in size
 pub record Lanes (B : ℕ) (s : List ℤ) : Type 0 where

@@ -1,16 +1,15 @@
 -- `first_stage` meets its contract.
 use denote.Ref.{now}
-use mathlib.Core.Path.{_≡_, refl, sym, _∙_, ap, ap₂}
-use Prim.Native.Nat.{ℕ, _+_, _*_, _-_, _≤_, _<_}
-use native.Mathlib.Nat.{zero-add, mul-le-mul-left}
-use lib.IntN.{ℤ, pos}
-use lib.ListN.{length, take, drop, length-set}
-use Rattle.reference.specs.Stages.{u}
+use mathlib.Core.Path.{_≡_, refl, _∙_, ap}
+use Prim.Native.Nat.{_+_, _*_, _-_, _≤_}
+use native.Mathlib.Omega.{arith}
+use lib.IntN.{pos}
+use lib.ListN.{length, set, length-set}
 use Rattle.numbers.specs.Lists.{Held}
 use Rattle.numbers.proofs.Lists.{held-none, held-more}
 use Rattle.numbers.proofs.Machine.{t, val}
-use Rattle.first_stage.proofs.Link.{window-sum, window-is, u-held}
-use native.Mathlib.Omega.{arith}
+use Rattle.first_stage.specs.Windows.{window-sum}
+use Rattle.first_stage.proofs.Link.{not-later, all-held}
 use borrow.Author.Needs.{needs}
 use Rattle.first_stage.proofs.first_stage.Statement.{statement}
 use Rattle.first_stage.proofs.first_stage.Tie as tie
@@ -24,72 +23,103 @@ abbrev μ-loop : tie.MeasureT-loop
 loop-holds : tie.Need-loop-holds Inv-loop μ-loop
 loop-holds c = (omega arith, refl, held-none)
 
--- the window ends within the bytes
-step-on : (c : tie.In-loop Inv-loop μ-loop) → c .before .before .before .args .step * c .before .loop .k + c .before .before .before .args .step ≤ c .before .before .before .args .step * length (now (c .before .before .before .args .out))
-step-on c = omega (arith, mul-le-mul-left {m = c .before .loop .k + 1} {n = length (now (c .before .before .before .args .out))} (c .before .before .before .args .step) (omega arith))
+-- the second window of a turn ends within the bytes
+within : (c : tie.In-loop Inv-loop μ-loop) → c .before .before .before .args .step * (c .before .loop .k + 1) + c .before .before .before .args .step ≤ c .before .before .before .args .step * length (now (c .before .before .before .args .out))
+within c = not-later (c .before .before .before .args .step) (c .before .loop .k + 1) (length (now (c .before .before .before .args .out))) (omega arith)
+
+-- and so does the one after the last turn
+last : (c : tie.Then1 Inv-loop μ-loop) → c .before .before .before .before .args .step * c .before .before .loop .k + c .before .before .before .before .args .step ≤ c .before .before .before .before .args .step * length (now (c .before .before .before .before .args .out))
+last c = not-later (c .before .before .before .before .args .step) (c .before .before .loop .k) (length (now (c .before .before .before .before .args .out))) (omega arith)
+
+add-loop : tie.Need-add-loop Inv-loop μ-loop
+add-loop c = omega arith
 
 mul-at : tie.Need-mul-at Inv-loop μ-loop
-mul-at c = omega (arith, step-on c)
+mul-at c = omega (arith, within c)
 
 add-at : tie.Need-add-at Inv-loop μ-loop
-add-at c = omega (arith, step-on c)
+add-at c = omega (arith, within c)
 
-mul-end : tie.Need-mul-end Inv-loop μ-loop
-mul-end c = omega arith
+window-requires : tie.Need-window-requires Inv-loop μ-loop
+window-requires c κs = (omega arith, omega arith, omega (arith, within (c)), omega arith)
 
-add-end : tie.Need-add-end Inv-loop μ-loop
-add-end c = omega (arith, step-on c)
+add-window : tie.Need-add-window Inv-loop μ-loop
+add-window c = omega (arith, within (c .before))
 
-sub-table-sum : tie.Need-sub-table-sum Inv-loop μ-loop
-sub-table-sum c = omega arith
+window-requires-2 : tie.Need-window-requires-2 Inv-loop μ-loop
+window-requires-2 c κs = (omega arith, omega arith, omega (arith, within (c .before)), omega arith)
 
-part-table-sum-start : tie.Need-part-table-sum-start Inv-loop μ-loop
-part-table-sum-start c = omega arith
+mul-a : tie.Need-mul-a Inv-loop μ-loop
+mul-a c = search needs
 
-part-table-sum-end : tie.Need-part-table-sum-end Inv-loop μ-loop
-part-table-sum-end c = omega (arith, step-on c)
+slice-set-from-a : tie.Need-slice-set-from-a Inv-loop μ-loop
+slice-set-from-a c = search needs
 
-table-sum-requires : tie.Need-table-sum-requires Inv-loop μ-loop
-table-sum-requires c κs = search needs
+add-b : tie.Need-add-b Inv-loop μ-loop
+add-b c = search needs
 
-mul-sum : tie.Need-mul-sum Inv-loop μ-loop
-mul-sum c = omega arith
+mul-b : tie.Need-mul-b Inv-loop μ-loop
+mul-b c = search needs
 
-slice-set-from-sum : tie.Need-slice-set-from-sum Inv-loop μ-loop
-slice-set-from-sum c = omega arith
+slice-set-from-b : tie.Need-slice-set-from-b Inv-loop μ-loop
+slice-set-from-b c = search needs
 
 add-k : tie.Need-add-k Inv-loop μ-loop
-add-k c = omega arith
+add-k c = search needs
 
 loop-less : tie.Need-loop-less Inv-loop μ-loop
-loop-less c = omega arith
+loop-less c = search needs
 
 loop-again : tie.Need-loop-again Inv-loop μ-loop
 loop-again c =
     let l = c .before .before .before in
     let s = l .before .before .args in
-    let at = s .start + s .step * l .loop .k in
-    let n : at + 2 * s .half - at ≡ 2 * s .half = omega arith in
-    let z : s .start + s .step * (0 + l .loop .k) ≡ at = rw zero-add in (
+    let k = l .loop .k in
+    let sum = window-sum (now (s .tables)) (s .half) (now (s .bytes)) in
+    let one = held-more (l .loop .inv .2) (omega arith) (val _ _ (c .before .window .ok) (c .before .window .ensures ∙ ap sum (omega arith))) in
+    let long = length-set (l .loop .out) k (t (c .before .window .result)) ∙ l .loop .inv .1 in
+    let e : k + 1 + 1 ≡ k + 2 = omega arith in (
       omega arith,
-      length-set (l .loop .out) _ _ ∙ l .loop .inv .1,
-      held-more (l .loop .inv .2) (omega arith)
-          (val _ _ (c .table-sum .ok) (c .table-sum .ensures ∙ window-is (now (s .tables)) (s .half) (now (s .bytes)) at _ (ap (λ m. take m (drop at (now (s .bytes)))) n) (omega (arith, step-on (c .before .before))))
-          ∙ ap (window-sum (now (s .tables)) (s .half) (now (s .bytes))) (sym z)),
+      length-set (set (l .loop .out) k (t (c .before .window .result))) (k + 1) (t (c .window2 .result)) ∙ long,
+      rw e at (held-more one (omega (arith, long)) (val _ _ (c .window2 .ok) (c .window2 .ensures ∙ ap sum (omega arith)))),
     )
 
+mul-window : tie.Need-mul-window Inv-loop μ-loop
+mul-window c = omega (arith, last c)
+
+add-window-2 : tie.Need-add-window-2 Inv-loop μ-loop
+add-window-2 c = omega (arith, last c)
+
+window-requires-3 : tie.Need-window-requires-3 Inv-loop μ-loop
+window-requires-3 c κs = (omega arith, omega arith, omega (arith, last c), omega arith)
+
+mul-a-2 : tie.Need-mul-a-2 Inv-loop μ-loop
+mul-a-2 c = search needs
+
+slice-set-from-a-2 : tie.Need-slice-set-from-a-2 Inv-loop μ-loop
+slice-set-from-a-2 c = search needs
+
 same-length : tie.Need-same-length Inv-loop μ-loop
-same-length c = c .before .loop .inv .1
+same-length c = length-set (c .before .before .before .loop .out) _ _ ∙ c .before .before .before .loop .inv .1
 
 returns : tie.Need-returns Inv-loop μ-loop
-returns c h β base long some rule held =
-    let l = c .before in
+returns c =
+    let l = c .before .before .before in
     let s = l .before .before .args in
-    record {
-      is = λ k m. l .loop .inv .2 .is k (omega arith)
-          ∙ u-held (s .half) (s .start + s .step * (0 + k)) long some rule (λ i. omega (arith, l .before .shared-slice-known .given i)) held (omega (arith, mul-le-mul-left {m = k + 1} {n = length (now (s .out))} (s .step) (omega arith)))
-          ∙ ap (u h β) (omega arith);
-    }
+    let k = l .loop .k in
+    let sum = window-sum (now (s .tables)) (s .half) (now (s .bytes)) in
+    let e : k + 1 ≡ length (now (s .out)) = omega arith in
+    all-held (s .half) (s .start) (s .step) (length (now (s .out))) (rw e at (held-more (l .loop .inv .2) (omega arith) (val _ _ (c .window3 .ok) (c .window3 .ensures ∙ ap sum (omega arith))))) (omega arith) (λ i. omega (arith, l .before .shared-slice-known .given i))
+
+same-length-2 : tie.Need-same-length-2 Inv-loop μ-loop
+same-length-2 c = c .before .before .loop .inv .1
+
+returns-2 : tie.Need-returns-2 Inv-loop μ-loop
+returns-2 c =
+    let l = c .before .before in
+    let s = l .before .before .args in
+    let e : l .loop .k ≡ length (now (s .out)) = omega arith in
+    all-held (s .half) (s .start) (s .step) (length (now (s .out))) (rw e at (l .loop .inv .2)) (omega arith) (λ i. omega (arith, l .before .shared-slice-known .given i))
 
 pub first-stage-spec : {M : Type 1} → statement M
 first-stage-spec =
@@ -98,18 +128,26 @@ first-stage-spec =
     Inv-loop
     μ-loop
     loop-holds
+    add-loop
     mul-at
     add-at
-    mul-end
-    add-end
-    sub-table-sum
-    part-table-sum-start
-    part-table-sum-end
-    table-sum-requires
-    mul-sum
-    slice-set-from-sum
+    window-requires
+    add-window
+    window-requires-2
+    mul-a
+    slice-set-from-a
+    add-b
+    mul-b
+    slice-set-from-b
     add-k
     loop-less
     loop-again
+    mul-window
+    add-window-2
+    window-requires-3
+    mul-a-2
+    slice-set-from-a-2
     same-length
-    returns)
+    returns
+    same-length-2
+    returns-2)

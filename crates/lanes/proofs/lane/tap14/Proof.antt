@@ -1,39 +1,98 @@
 -- `lanes::lane::tap14` meets its contract.
-use mathlib.Core.Path.{ap}
-use lib.IntN.{natAbs}
-use mir.Facts.{toZ-ofZ}
+use mathlib.Core.Path.{_≡_, _∙_, ap}
+use Prim.Native.Nat.{_+_, _-_, _≤_}
 use native.Mathlib.Omega.{arith}
-use Rattle.lanes.proofs.Ops.{neg-gain, pos-gain}
-use Rattle.lanes.proofs.Places.{added-as}
 use borrow.Author.Needs.{needs}
+use denote.Ref.{now}
+use lib.IntN.{ℤ, _+ℤ_, _*ℤ_}
+use lib.ListN.{length}
+use mir.Facts.{toZ-ofZ}
+use mir.Val.{toZ}
+use mir.Syntax.{w64}
+use Rattle.numbers.specs.Sums.{at0}
+use Rattle.numbers.proofs.Machine.{t, val, sized}
+use Rattle.lanes.specs.Lanes.{raised, Written}
+use Rattle.lanes.proofs.Places.{written-none, written-more, written-added}
 use Rattle.lanes.proofs.lane.tap14.Statement.{statement}
 use Rattle.lanes.proofs.lane.tap14.Tie as tie
 
-size-requires : tie.Need-size-requires
-size-requires c κs = search needs
+abbrev Inv-loop : tie.InvT-loop
+Inv-loop h v down up s₀ l₀ s l = (l ≤ 14) × (length s ≡ 14) × Written (λ k. at0 s₀ k +ℤ toZ w64 h *ℤ (raised v (down + k) +ℤ raised v (up + k))) 0 l s₀ s
 
-sub14-requires : tie.Need-sub14-requires
-sub14-requires c κs =
+abbrev μ-loop : tie.MeasureT-loop
+μ-loop h v down up s₀ l₀ s l = 14 - l
+
+loop-holds : tie.Need-loop-holds Inv-loop μ-loop
+loop-holds c = (search needs, search needs, written-none (omega arith))
+
+mul-pair : tie.Need-mul-pair Inv-loop μ-loop
+mul-pair c = search needs
+
+array-copy-out-pair : tie.Need-array-copy-out-pair Inv-loop μ-loop
+array-copy-out-pair c = search needs
+
+add-pair : tie.Need-add-pair Inv-loop μ-loop
+add-pair c = search needs
+
+add-pair-2 : tie.Need-add-pair-2 Inv-loop μ-loop
+add-pair-2 c = search needs
+
+pair-requires : tie.Need-pair-requires Inv-loop μ-loop
+pair-requires c κs =
+    let l = c .before .before in
+    let k = l .before .before in (
+      (
+        omega arith,
+        omega arith,
+        rw (toZ-ofZ (k .fits .h)) (k .pre .0 .2),
+        sized _ _ _ (c .pair-arg .given) (l .loop .inv .2 .above _ (omega arith)) (k .pre .1 .1 .size _ (omega arith)),
+      ),
+      k .pre .1 .0,
+    )
+
+mul-s : tie.Need-mul-s Inv-loop μ-loop
+mul-s c = search needs
+
+array-set-from-s : tie.Need-array-set-from-s Inv-loop μ-loop
+array-set-from-s c = search needs
+
+add-l : tie.Need-add-l Inv-loop μ-loop
+add-l c = search needs
+
+loop-less : tie.Need-loop-less Inv-loop μ-loop
+loop-less c = search needs
+
+loop-again : tie.Need-loop-again Inv-loop μ-loop
+loop-again c =
+    let l = c .before .before .before in
+    let k = l .before .before .args in
+    let i = l .loop .l in
+    let v = raised (now (k .v)) in
+    let old = val _ _ (c .before .pair-arg .given) (l .loop .inv .2 .above i (omega arith)) in
+    let new = val _ _ (c .pair .ok) (c .pair .ensures) ∙ ap (λ (z : ℤ). z +ℤ t (k .h) *ℤ (v (k .down + i) +ℤ v (k .up + i))) old in
+    let u = written-more {j = i + 1} (l .loop .inv .2) (omega arith) (omega arith) new (omega arith) in
+    (omega arith, omega (arith, u .same, l .loop .inv .2 .same), u)
+
+returns : tie.Need-returns Inv-loop μ-loop
+returns c =
     let k = c .before .before .before in
-    let f = k .fits .h in
-    ((k .pre .0 .0, k .pre .0 .1, omega (arith, ap natAbs (toZ-ofZ f))), k .pre .1)
-
-returns : tie.Need-returns
-returns c = added-as (c .sub14 .ensures) (λ l. neg-gain (c .before .before .before .before .fits .h) _ (c .before .size .ensures) (c .before .before .if1 .taken))
-
-size-requires-2 : tie.Need-size-requires-2
-size-requires-2 c κs = search needs
-
-add14-requires : tie.Need-add14-requires
-add14-requires c κs =
-    let k = c .before .before .before in
-    let f = k .fits .h in
-    ((k .pre .0 .0, k .pre .0 .1, omega (arith, ap natAbs (toZ-ofZ f))), k .pre .1)
-
-returns-2 : tie.Need-returns-2
-returns-2 c = added-as (c .add14 .ensures) (λ l. pos-gain (c .before .before .before .before .fits .h) _ (c .before .size2 .ensures) (c .before .before .if1 .left))
+    rw (toZ-ofZ (k .fits .h)) at (written-added (c .before .loop .inv .2) (omega arith))
 
 pub tap14-spec : {M : Type 1} → statement M
 tap14-spec =
     tie.close
-    (tie.spec size-requires sub14-requires returns size-requires-2 add14-requires returns-2)
+    (tie.spec
+    Inv-loop
+    μ-loop
+    loop-holds
+    mul-pair
+    array-copy-out-pair
+    add-pair
+    add-pair-2
+    pair-requires
+    mul-s
+    array-set-from-s
+    add-l
+    loop-less
+    loop-again
+    returns)

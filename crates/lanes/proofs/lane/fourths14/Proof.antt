@@ -1,0 +1,119 @@
+-- `lanes::lane::fourths14` meets its contract.
+use mathlib.Core.Path.{_≡_, refl, _∙_, ap₂}
+use Prim.Native.Nat.{_+_, _*_, _-_, _≤_, _^_}
+use native.Mathlib.Omega.{arith}
+use borrow.Author.Needs.{needs}
+use denote.Ref.{now}
+use lib.IntN.{ℤ, _+ℤ_, _*ℤ_}
+use lib.ListN.{length}
+use Rattle.numbers.specs.Sums.{at0}
+use Rattle.lanes.specs.Lanes.{raised, fourths, Added}
+use Rattle.numbers.proofs.Machine.{val}
+use Rattle.lanes.proofs.Ops.{got, raised-size}
+use Rattle.lanes.proofs.Pairs.{fourths-size, fourths-none, fourths-more}
+use Rattle.lanes.proofs.Places.{added-then, added-none, lanes-then}
+use Rattle.lanes.proofs.lane.fourths14.Statement.{statement}
+use Rattle.lanes.proofs.lane.fourths14.Tie as tie
+
+abbrev Inv-loop : tie.InvT-loop
+Inv-loop h from n v end up s₀ k₀ s k = (k ≤ n) × Added (λ l. fourths h (raised v) from (end + l - 1) (up + l) k) s₀ s
+
+abbrev μ-loop : tie.MeasureT-loop
+μ-loop h from n v end up s₀ k₀ s k = n - k
+
+loop-holds : tie.Need-loop-holds Inv-loop μ-loop
+loop-holds c = (omega arith, added-none _ (λ l. fourths-none _ _ _ _ _))
+
+mul-j : tie.Need-mul-j Inv-loop μ-loop
+mul-j c = search needs
+
+add-j : tie.Need-add-j Inv-loop μ-loop
+add-j c = search needs
+
+mul-two14 : tie.Need-mul-two14 Inv-loop μ-loop
+mul-two14 c = search needs
+
+shared-slice-copy-out-two14 : tie.Need-shared-slice-copy-out-two14 Inv-loop μ-loop
+shared-slice-copy-out-two14 c = search needs
+
+add-two14 : tie.Need-add-two14 Inv-loop μ-loop
+add-two14 c = search needs
+
+mul-two14-2 : tie.Need-mul-two14-2 Inv-loop μ-loop
+mul-two14-2 c = search needs
+
+shared-slice-copy-out-two14-2 : tie.Need-shared-slice-copy-out-two14-2 Inv-loop μ-loop
+shared-slice-copy-out-two14-2 c = search needs
+
+sub-two14 : tie.Need-sub-two14 Inv-loop μ-loop
+sub-two14 c = search needs
+
+sub-two14-2 : tie.Need-sub-two14-2 Inv-loop μ-loop
+sub-two14-2 c = search needs
+
+add-two14-2 : tie.Need-add-two14-2 Inv-loop μ-loop
+add-two14-2 c = search needs
+
+two14-requires : tie.Need-two14-requires Inv-loop μ-loop
+two14-requires c κs =
+    let l = c .before .before .before in
+    let k = l .before .before in
+    let h = now (k .args .h) in
+    let j = k .args .from + 4 * l .loop .k in (
+      (omega arith, omega arith, got j (k .pre .1 .0) (c .before .two14-arg .given), got (j + 2) (k .pre .1 .0) (c .two14-arg2 .given)),
+      (
+        k .pre .1 .1 .0,
+        lanes-then (2 * l .loop .k * 2 ^ 56) (125 * 2 ^ 56) (l .loop .inv .1) (k .pre .1 .1 .1)
+            (λ i. fourths-size h (raised (now (k .args .v))) (k .args .from) (k .args .end + i - 1) (k .args .up + i) (l .loop .k) (k .pre .1 .0) (raised-size (k .pre .1 .1 .0)))
+            (omega arith),
+      ),
+    )
+
+add-k : tie.Need-add-k Inv-loop μ-loop
+add-k c = search needs
+
+loop-less : tie.Need-loop-less Inv-loop μ-loop
+loop-less c = search needs
+
+loop-again : tie.Need-loop-again Inv-loop μ-loop
+loop-again c =
+    let l = c .before .before .before .before in
+    let k = l .before .before .args in
+    let s = raised (now (k .v)) in
+    let h = now (k .h) in
+    let n = l .loop .k in
+    let j = k .from + 4 * n in
+    let a = val (at0 h j) (at0 h j) (c .before .before .two14-arg .given) refl in
+    let b = val (at0 h (j + 2)) (at0 h (j + 2)) (c .before .two14-arg2 .given) refl in (
+      omega arith,
+      added-then (l .loop .inv .1) (c .two14 .ensures)
+          (λ i.
+          ap₂ (λ (y z : ℤ). fourths h s (k .from) (k .end + i - 1) (k .up + i) n +ℤ (y *ℤ (s (k .end - 3 - j + 2 + i) +ℤ s (k .up + j + i)) +ℤ z *ℤ (s (k .end - 3 - j + i) +ℤ s (k .up + j + 2 + i)))) a b
+          ∙ fourths-more h s (k .from) (k .end) (k .up) n i (omega arith)),
+    )
+
+returns : tie.Need-returns Inv-loop μ-loop
+returns c = let e : c .before .loop .k ≡ c .before .before .before .args .n = omega arith in rw e at (c .before .loop .inv .1)
+
+pub fourths14-spec : {M : Type 1} → statement M
+fourths14-spec =
+    tie.close
+    (tie.spec
+    Inv-loop
+    μ-loop
+    loop-holds
+    mul-j
+    add-j
+    mul-two14
+    shared-slice-copy-out-two14
+    add-two14
+    mul-two14-2
+    shared-slice-copy-out-two14-2
+    sub-two14
+    sub-two14-2
+    add-two14-2
+    two14-requires
+    add-k
+    loop-less
+    loop-again
+    returns)
