@@ -18,8 +18,8 @@ use Rattle.reference.specs.declared.PcmRate.the-variants.{Hz88200, Hz176400, Hz
 use Rattle.reference.specs.declared.Cutoff.{Cutoff}
 use Rattle.reference.specs.declared.Converter.{Converter}
 use Rattle.channel_bytes.specs.Lent.{lent-run, byte-at}
-use Rattle.kernel.specs.Routes.{y-of, last-taps, block-length}
-use Rattle.kernel.proofs.Routes.{y-of-is, y-of-size}
+use Rattle.route_states.specs.Routes.{y-of, last-taps, block-length}
+use Rattle.route_states.proofs.Routes.{y-of-is, y-of-size}
 use Rattle.gain.specs.Scale.{ScaledBlock}
 use Rattle.gain.specs.Tallies.{tally, none, joined, Joins}
 use Rattle.gain.specs.declared.Tally.{Tally}

@@ -12,7 +12,7 @@ use Rattle.reference.specs.Output.{samples-per-frame, unclamped, sample}
 use Rattle.reference.specs.declared.PcmRate.{PcmRate}
 use Rattle.reference.specs.declared.Converter.{Converter}
 use Rattle.channel_bytes.specs.Lent.{Lent, byte-at}
-use Rattle.kernel.specs.Routes.{Route, State, last-taps, block-length}
+use Rattle.route_states.specs.Routes.{Route, State, last-taps, block-length}
 use Rattle.gain.specs.Scale.{bounded}
 use Rattle.gain.specs.Tallies.{tally}
 use Rattle.gain.specs.declared.Tally.{Tally}

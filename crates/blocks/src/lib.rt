@@ -4,7 +4,7 @@ ghost use Prim.Native.Nat.{ℕ, _+_, _*_, _≤_, _<_, _%_};
 ghost use lib.ListN.{length};
 ghost use Rattle.reference.specs.Output.{samples-per-frame};
 ghost use Rattle.channel_bytes.specs.Lent.{lent-run};
-ghost use Rattle.kernel.specs.Routes.{block-length};
+ghost use Rattle.route_states.specs.Routes.{block-length};
 ghost use Rattle.output.specs.Fills.{Room};
 ghost use Rattle.blocks.specs.Blocks.{Ready, Sized, Staged, Scaled, Made};
 use gain::Tally;

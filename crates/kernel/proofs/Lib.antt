@@ -1,4 +1,1 @@
-pub mod Arrays
-pub mod Filters
-pub mod Routes
-pub mod Blocks
+pub mod Narrow

@@ -7,12 +7,7 @@ ghost use lib.ListN.{length};
 ghost use Rattle.numbers.specs.Lists.{Held};
 ghost use Rattle.reference.specs.Output.{samples-per-frame};
 ghost use Rattle.channel_bytes.specs.Lent.{Lent, byte-at};
-ghost use Rattle.kernel.specs.Routes.{Route, y-of, block-length, State};
-
-mod more;
-mod narrow;
-mod wide;
-
+ghost use Rattle.route_states.specs.Routes.{Route, y-of, block-length, State};
 use reference::Cutoff;
 use reference::PcmRate;
 
@@ -45,26 +40,7 @@ pub fn prime<'a>(
     ensures { λ _. ⌜ State rate cutoff (now (h .entry)) (byte-at ch (now (before .entry)) (now (frames .entry)) (now (after .entry)) c) n (now (s .exit)) (now (t .exit)) ⌝ }
 {
     match cutoff {
-        Cutoff::Standard => narrow::prime_narrow(
-            rate,
-            before,
-            frames,
-            after,
-            ch,
-            count,
-            c,
-            n,
-            tables,
-            hb,
-            h,
-            ho,
-            bytes,
-            even,
-            odd,
-            s,
-            t,
-        ),
-        Cutoff::Low => narrow::prime_narrow(
+        Cutoff::Standard | Cutoff::Low => narrow::prime_narrow(
             rate,
             before,
             frames,
@@ -132,28 +108,7 @@ pub fn step<'a>(
     ensures { λ _. ⌜ State rate cutoff (now (h .entry)) (byte-at ch (now (before .entry)) (now (frames .entry)) (now (after .entry)) c) (n + block-length rate) (now (s .exit)) (now (t .exit)) ⌝ }
 {
     match cutoff {
-        Cutoff::Standard => narrow::step_narrow(
-            rate,
-            before,
-            frames,
-            after,
-            ch,
-            count,
-            c,
-            n,
-            tables,
-            hb,
-            h,
-            he,
-            ho,
-            bytes,
-            even,
-            odd,
-            s,
-            t,
-            y,
-        ),
-        Cutoff::Low => narrow::step_narrow(
+        Cutoff::Standard | Cutoff::Low => narrow::step_narrow(
             rate,
             before,
             frames,

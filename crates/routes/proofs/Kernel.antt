@@ -8,7 +8,7 @@ use Rattle.reference.specs.declared.Cutoff.the-variants.{Standard, Low, Wide}
 use Rattle.reference.specs.declared.Converter.{Converter}
 use Rattle.tables.specs.Tables.{ByteTables}
 use Rattle.lanes.specs.Filters.{even-taps, odd-taps}
-use Rattle.kernel.specs.Routes.{FirstTables, last-taps}
+use Rattle.route_states.specs.Routes.{FirstTables, last-taps}
 use Rattle.blocks.specs.Blocks.{Ready}
 use Rattle.routes.specs.Accepted.{Accepted}
 

@@ -4,7 +4,7 @@ use Prim.Native.Nat.{ℕ}
 use lib.Dec.{T}
 use Rattle.reference.specs.declared.Converter.{Converter}
 use Rattle.channel_bytes.specs.Lent.{Lent}
-use Rattle.kernel.specs.Routes.{LastFilter, last-taps}
+use Rattle.route_states.specs.Routes.{LastFilter, last-taps}
 use Rattle.gain.specs.Scale.{bounded}
 
 -- an accepted converter, and the slices of a run of `count` frames

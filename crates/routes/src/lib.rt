@@ -6,7 +6,7 @@ ghost use Rattle.reference.specs.Taps.{HB, F40, F30, F80};
 ghost use Rattle.reference.specs.Output.{samples-per-frame};
 ghost use Rattle.channel_bytes.specs.Lent.{lent-run};
 ghost use Rattle.lanes.specs.Filters.{odd-taps};
-ghost use Rattle.kernel.specs.Routes.{FirstTables, last-taps};
+ghost use Rattle.route_states.specs.Routes.{FirstTables, last-taps};
 ghost use Rattle.output.specs.Fills.{Room};
 ghost use Rattle.blocks.specs.Blocks.{Ready};
 ghost use Rattle.runs.specs.Loops.{Ran};

@@ -23,7 +23,7 @@ use Rattle.gain.proofs.Records.{right-bounded}
 use Rattle.runs.specs.Loops.{Ran}
 use Rattle.routes.specs.Accepted.{Accepted}
 use Rattle.scarletbook_pcm.specs.Calls.{AcceptedCall, present}
-use Rattle.kernel.proofs.Routes.{last-filter}
+use Rattle.route_states.proofs.Routes.{last-filter}
 
 -- ---- what depends on the sequence and the frames alone
 

@@ -15,7 +15,7 @@ use Rattle.reference.proofs.Sizes.{fir-size, u-S1-size}
 use Rattle.lanes.specs.Filters.{alone, odd-taps, half-rate, Small, Fit, Phases, Filled}
 use Rattle.lanes.proofs.Signals.{held-small, half-fit, half-held, even-held, odd-held, halves-phases, length-odd}
 use Rattle.lanes.proofs.Tables.{filter-HB, halves-HB, absolute-HB}
-use Rattle.stages.specs.Parts.{evens, odds, woven}
+use Rattle.numbers.specs.Parts.{evens, odds, woven}
 
 -- the same values of another signal, or by another count of places
 pub held-moved : {f g : ℕ → ℤ} {a b n : ℕ} {l : List ℤ} → Held (pos 0) f a n l → ((k : ℕ) → k < n → f (a + k) ≡ g (b + k)) → Held (pos 0) g b n l

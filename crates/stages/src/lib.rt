@@ -9,7 +9,7 @@ ghost use Rattle.reference.specs.Stages.{u, v};
 ghost use Rattle.tables.specs.Tables.{ByteTables};
 ghost use Rattle.channel_bytes.specs.Lent.{Lent, byte-at};
 ghost use Rattle.lanes.specs.Filters.{odd-taps};
-ghost use Rattle.stages.specs.Parts.{evens, odds, woven};
+ghost use Rattle.numbers.specs.Parts.{evens, odds, woven};
 
 // What the half band reads for v(i) and the values after it: u(2i), u(2i + 2), ..; and u(2i - 15), u(2i - 13), .., 15 values more.
 fn u_around<'a>(

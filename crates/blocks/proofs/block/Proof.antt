@@ -6,7 +6,7 @@ use native.Mathlib.Nat.{mul-le-mul-right}
 use borrow.Author.Needs.{needs}
 use lib.ListN.{length}
 use Rattle.reference.specs.Output.{samples-per-frame}
-use Rattle.kernel.specs.Routes.{block-length}
+use Rattle.route_states.specs.Routes.{block-length}
 use Rattle.blocks.proofs.Sums.{items-made, bytes-made}
 use Rattle.blocks.proofs.block.Statement.{statement}
 use Rattle.blocks.proofs.block.Tie as tie

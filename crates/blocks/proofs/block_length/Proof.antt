@@ -2,7 +2,7 @@
 use mathlib.Core.Path.{refl}
 use native.Mathlib.Omega.{arith}
 use borrow.Author.Needs.{needs}
-use Rattle.kernel.specs.Routes.{block-length}
+use Rattle.route_states.specs.Routes.{block-length}
 use Rattle.blocks.proofs.block_length.Statement.{statement}
 use Rattle.blocks.proofs.block_length.Tie as tie
 

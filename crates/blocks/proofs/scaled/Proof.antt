@@ -5,7 +5,7 @@ use native.Mathlib.Omega.{arith}
 use borrow.Author.Needs.{needs}
 use lib.ListN.{length}
 use Rattle.reference.specs.Output.{samples-per-frame}
-use Rattle.kernel.specs.Routes.{block-length}
+use Rattle.route_states.specs.Routes.{block-length}
 use Rattle.blocks.proofs.Sums.{few-samples, values-small, block-scaled}
 use Rattle.blocks.proofs.scaled.Statement.{statement}
 use Rattle.blocks.proofs.scaled.Tie as tie

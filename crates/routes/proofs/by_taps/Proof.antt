@@ -1,7 +1,7 @@
 -- `by_taps` meets its contract.
 use mathlib.Core.Path.{refl}
 use borrow.Author.Needs.{needs}
-use Rattle.kernel.specs.Routes.{last-taps}
+use Rattle.route_states.specs.Routes.{last-taps}
 use Rattle.routes.proofs.by_taps.Statement.{statement}
 use Rattle.routes.proofs.by_taps.Tie as tie
 

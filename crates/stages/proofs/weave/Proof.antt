@@ -7,7 +7,7 @@ use lib.ListN.{length, length-set}
 use Rattle.numbers.specs.Lists.{Held}
 use Rattle.numbers.proofs.Lists.{held-none, held-more, held-some}
 use Rattle.numbers.proofs.Machine.{val}
-use Rattle.stages.specs.Parts.{woven}
+use Rattle.numbers.specs.Parts.{woven}
 use Rattle.stages.proofs.Arrays.{woven-even, woven-odd}
 use native.Mathlib.Omega.{arith}
 use Rattle.stages.proofs.weave.Statement.{statement}

@@ -1,0 +1,4 @@
+pub mod Arrays
+pub mod Filters
+pub mod Routes
+pub mod Blocks
