@@ -1,6 +1,6 @@
 // Blocks of samples of one channel, and the channel of a frame. Samples n count from the run's start.
 ghost use mathlib.Core.Path.{_≡_};
-ghost use Prim.Native.Nat.{ℕ, _+_, _*_, _≤_, _<_, _%_};
+ghost use Prim.Native.Nat.{_+_, _*_, _≤_, _<_, _%_};
 ghost use lib.ListN.{length};
 ghost use Rattle.reference.specs.Output.{samples-per-frame};
 ghost use Rattle.channel_bytes.specs.Lent.{lent-run};

@@ -9,7 +9,7 @@ use native.Mathlib.Omega.{arith}
 use borrow.Author.Tests.{eq-eqb, ne-eqb, le-leb, lt-leb, lt-ltb, leb-true, eqb-false}
 use lib.Arith.{digits-lt}
 use lib.Dec.{ltb, leb, eqb}
-use lib.ListN.{length, getD, take, drop, replicate, length-append, length-drop, length-replicate, getD-replicate, List·getD-append, List·getD-eq-default}
+use lib.ListN.{length, getD, take, drop, length-append, length-drop, length-replicate, getD-replicate, List·getD-append, List·getD-eq-default}
 use lib.Seq.{getD-append-add, getD-take, getD-drop, length-take-le}
 use Rattle.numbers.specs.Lists.{Held, Wrote}
 use Rattle.numbers.proofs.Lists.{below-or, part-end}

@@ -1,7 +1,7 @@
 // Module 3: the bytes of one channel, gathered from the frames that hold them.
 ghost use mathlib.Core.Path.{_≡_};
 ghost use mathlib.Core.List.{[]};
-ghost use Prim.Native.Nat.{ℕ, _+_, _*_, _/_, _≤_, _<_};
+ghost use Prim.Native.Nat.{_+_, _*_, _/_, _≤_, _<_};
 ghost use lib.ListN.{length, getD};
 ghost use Rattle.numbers.specs.Lists.{Held, Wrote};
 ghost use Rattle.reference.specs.Frames.{frame-length};

@@ -2,15 +2,15 @@
 -- its neighbour, a refused call, and a `convert_run` of the second with the first as its neighbour join to the run of both.
 use mathlib.Core.Path.{_≡_, refl, ap, sym, _∙_}
 use mathlib.Core.List.{List, [], _∷_, _++_, flatMap, append-assoc, append-nil}
-use mathlib.Core.Bool.{Bool, true, false, cond, not}
-use Prim.Native.Nat.{ℕ, zero, suc, _+_, _-_, _*_, _/_, _%_, _≤_, _<_}
+use mathlib.Core.Bool.{true, false, not}
+use Prim.Native.Nat.{ℕ, _+_, _-_, _*_, _%_, _<_}
 use native.Mathlib.Nat.{div-eq-of-eq-mul-left, mod-self, mul-le-mul}
 use native.Mathlib.Omega.{arith}
-use borrow.Author.Tests.{eq-eqb, ne-eqb, le-ltb}
+use borrow.Author.Tests.{eq-eqb, ne-eqb}
 use lib.Dec.{eqb, ltb, lit<}
 use lib.Ieee.{ofInt, ofBits, toBits, mul, div, add, lt, le}
 use lib.IntN.{ℤ, pos}
-use lib.ListN.{length, take, drop, replicate, length-append, length-replicate}
+use lib.ListN.{length, take, replicate, length-append, length-replicate}
 use lib.Seq.{take-at, drop-at}
 use Rattle.numbers.specs.Lists.{Each}
 use Rattle.reference.specs.Frames.{Run, run, idle, frame-length, frame-count, frame, neighbour, sequence, channel-byte}
@@ -18,15 +18,14 @@ use Rattle.reference.specs.Scaling.{LN-10, magnitude, exponent, series, squared
 use Rattle.reference.specs.Figures.{mono}
 use Rattle.reference.specs.Output.{samples-per-frame, channel-samples, all-samples, samples, stats, s24le}
 use Rattle.reference.specs.Refusals.{number, accepted, refused, Place, decide, is-accepted, unsupported, opening-places, input-places, run-length, one-frame, if-present, lent-length, byte-lengths, run-lengths, convert-places, convert-run-places}
-use Rattle.reference.specs.Promises.{by-decision, if-lent, no-clips}
+use Rattle.reference.specs.Promises.{if-lent, no-clips}
 use Rattle.reference.specs.declared.Converter.{Converter}
-use Rattle.reference.specs.declared.Converted.{Converted}
 use Rattle.reference.specs.declared.Verdict.the-variants as verdict
 use Rattle.reference.specs.declared.PcmError.the-variants as error
 use Rattle.reference.proofs.Frames.{some-samples}
 use Rattle.reference.proofs.Refusals.{at-first, at-next, at-end, decide-skip}
 use Rattle.reference.proofs.Promises.{exit-accepted, exit-refused}
-use Rattle.joins.specs.Joins.{Call, convert, convert-run, ConvertCall, ConvertRunCall, run-of, right-lengths, keep, pieces, SameBytes, Agree, AllAgree, JoinTo}
+use Rattle.joins.specs.Joins.{Call, convert, convert-run, ConvertCall, ConvertRunCall, right-lengths, keep, pieces, SameBytes, AllAgree, JoinTo}
 
 -- places of which none holds
 passes : (ps : List Place) → Each (λ p. p .holds ≡ false) ps → decide ps ≡ accepted

@@ -13,7 +13,7 @@ use Rattle.numbers.proofs.Lists.{getD-tabulate, tabulate-join, total-join}
 use Rattle.reference.specs.Frames.{Run, frame-length, frame-count, sequence}
 use Rattle.reference.specs.Output.{samples-per-frame, clipped, item, channel-samples, all-samples, samples, channel-clips, stats, frame-clips, per-frame-clips}
 use Rattle.reference.specs.Refusals.{accepted, decide, decision, is-accepted, opening-places, input-places, byte-lengths, run-lengths, convert-places, convert-run-places}
-use Rattle.reference.specs.Promises.{by-decision, if-lent, no-clips}
+use Rattle.reference.specs.Promises.{if-lent, no-clips}
 use Rattle.reference.specs.declared.Converter.{Converter}
 use Rattle.reference.specs.declared.ConvertStats.{ConvertStats}
 use Rattle.reference.proofs.Refusals.{decide-first, decide-skip, some-channel, whole-frames, one-before}

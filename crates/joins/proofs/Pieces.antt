@@ -5,7 +5,6 @@ use mathlib.Core.Bool.{Bool, true, false, cond, not}
 use Prim.Native.Nat.{ℕ, suc, _+_, _-_, _*_, _/_, _%_, _≤_, _<_}
 use native.Mathlib.Nat.{zero-add, add-zero, add-assoc, mul-le-mul-right, mul-add-div-right, mul-add-mod-self-right, mod-lt, div-lt-iff-lt-mul}
 use native.Mathlib.Omega.{arith}
-use lib.Arith.{digits-lt}
 use lib.Dec.{T, leb, leb→le, nleb→lt}
 use lib.ListN.{length}
 use Rattle.numbers.specs.Lists.{tabulate, count}

@@ -1,8 +1,7 @@
 // Modules 3 to 5 together: from the bytes of a channel to y, a block at a time.
 ghost use mathlib.Core.Path.{_≡_};
-ghost use mathlib.Core.List.{List};
-ghost use Prim.Native.Nat.{ℕ, _+_, _*_, _%_, _≤_, _<_};
-ghost use lib.IntN.{ℤ, pos};
+ghost use Prim.Native.Nat.{_+_, _%_, _≤_, _<_};
+ghost use lib.IntN.{pos};
 ghost use lib.ListN.{length};
 ghost use Rattle.numbers.specs.Lists.{Held};
 ghost use Rattle.reference.specs.Output.{samples-per-frame};

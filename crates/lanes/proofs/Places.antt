@@ -79,9 +79,6 @@ written-hold u l = record { is = λ k m. u .done k (omega arith) (omega arith) }
 pub written-added : {g : ℕ → ℤ} {i : ℕ} {old new : List ℤ} → Written (λ k. at0 old k +ℤ g k) 0 i old new → 14 ≤ i → Added g old new
 written-added u l = record { is = λ k m. u .done k (omega arith) (omega arith) }
 
-pub added-as : {g k : ℕ → ℤ} {old new : List ℤ} → Added g old new → ((l : ℕ) → g l ≡ k l) → Added k old new
-added-as {g} {k} {old} a e = record { is = λ l m. a .is l m ∙ ap (λ (z : ℤ). at0 old l +ℤ z) (e l) }
-
 pub added-none : {g : ℕ → ℤ} (a : List ℤ) → ((l : ℕ) → g l ≡ pos 0) → Added g a a
 added-none {g} a e = record { is = λ l n. sym (ap (λ (z : ℤ). at0 a l +ℤ z) (e l) ∙ +ℤ-idr (at0 a l)) }
 

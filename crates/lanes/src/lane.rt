@@ -2,7 +2,7 @@
 // stands outside: so each product is of two numbers below 2^32, which the machine multiplies several at a time.
 ghost use mathlib.Core.Path.{_≡_};
 ghost use Prim.Native.Nat.{ℕ, _+_, _*_, _-_, _^_, _≤_, _<_};
-ghost use lib.IntN.{pos, natAbs, negℤ, _+ℤ_, _-ℤ_, _*ℤ_};
+ghost use lib.IntN.{pos, natAbs, _+ℤ_, _-ℤ_, _*ℤ_};
 ghost use lib.ListN.{length};
 ghost use Rattle.numbers.specs.Sums.{at0};
 ghost use Rattle.lanes.specs.Filters.{Small, Filled};

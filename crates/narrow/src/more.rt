@@ -1,11 +1,11 @@
 // An array whose first m places hold stage values gets k more: those from place i on.
 ghost use mathlib.Core.Path.{_≡_};
-ghost use Prim.Native.Nat.{ℕ, _+_, _-_, _*_, _/_, _%_, _≤_, _<_};
+ghost use Prim.Native.Nat.{_+_, _-_, _%_, _≤_, _<_};
 ghost use lib.IntN.{pos};
 ghost use lib.ListN.{length};
 ghost use Rattle.numbers.specs.Lists.{Held};
-ghost use Rattle.reference.specs.Taps.{S1, S1-WIDE, HB, F40};
-ghost use Rattle.reference.specs.Stages.{M, u, v, w};
+ghost use Rattle.reference.specs.Taps.{S1, HB};
+ghost use Rattle.reference.specs.Stages.{v};
 ghost use Rattle.tables.specs.Tables.{ByteTables};
 ghost use Rattle.channel_bytes.specs.Lent.{Lent, byte-at};
 ghost use Rattle.lanes.specs.Filters.{odd-taps};

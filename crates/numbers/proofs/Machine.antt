@@ -1,5 +1,5 @@
 -- One operation of an i64 on values that fit, over ℤ, by the sizes. `t z` is z, read back from its bits, as a local holds it.
-use mathlib.Core.Path.{_≡_, sym, _∙_, ap, ap₂}
+use mathlib.Core.Path.{_≡_, _∙_, ap, ap₂}
 use Prim.Native.Nat.{ℕ, _+_, _*_, _<_, _≤_, _^_}
 use native.Mathlib.Omega.{arith}
 use lib.IntN.{ℤ, natAbs, _+ℤ_, _*ℤ_}

@@ -1,7 +1,5 @@
 -- Laws of finite sums over ℤ.
 use mathlib.Core.Path.{_≡_, refl, sym, _∙_, ap, ap₂}
-use mathlib.Core.List.{List, [], _∷_}
-use mathlib.Core.Bool.{Bool, true, false, cond}
 use Prim.Native.Nat.{ℕ, zero, suc, _+_, _-_, _*_, _<_, _≤_}
 use native.Mathlib.Nat.{add-zero, add-suc, zero-mul, suc-mul, mul-le-mul-left}
 use native.Mathlib.Omega.{arith}

@@ -1,12 +1,10 @@
 -- A signal that repeats gives stage values that repeat; where every byte is the same, so is every value of a stage.
-use mathlib.Core.Path.{_≡_, refl, ap, sym, _∙_}
+use mathlib.Core.Path.{_≡_, refl, ap, _∙_}
 use mathlib.Core.List.{List}
-use Prim.Native.Nat.{ℕ, suc, _+_, _-_, _*_, _≤_, _<_}
-use native.Mathlib.Nat.{zero-add}
+use Prim.Native.Nat.{ℕ, suc, _+_, _-_, _*_, _<_}
 use native.Mathlib.Omega.{arith}
 use lib.Dec.{lit<}
 use lib.IntN.{ℤ}
-use lib.ListN.{length}
 use Rattle.reference.specs.Rounding.{R}
 use Rattle.reference.specs.Taps.{S1, HB}
 use Rattle.reference.specs.Stages.{M, fir, u, v, w, y, reach}

@@ -1,16 +1,16 @@
 -- The marked figures hold.
-use mathlib.Core.Path.{_≡_, refl, ap, ap₂, sym, _∙_}
-use mathlib.Core.List.{List, [], _∷_, _++_}
+use mathlib.Core.Path.{_≡_, refl, ap, _∙_}
+use mathlib.Core.List.{_++_}
 use mathlib.Core.Bool.{Bool, true, false, cond}
 use Prim.Native.Nat.{ℕ, zero, suc, _+_, _-_, _*_, _/_, _%_, _≤_, _<_}
 use native.Mathlib.Nat.{zero-add}
 use native.Mathlib.Omega.{arith}
 use borrow.Author.Tests.{le-ltb}
-use lib.Dec.{lit<, lit≤, ltb}
+use lib.Dec.{lit≤}
 use lib.IntN.{ℤ, pos, negsuc}
 use lib.Ieee.{ofInt, ofBits, mul, div, add, lt}
-use lib.ListN.{length, getD, replicate, length-replicate, getD-replicate, replicate-append-replicate}
-use Rattle.numbers.specs.Lists.{tabulate, total, Each}
+use lib.ListN.{replicate, length-replicate, getD-replicate, replicate-append-replicate}
+use Rattle.numbers.specs.Lists.{Each}
 use Rattle.numbers.specs.Sums.{sumTo}
 use Rattle.numbers.proofs.Lists.{tabulate-constant, total-none}
 use Rattle.reference.specs.Rounding.{rest, nearer, R}

@@ -1,15 +1,15 @@
 -- A stage's values depend only on the bytes near them: where two signals agree on a stretch, so do their values, less the stage's margin.
-use mathlib.Core.Path.{_≡_, refl, ap, ap₂, sym, _∙_}
+use mathlib.Core.Path.{_≡_, refl, ap}
 use mathlib.Core.List.{List}
-use Prim.Native.Nat.{ℕ, zero, suc, _+_, _-_, _*_, _/_, _%_, _≤_, _<_}
+use Prim.Native.Nat.{ℕ, _+_, _-_, _*_, _/_, _%_, _≤_, _<_}
 use native.Mathlib.Omega.{arith}
 use lib.Dec.{lit≤, lit<}
-use lib.IntN.{ℤ, _+ℤ_, _*ℤ_}
+use lib.IntN.{ℤ}
 use lib.ListN.{length}
 use Rattle.numbers.proofs.Sums.{sum-same}
 use Rattle.reference.specs.Rounding.{R}
 use Rattle.reference.specs.Taps.{S1, S1-WIDE, HB, F40, F30, F80}
-use Rattle.reference.specs.Stages.{tap, M, fir, x, u, v, w, between, y-narrow, y-wide, y, reach}
+use Rattle.reference.specs.Stages.{M, fir, x, u, v, w, between, y-narrow, y-wide, y, reach}
 use Rattle.reference.specs.Output.{samples-per-frame}
 use Rattle.reference.specs.declared.PcmRate.{PcmRate}
 use Rattle.reference.specs.declared.PcmRate.the-variants.{Hz88200, Hz176400, Hz352800}

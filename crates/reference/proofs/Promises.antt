@@ -9,7 +9,7 @@ use lib.IntN.{ℤ}
 use lib.ListN.{getD}
 use lib.Ieee.{Float, nan}
 use Rattle.reference.specs.Frames.{Run}
-use Rattle.reference.specs.Refusals.{Datum, number, rate, cutoff, decibels, Decision, accepted, refused, error-decision, decision, gain-decision, is-accepted, Place, decide, gain-places}
+use Rattle.reference.specs.Refusals.{Datum, number, rate, cutoff, decibels, Decision, accepted, refused, error-decision, decision, is-accepted, Place}
 use Rattle.reference.specs.Promises.{by-decision, GainPromise, OpeningPromise, Answered, SamplesPromise, ConvertPromise}
 use Rattle.reference.specs.declared.PcmRate.{PcmRate}
 use Rattle.reference.specs.declared.PcmRate.the-variants.{Hz88200}

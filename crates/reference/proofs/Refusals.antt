@@ -9,7 +9,7 @@ use borrow.Author.Tests.{ltb-false, leb-true, eqb-true, not-false}
 use lib.Dec.{leb}
 use lib.ListN.{length, length-replicate}
 use Rattle.reference.specs.Frames.{Run, idle, frame-length, frame-count, neighbour, before-frame}
-use Rattle.reference.specs.Refusals.{Datum, Decision, accepted, refused, error-decision, is-accepted, Place, decide, opening-places, run-length, one-frame, if-present, input-places}
+use Rattle.reference.specs.Refusals.{Datum, accepted, refused, error-decision, is-accepted, Place, decide, opening-places, run-length, one-frame, if-present, input-places}
 use Rattle.reference.specs.declared.Converter.{Converter}
 use Rattle.reference.specs.declared.PcmError.{PcmError}
 use Rattle.reference.specs.declared.PcmError.the-variants as error

@@ -1,15 +1,15 @@
 -- R(v, q) is nearest v / 2^q, ties to even, and the only such number; and its size.
-use mathlib.Core.Path.{_≡_, refl, sym, _∙_, ap, subst}
+use mathlib.Core.Path.{_≡_, refl, sym, _∙_, ap}
 use mathlib.Core.Bool.{Bool, true, false, not, cond}
 use mathlib.Core.Logic.{_⊎_, inl, inr, ⊎-elim}
 use Prim.Native.Nat.{ℕ, zero, suc, _+_, _*_, _-_, _/_, _%_, _<_, _≤_, _^_}
 use native.Mathlib.Nat.{one-mul, div-add-mod', mod-lt, mul-le-mul-right, le-of-mul-le-mul-right}
 use native.Mathlib.Omega.{arith}
-use lib.Dec.{T, eqb, ltb, ltb→lt, nltb→le, eqb→eq, eqb-refl}
+use lib.Dec.{T, eqb, ltb, ltb→lt, nltb→le, eqb→eq}
 use lib.IntN.{ℤ, pos, negsuc, negℤ, natAbs, _+ℤ_, _-ℤ_, _*ℤ_, +ℤ-one, +ℤ-assoc, +ℤ-invr, negℤ-+ℤ}
 use lib.Pow.{pow-pos}
 use lib.Signed.{shrZ}
-use Rattle.numbers.proofs.Integers.{pp, nn, zext, add-parts, mul-parts, pp-neg, nn-neg, abs-neg, abs-add, abs-mul, abs-parts, add-mul, neg-mul}
+use Rattle.numbers.proofs.Integers.{zext, add-parts, pp-neg, nn-neg, abs-neg, abs-add, abs-mul, abs-parts, add-mul, neg-mul}
 use Rattle.reference.specs.Rounding.{rest, nearer, R, distance, NearestEven}
 
 -- ---- the floor and the rest

@@ -3,16 +3,14 @@ use mathlib.Core.Path.{_≡_, refl, ap}
 use mathlib.Core.Bool.{Bool, true, false, cond}
 use mathlib.Core.List.{List}
 use Prim.Native.Nat.{ℕ, zero, suc, _+_, _-_, _*_, _/_, _%_, _^_, _≤_, _<_}
-use native.Mathlib.Nat.{mul-le-mul, mul-le-mul-left, mul-le-mul-right}
+use native.Mathlib.Nat.{mul-le-mul-right}
 use native.Mathlib.Omega.{arith}
 use lib.Dec.{lit≤, lit<, eqb}
-use lib.IntN.{ℤ, pos, negsuc, natAbs, _+ℤ_, _*ℤ_}
-use lib.ListN.{getD}
-use Rattle.numbers.specs.Sums.{sumTo, apart}
+use lib.IntN.{ℤ, natAbs, _+ℤ_}
+use Rattle.numbers.specs.Sums.{apart}
 use Rattle.numbers.specs.Lists.{total}
 use Rattle.numbers.proofs.Integers.{abs-add}
 use Rattle.numbers.proofs.Sums.{sum-size}
-use Rattle.reference.specs.Rounding.{R}
 use Rattle.reference.specs.Taps.{S1, S1-WIDE, HB, F40, F30, F80}
 use Rattle.reference.specs.Stages.{tap, M, fir, bit, sign, x, u, v, w, between, y-narrow, y-wide, y}
 use Rattle.reference.specs.declared.PcmRate.{PcmRate}

@@ -10,7 +10,6 @@ use Rattle.reference.specs.Frames.{Run}
 use Rattle.reference.specs.Scaling.{db-to-linear}
 use Rattle.reference.specs.Output.{samples, stats, per-frame-clips, s24le}
 use Rattle.reference.specs.Refusals.{Decision, accepted, refused, Place, decide, decision, gain-decision, gain-places, opening-places, convert-run-places, convert-places, convert-frame-places}
-use Rattle.reference.specs.declared.Gain.{Gain}
 use Rattle.reference.specs.declared.Converter.{Converter}
 use Rattle.reference.specs.declared.ConvertStats.{ConvertStats}
 use Rattle.reference.specs.declared.FromDb.{FromDb}

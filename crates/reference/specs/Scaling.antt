@@ -1,6 +1,6 @@
 -- The gain's factor, and module 6, scaling. Each operation of a float rounds once, as IEEE 754 binary64 has it.
 use Prim.Native.Nat.{ℕ, zero, suc, _*_}
-use mathlib.Core.Bool.{Bool, true, false, cond, _&&_, _||_}
+use mathlib.Core.Bool.{Bool, false, cond, _&&_, _||_}
 use lib.Dec.{eqb}
 use lib.IntN.{ℤ, pos, negsuc, negℤ}
 use lib.Ieee.{Float, nan, inf, fin, binary64, up, down, add, mul, div, lt, le, ofInt, ofBits, toBits}

@@ -1,11 +1,9 @@
 -- What the filters of `lanes` ask of the first e places of an array that holds a signal, and what they give.
-use mathlib.Core.Path.{_≡_, refl, sym, _∙_, ap}
+use mathlib.Core.Path.{_≡_, _∙_, ap}
 use mathlib.Core.List.{List}
-use mathlib.Core.Bool.{cond}
 use Prim.Native.Nat.{ℕ, _+_, _-_, _*_, _/_, _%_, _^_, _≤_, _<_}
 use native.Mathlib.Omega.{arith}
 use lib.IntN.{ℤ, pos, natAbs}
-use lib.Dec.{eqb}
 use lib.ListN.{length, take, drop}
 use Rattle.numbers.specs.Sums.{at0}
 use Rattle.numbers.specs.Lists.{Held}
@@ -14,7 +12,7 @@ use Rattle.reference.specs.Taps.{HB}
 use Rattle.reference.specs.Stages.{M, fir, between, w, y-narrow}
 use Rattle.reference.specs.declared.PcmRate.the-variants.{Hz352800}
 use Rattle.reference.proofs.Sizes.{absolute-sum, w-size, between-size}
-use Rattle.lanes.specs.Filters.{same-rate, middle, between-by, odd-taps, Small, Fit, Between, Filled}
+use Rattle.lanes.specs.Filters.{same-rate, middle, odd-taps, Small, Fit, Between, Filled}
 use Rattle.lanes.proofs.Signals.{held-small, same-held, same-fit, middle-held, middle-fit, length-odd}
 use Rattle.lanes.proofs.Tables.{between-HB, between-is-HB}
 use Rattle.numbers.specs.Parts.{woven}

@@ -1,14 +1,13 @@
 -- The routes of the reference are routes here; sizes of their y.
 use mathlib.Core.Path.{_≡_, refl}
-use mathlib.Core.Bool.{true, false}
+use mathlib.Core.Bool.{false}
 use mathlib.Core.List.{List}
 use Prim.Native.Nat.{ℕ, _^_, _≤_, _<_}
 use native.Mathlib.Omega.{arith}
 use lib.Dec.{lit≤, lit<}
 use lib.IntN.{ℤ, natAbs}
-use lib.ListN.{length}
-use Rattle.reference.specs.Taps.{F40, F30, F80}
-use Rattle.reference.specs.Stages.{y-narrow, y-wide, y}
+use Rattle.reference.specs.Taps.{F40, F30}
+use Rattle.reference.specs.Stages.{y}
 use Rattle.reference.specs.Output.{samples-per-frame}
 use Rattle.reference.specs.Refusals.{unsupported}
 use Rattle.reference.specs.declared.PcmRate.{PcmRate}

@@ -1,6 +1,6 @@
 // The tables, the taps and the arrays of a route, each bound once a call and lent to the loops.
 ghost use mathlib.Core.Path.{_≡_};
-ghost use Prim.Native.Nat.{ℕ, _+_, _*_, _≤_, _<_};
+ghost use Prim.Native.Nat.{_*_, _≤_, _<_};
 ghost use lib.ListN.{length};
 ghost use Rattle.reference.specs.Taps.{HB, F40, F30, F80};
 ghost use Rattle.reference.specs.Output.{samples-per-frame};

@@ -1,6 +1,6 @@
 // The frames of a run, and the channels of a frame. Samples n count from the run's start.
 ghost use mathlib.Core.Path.{_≡_};
-ghost use Prim.Native.Nat.{ℕ, _+_, _*_, _≤_, _<_, _%_};
+ghost use Prim.Native.Nat.{_+_, _*_, _≤_, _<_, _%_};
 ghost use lib.ListN.{length};
 ghost use Rattle.reference.specs.Output.{samples-per-frame, sample};
 ghost use Rattle.channel_bytes.specs.Lent.{lent-run};

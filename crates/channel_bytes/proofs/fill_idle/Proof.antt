@@ -1,6 +1,6 @@
 -- `fill_idle` meets its contract.
 use mathlib.Core.Path.{_≡_, refl}
-use Prim.Native.Nat.{_+_, _-_, _≤_}
+use Prim.Native.Nat.{_-_, _≤_}
 use native.Mathlib.Omega.{arith}
 use Rattle.numbers.specs.Lists.{Wrote}
 use Rattle.numbers.proofs.Lists.{wrote-none, wrote-more}

@@ -1,6 +1,6 @@
 -- `pick` meets its contract.
 use denote.Ref.{now}
-use mathlib.Core.Path.{_≡_, refl}
+use mathlib.Core.Path.{_≡_}
 use Prim.Native.Nat.{_+_, _-_, _*_, _≤_, _<_}
 use native.Mathlib.Omega.{arith}
 use lib.Arith.{digits-lt}

@@ -1,5 +1,5 @@
 -- `float` is safe: it reads no NaN's pattern.
-use mathlib.Core.Path.{_≡_, sym, _∙_, subst}
+use mathlib.Core.Path.{sym, _∙_, subst}
 use mathlib.Core.Bool.{Bool, not}
 use Prim.Native.Nat.{_%_}
 use borrow.Author.Tests.{le-ltb}

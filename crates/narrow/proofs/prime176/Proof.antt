@@ -1,15 +1,8 @@
 -- `prime176` meets its contract.
-use denote.Ref.{now}
-use mathlib.Core.Path.{_≡_, refl, sym, _∙_, ap}
-use Prim.Native.Nat.{_+_, _-_, _*_, _/_, _≤_, _<_}
+use Prim.Native.Nat.{_-_}
 use native.Mathlib.Omega.{arith}
-use lib.ListN.{length}
 use Rattle.numbers.proofs.Lists.{held-none, held-some}
-use Rattle.reference.specs.Stages.{v, w, y-narrow}
-use Rattle.reference.proofs.Sizes.{v-size, w-sum-size}
-use Rattle.channel_bytes.specs.Lent.{byte-at}
-use Rattle.route_states.proofs.Arrays.{part-length, held-at, shifted}
-use Rattle.route_states.proofs.Filters.{fir1-asks, fir1-gives}
+use Rattle.route_states.proofs.Arrays.{held-at}
 use Rattle.route_states.specs.Routes.{NarrowState}
 use borrow.Author.Needs.{needs}
 use Rattle.narrow.proofs.prime176.Statement.{statement}

@@ -1,10 +1,9 @@
 -- `step176` meets its contract.
 use denote.Ref.{now}
-use mathlib.Core.Path.{_≡_, refl, sym, _∙_, ap}
-use Prim.Native.Nat.{_+_, _-_, _*_, _/_, _≤_, _<_}
+use Prim.Native.Nat.{_+_, _-_, _*_}
 use lib.ListN.{length}
-use Rattle.numbers.proofs.Lists.{held-none, held-some}
-use Rattle.reference.specs.Stages.{v, w, y-narrow}
+use Rattle.numbers.proofs.Lists.{held-some}
+use Rattle.reference.specs.Stages.{w, y-narrow}
 use Rattle.reference.proofs.Sizes.{v-size, w-sum-size}
 use Rattle.channel_bytes.specs.Lent.{byte-at}
 use Rattle.route_states.proofs.Arrays.{part-length, held-at, shifted}

@@ -1,9 +1,8 @@
 -- `weave352` meets its contract.
 use denote.Ref.{now}
-use mathlib.Core.Path.{_≡_, refl, sym, _∙_, ap}
-use Prim.Native.Nat.{_+_, _-_, _*_, _/_, _≤_, _<_}
+use mathlib.Core.Path.{refl, _∙_, ap}
+use Prim.Native.Nat.{_-_, _/_, _≤_}
 use native.Mathlib.Omega.{arith}
-use lib.ListN.{length}
 use lib.Dec.{lit≤}
 use Rattle.channel_bytes.specs.Lent.{byte-at}
 use Rattle.numbers.specs.Parts.{woven}

@@ -1,6 +1,6 @@
 -- `fill_u` meets its contract.
 use denote.Ref.{now}
-use Prim.Native.Nat.{_+_, _*_}
+use Prim.Native.Nat.{_+_}
 use native.Mathlib.Omega.{arith}
 use lib.ListN.{length}
 use Rattle.stages.proofs.Arrays.{front-length}

@@ -1,6 +1,6 @@
 -- `shift` meets its contract.
 use denote.Ref.{now}
-use mathlib.Core.Path.{_≡_, refl, sym, _∙_, ap}
+use mathlib.Core.Path.{_≡_, refl, _∙_}
 use mathlib.Core.Logic.{⊎-elim}
 use Prim.Native.Nat.{ℕ, _+_, _-_, _≤_, _<_}
 use lib.IntN.{pos}

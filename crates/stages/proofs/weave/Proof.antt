@@ -1,7 +1,7 @@
 -- `weave` meets its contract.
 use denote.Ref.{now}
-use mathlib.Core.Path.{_≡_, refl, sym, _∙_, ap}
-use Prim.Native.Nat.{ℕ, _+_, _-_, _*_, _/_, _%_, _≤_, _<_}
+use mathlib.Core.Path.{_≡_, refl, _∙_}
+use Prim.Native.Nat.{_+_, _-_, _*_, _≤_}
 use lib.IntN.{pos}
 use lib.ListN.{length, length-set}
 use Rattle.numbers.specs.Lists.{Held}

@@ -5,7 +5,6 @@ use native.Mathlib.Omega.{arith}
 use borrow.Author.Needs.{needs}
 use denote.Ref.{now}
 use lib.IntN.{ℤ, _+ℤ_, _*ℤ_}
-use lib.ListN.{length}
 use Rattle.numbers.specs.Sums.{at0}
 use Rattle.lanes.specs.Lanes.{raised, fourths, Added}
 use Rattle.numbers.proofs.Machine.{val}

@@ -1,6 +1,5 @@
 -- `lanes::lane::pair` meets its contract.
 use denote.Ref.{now}
-use mathlib.Core.Path.{ap}
 use lib.IntN.{natAbs}
 use mir.Facts.{toZ-ofZ}
 use Rattle.lanes.proofs.Ops.{pair-room, pair-is}
