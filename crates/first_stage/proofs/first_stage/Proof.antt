@@ -41,7 +41,7 @@ add-at : tie.Need-add-at Inv-loop μ-loop
 add-at c = omega (arith, within c)
 
 window-requires : tie.Need-window-requires Inv-loop μ-loop
-window-requires c κs = (omega arith, omega arith, omega (arith, within (c)), omega arith)
+window-requires c κs = (omega arith, omega arith, omega (arith, within c), omega arith)
 
 add-window : tie.Need-add-window Inv-loop μ-loop
 add-window c = omega (arith, within (c .before))
