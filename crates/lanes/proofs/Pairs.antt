@@ -20,16 +20,14 @@ unfolding sumTo
 sum-each zero f m h = omega arith
 sum-each (suc n) f m h = omega (arith, abs-add (sumTo n f) (f n), sum-each n f m h, h n)
 
-pub product-size : (h a : ℤ) → natAbs h ≤ 2 ^ 25 → natAbs a ≤ 2 ^ 30 → natAbs (h *ℤ a) ≤ 2 ^ 55
-product-size h a p q = omega (arith, abs-mul h a, mul-le-mul p q)
+pub product-size : (h a : ℤ) (A : ℕ) → natAbs h ≤ 2 ^ 25 → natAbs a ≤ A → natAbs (h *ℤ a) ≤ 2 ^ 25 * A
+product-size h a A p q = omega (arith, abs-mul h a, mul-le-mul p q)
 
 pub centre-size : (h : ℤ) {v : List ℕ} → natAbs h ≤ 2 ^ 25 → Low v → (k : ℕ) → natAbs (h *ℤ raised v k) ≤ 2 ^ 55
-centre-size h {v} p low k = product-size h (raised v k) p (raised-size low k)
+centre-size h {v} p low k = product-size h (raised v k) (2 ^ 30) p (raised-size low k)
 
 pub pair-size : (h a b : ℤ) → natAbs h ≤ 2 ^ 25 → natAbs a ≤ 2 ^ 30 → natAbs b ≤ 2 ^ 30 → natAbs (h *ℤ (a +ℤ b)) ≤ 2 ^ 56
-pair-size h a b p q r =
-    let two : natAbs (a +ℤ b) ≤ 2 ^ 31 = omega (arith, abs-add a b) in
-    omega (arith, abs-mul h (a +ℤ b), mul-le-mul p two)
+pair-size h a b p q r = product-size h (a +ℤ b) (2 ^ 31) p (omega (arith, abs-add a b))
 
 module _ (h : List ℤ) (s : ℕ → ℤ) (from down up n : ℕ) (hs : Small (2 ^ 25) h) (b : (k : ℕ) → natAbs (s k) ≤ 2 ^ 30) where
   arm-size : (k : ℕ) → natAbs (arm h s down up k) ≤ 2 ^ 56

@@ -142,7 +142,7 @@ fn singly14(acc: [i64; 14], h: &[i64], from: usize, v: &[u64], end: usize, up: u
     s
 }
 
-// The taps from place `from` on, four at a time: tap j with the values j + 1 below `end` and j above `up`.
+// The taps from place `from` on, by fourths, and those left over: tap j with the values j + 1 below `end` and j above `up`.
 fn pairs14(acc: [i64; 14], h: &[i64], from: usize, v: &[u64], end: usize, up: usize) -> [i64; 14]
     requires { ⌜ (from ≤ length (now h)) × (length (now h) ≤ 117) × (length (now h) ≤ end) × (end + 13 ≤ length (now v)) × (up + length (now h) + 13 ≤ length (now v)) ⌝ }
     requires { ⌜ Small (2 ^ 25) (now h) ⌝ }

@@ -11,7 +11,6 @@ use native.Mathlib.Omega.{arith}
 use borrow.Author.Needs.{needs}
 use denote.Ref.{now}
 use lib.ListN.{length}
-use borrow.Author.Needs.{needs}
 use Rattle.lanes.proofs.dec2.Statement.{statement}
 use Rattle.lanes.proofs.dec2.Tie as tie
 

@@ -5,7 +5,6 @@ use Rattle.lanes.specs.Filters.{alone, half-rate}
 use native.Mathlib.Omega.{arith}
 use borrow.Author.Needs.{needs}
 use denote.Ref.{now}
-use borrow.Author.Needs.{needs}
 use Rattle.lanes.proofs.half.Statement.{statement}
 use Rattle.lanes.proofs.half.Tie as tie
 

@@ -6,7 +6,6 @@ use native.Mathlib.Omega.{arith}
 use borrow.Author.Needs.{needs}
 use denote.Ref.{now}
 use lib.ListN.{length}
-use borrow.Author.Needs.{needs}
 use Rattle.lanes.proofs.half_parts.Statement.{statement}
 use Rattle.lanes.proofs.half_parts.Tie as tie
 

@@ -5,11 +5,11 @@ use Rattle.lanes.proofs.Pairs.{product-size, lifted-size}
 use Rattle.lanes.specs.Lanes.{lifted}
 use Rattle.lanes.specs.Filters.{alone}
 use lib.Dec.{lit≤}
+use Prim.Native.Nat.{_^_}
 use native.Mathlib.Omega.{arith}
 use borrow.Author.Needs.{needs}
 use denote.Ref.{now}
 use lib.IntN.{pos}
-use borrow.Author.Needs.{needs}
 use Rattle.lanes.proofs.half_sums.Statement.{statement}
 use Rattle.lanes.proofs.half_sums.Tie as tie
 
@@ -33,7 +33,7 @@ add-pairs-requires c κs =
     let xe = now (k .args .xe) in
     let u = p .half-centre .ensures .same in (
       (omega arith, omega arith, omega arith, omega arith, omega arith, omega arith),
-      (k .pre .1 .0 .small-odd, (w .raise .ensures .low, filled-small _ (p .half-centre .ensures) (λ j. omega (arith, product-size (pos 8388608) (lifted xe j) (lit≤ tt) (lifted-size xe (k .pre .1 .1 .0) j))))),
+      (k .pre .1 .0 .small-odd, (w .raise .ensures .low, filled-small _ (p .half-centre .ensures) (λ j. omega (arith, product-size (pos 8388608) (lifted xe j) (2 ^ 30) (lit≤ tt) (lifted-size xe (k .pre .1 .1 .0) j))))),
     )
 
 same-length : tie.Need-same-length

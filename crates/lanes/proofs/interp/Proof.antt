@@ -5,7 +5,6 @@ use Rattle.lanes.specs.Filters.{middle}
 use native.Mathlib.Omega.{arith}
 use borrow.Author.Needs.{needs}
 use denote.Ref.{now}
-use borrow.Author.Needs.{needs}
 use Rattle.lanes.proofs.interp.Statement.{statement}
 use Rattle.lanes.proofs.interp.Tie as tie
 

@@ -6,7 +6,6 @@ use Prim.Native.Nat.{_+_, _*_}
 use native.Mathlib.Omega.{arith}
 use borrow.Author.Needs.{needs}
 use denote.Ref.{now}
-use borrow.Author.Needs.{needs}
 use Rattle.lanes.proofs.parts_with.Statement.{statement}
 use Rattle.lanes.proofs.parts_with.Tie as tie
 

@@ -4,7 +4,6 @@ use mir.Facts.{toZ-ofZ}
 use mathlib.Core.Path.{_≡_, _∙_, ap}
 use borrow.Author.Needs.{needs}
 use lib.IntN.{natAbs}
-use borrow.Author.Needs.{needs}
 use Rattle.lanes.proofs.lane.tap1.Statement.{statement}
 use Rattle.lanes.proofs.lane.tap1.Tie as tie
 
