@@ -1,6 +1,6 @@
 #!/usr/bin/env bash
-# Writes crates/gain_figures/src/rust.rt: what the original's `db_to_linear` and `quantise` give.
-# Usage: compare/factors.sh [SRC] > crates/gain_figures/src/rust.rt
+# Writes crates/test_gain/src/rust.rt: what the original's `db_to_linear` and `quantise` give.
+# Usage: compare/factors.sh [SRC] > crates/test_gain/src/rust.rt
 # SRC is the original's repository, by default ../shared/docs/src. The functions are taken from its kernel.rs as they stand, and compiled with compare/factors.rs.
 set -eu
 here=$(cd "$(dirname "$0")" && pwd)

@@ -1,13 +1,13 @@
 /* Converts a file of raw frames into packed 24-bit samples, some frames at a time. Each piece is given the frames next
  * to it, so the pieces joined are what one call for the whole file would write.
  *
- *     rt staticlib exports
- *     cc -O2 -Iinclude examples/convert.c target/staticlib/libexports.a -o target/convert
+ *     rt staticlib puigneht
+ *     cc -O2 -Iinclude examples/convert.c target/staticlib/libpuigneht.a -o target/convert
  *     target/convert RATE CUTOFF CHANNELS DB IN OUT         (target/convert 88200 0 2 0 album.dsd album.s24)
  */
 #include <stdio.h>
 #include <stdlib.h>
-#include "scarletbook_pcm.h"
+#include "puigneht.h"
 
 enum { FRAMES = 16 };
 
@@ -20,8 +20,8 @@ static void stop(const char *what) {
 }
 
 static void expect(uint8_t answer) {
-    if (answer == SCARLETBOOK_ACCEPTED) return;
-    if (answer == SCARLETBOOK_NOT_UNDERSTOOD) stop("arguments not understood");
+    if (answer == PUIGNEHT_ACCEPTED) return;
+    if (answer == PUIGNEHT_NOT_UNDERSTOOD) stop("arguments not understood");
     fprintf(stderr, "refusal %u: %llu %llu %g\n", answer, (unsigned long long)data[0], (unsigned long long)data[1],
             decibels[0]);
     exit(1);
@@ -40,16 +40,16 @@ int main(int argc, char **argv) {
     uint8_t cutoff = (uint8_t)number(argv[2], UINT8_MAX);
     uint8_t channels = (uint8_t)number(argv[3], UINT8_MAX);
     double gain[2];
-    expect(scarletbook_gain(strtod(argv[4], NULL), gain, 2, decibels, 1));
+    expect(puigneht_gain(strtod(argv[4], NULL), gain, 2, decibels, 1));
     uint64_t opened[2];
-    expect(scarletbook_open(rate, cutoff, channels, gain, 2, opened, 2, data, 2, decibels, 1));
+    expect(puigneht_open(rate, cutoff, channels, gain, 2, opened, 2, data, 2, decibels, 1));
 
     FILE *in = fopen(argv[5], "rb");
     FILE *to = fopen(argv[6], "wb");
     if (!in || !to) stop("cannot open a file");
 
     /* The buffer holds the frame before the piece, the piece, and the frame after it. */
-    size_t size = (size_t)SCARLETBOOK_FRAME_BYTES * channels;
+    size_t size = (size_t)PUIGNEHT_FRAME_BYTES * channels;
     size_t frame_out = (size_t)opened[0] * channels * 3;
     uint8_t *buffer = malloc((FRAMES + 2) * size);
     uint8_t *out = malloc(FRAMES * frame_out);
@@ -64,7 +64,7 @@ int main(int argc, char **argv) {
         size_t bytes = has_after ? FRAMES * size : there;
         size_t out_bytes = bytes / size * frame_out;
         uint64_t clipped[6];
-        expect(scarletbook_convert(rate, cutoff, channels, gain, 2, has_before, buffer, size, buffer + size, bytes,
+        expect(puigneht_convert(rate, cutoff, channels, gain, 2, has_before, buffer, size, buffer + size, bytes,
                                    has_after, buffer + size + bytes, has_after ? size : 0, 0, out, out_bytes, NULL, 0,
                                    clipped, 6, data, 2, decibels, 1));
         for (int c = 0; c < 6; c++) clips += clipped[c];

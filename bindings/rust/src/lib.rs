@@ -142,7 +142,7 @@ pub fn gain(db: f64) -> Result<Gain, Error> {
     let mut told = Told::default();
     // SAFETY: each pointer and length is that of a live array, and the arrays are apart.
     let answer =
-        unsafe { raw::scarletbook_gain(db, gain.as_mut_ptr(), 2, told.decibels.as_mut_ptr(), 1) };
+        unsafe { raw::puigneht_gain(db, gain.as_mut_ptr(), 2, told.decibels.as_mut_ptr(), 1) };
     let [db, linear] = gain;
     told.result(answer, Gain { db, linear })
 }
@@ -151,7 +151,7 @@ pub fn gain(db: f64) -> Result<Gain, Error> {
 pub fn pack_s24le(samples: &[i32], bytes: &mut [u8]) {
     // SAFETY: the slices are apart, since one of them is `&mut`.
     unsafe {
-        raw::scarletbook_pack_s24le(
+        raw::puigneht_pack_s24le(
             samples.as_ptr(),
             samples.len(),
             bytes.as_mut_ptr(),
@@ -160,7 +160,7 @@ pub fn pack_s24le(samples: &[i32], bytes: &mut [u8]) {
     }
 }
 
-// `scarletbook_convert_run` and `scarletbook_convert_frame` have one type.
+// `puigneht_convert_run` and `puigneht_convert_frame` have one type.
 type ConvertSamples = unsafe extern "C" fn(
     u32,
     u8,
@@ -193,7 +193,7 @@ impl Converter {
         let mut told = Told::default();
         // SAFETY: each pointer and length is that of a live array, and the arrays are apart.
         let answer = unsafe {
-            raw::scarletbook_open(
+            raw::puigneht_open(
                 self.rate.hertz(),
                 self.cutoff as u8,
                 self.channels,
@@ -219,12 +219,12 @@ impl Converter {
 
     /// 32-bit samples of a run, the channels in turn.
     pub fn convert_run(&self, run: Run<'_>, out: &mut [i32]) -> Result<Clipped, Error> {
-        self.samples(raw::scarletbook_convert_run, run, out)
+        self.samples(raw::puigneht_convert_run, run, out)
     }
 
     /// The same of one frame.
     pub fn convert_frame(&self, run: Run<'_>, out: &mut [i32]) -> Result<Clipped, Error> {
-        self.samples(raw::scarletbook_convert_frame, run, out)
+        self.samples(raw::puigneht_convert_frame, run, out)
     }
 
     fn samples(
@@ -283,7 +283,7 @@ impl Converter {
         let mut told = Told::default();
         // SAFETY: each pointer and length is that of a live slice, and no written slice overlaps another.
         let answer = unsafe {
-            raw::scarletbook_convert(
+            raw::puigneht_convert(
                 self.rate.hertz(),
                 self.cutoff as u8,
                 self.channels,

@@ -1,7 +1,7 @@
-//! The library's functions, as include/scarletbook_pcm.h declares them.
+//! The library's functions, as include/puigneht.h declares them.
 
 extern "C" {
-    pub fn scarletbook_gain(
+    pub fn puigneht_gain(
         db: f64,
         gain: *mut f64,
         gain_len: usize,
@@ -9,7 +9,7 @@ extern "C" {
         decibels_len: usize,
     ) -> u8;
 
-    pub fn scarletbook_open(
+    pub fn puigneht_open(
         rate: u32,
         cutoff: u8,
         channels: u8,
@@ -23,7 +23,7 @@ extern "C" {
         decibels_len: usize,
     ) -> u8;
 
-    pub fn scarletbook_convert_run(
+    pub fn puigneht_convert_run(
         rate: u32,
         cutoff: u8,
         channels: u8,
@@ -47,7 +47,7 @@ extern "C" {
         decibels_len: usize,
     ) -> u8;
 
-    pub fn scarletbook_convert_frame(
+    pub fn puigneht_convert_frame(
         rate: u32,
         cutoff: u8,
         channels: u8,
@@ -71,7 +71,7 @@ extern "C" {
         decibels_len: usize,
     ) -> u8;
 
-    pub fn scarletbook_convert(
+    pub fn puigneht_convert(
         rate: u32,
         cutoff: u8,
         channels: u8,
@@ -98,7 +98,7 @@ extern "C" {
         decibels_len: usize,
     ) -> u8;
 
-    pub fn scarletbook_pack_s24le(
+    pub fn puigneht_pack_s24le(
         samples: *const i32,
         samples_len: usize,
         bytes: *mut u8,
