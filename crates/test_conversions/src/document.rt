@@ -1,9 +1,9 @@
 // Document 01's figures: Standard at 88,200 Hz, mono.
 use crate::call;
 use crate::row;
-use test_support::one;
 use reference::Converted;
 use reference::Converter;
+use test_support::one;
 
 fn standard(db: u64) -> Converter {
     let gain = call::made(db);

@@ -4,11 +4,11 @@ use crate::call;
 use crate::input;
 use crate::row;
 use crate::rust;
-use test_support::at;
 use reference::Converted;
 use reference::Converter;
 use reference::Gain;
 use reference::Verdict;
+use test_support::at;
 
 // A record whose factor is not its decibels' (-0 dB with the float after 1), as a row of settings: the original has no such refusal.
 const FACTOR: [[u64; 9]; 1] = [[

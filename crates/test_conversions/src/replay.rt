@@ -6,10 +6,10 @@ use crate::input::Digest;
 use crate::row;
 use crate::row::times;
 use crate::rust;
-use test_support::at;
-use test_support::one;
 use reference::Converted;
 use reference::Converter;
+use test_support::at;
+use test_support::one;
 
 // A row's converter, and whether it has neighbours.
 fn converter(row: &[u64]) -> Converter {

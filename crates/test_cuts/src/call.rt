@@ -38,5 +38,6 @@ pub fn reach() -> usize {
 // Whether a call is refused with this number and data, and counts nothing.
 pub fn refused(done: Converted, number: u64, first: u64, second: u64) -> bool {
     let v = done.verdict;
-    test_support::is(test_support::verdict(v), number, first, second) && test_support::clips_are(done, 0)
+    test_support::is(test_support::verdict(v), number, first, second)
+        && test_support::clips_are(done, 0)
 }

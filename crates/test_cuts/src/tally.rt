@@ -1,7 +1,7 @@
 // What the pieces of a round come to.
 use crate::call;
-use test_support::one;
 use reference::Converted;
+use test_support::one;
 
 // Calls and those accepted, samples and those equal, the clips of the two channels, counts and those equal.
 pub struct Tally {

@@ -7,8 +7,8 @@ use crate::row;
 use crate::tally;
 use crate::tally::Tally;
 use crate::tally::plus;
-use test_support::one;
 use reference::Converted;
+use test_support::one;
 
 // A piece by each kind of call; the first has no frame before.
 fn first_two<'a>(

@@ -4,8 +4,8 @@ use crate::compare;
 use crate::input;
 use crate::row;
 use crate::turns;
-use test_support::one;
 use reference::Converted;
+use test_support::one;
 
 fn run_call(album: &[u8], out: &mut [i32]) -> Converted {
     let none = [0u8; 1];

@@ -54,7 +54,11 @@ fn count(question: u8, db: &[u64], factor: &[u64]) -> u64 {
     let mut n = 0u64;
     let mut i = 0usize;
     while i < db.len() {
-        if answer(question, test_support::at(db, i), test_support::at(factor, i)) {
+        if answer(
+            question,
+            test_support::at(db, i),
+            test_support::at(factor, i),
+        ) {
             n += 1;
         }
         i += 1;
