@@ -31,6 +31,16 @@ pub enum Cutoff {
     Wide,
 }
 
+impl Cutoff {
+    pub fn name(self) -> &'static str {
+        match self {
+            Cutoff::Standard => "standard",
+            Cutoff::Low => "low",
+            Cutoff::Wide => "wide",
+        }
+    }
+}
+
 /// Decibels and the factor that they stand for: made by [`gain`].
 #[derive(Clone, Copy, Debug, PartialEq)]
 pub struct Gain {
@@ -38,7 +48,7 @@ pub struct Gain {
     pub linear: f64,
 }
 
-/// Why a call is refused.
+/// Why a call is refused. Printed, it is a sentence with its numbers.
 #[derive(Clone, Copy, Debug, PartialEq)]
 pub enum Error {
     /// Channels that are not 1 to 6.
@@ -61,7 +71,45 @@ pub enum Error {
 
 impl std::fmt::Display for Error {
     fn fmt(&self, f: &mut std::fmt::Formatter<'_>) -> std::fmt::Result {
-        write!(f, "refused: {self:?}")
+        match *self {
+            Error::Channels(n) => write!(f, "{n} channels: there may be 1 to 6"),
+            Error::Unsupported(rate, cutoff) => {
+                write!(
+                    f,
+                    "the cutoff {} is not available at {} Hz",
+                    cutoff.name(),
+                    rate.hertz()
+                )
+            }
+            Error::Gain(db) => write!(
+                f,
+                "a gain of {db} dB: it may be -120 to 24, with the factor of these decibels"
+            ),
+            Error::InputLength(n, kind) => {
+                let what = if kind == 0 {
+                    "whole frames"
+                } else {
+                    "one frame"
+                };
+                write!(
+                    f,
+                    "{n} bytes are not {what}: a frame has {FRAME_BYTES} bytes of each channel"
+                )
+            }
+            Error::Frames(n) => write!(f, "{n} frames in one call: there may be 540000"),
+            Error::OutputLength(n, needed) => {
+                write!(f, "room for {n} samples, where {needed} are to be written")
+            }
+            Error::OutputBytes(n, needed) => {
+                write!(f, "room for {n} bytes, where {needed} are to be written")
+            }
+            Error::FrameCounts(n, needed) => {
+                write!(
+                    f,
+                    "room for the counts of {n} frames, where there are {needed}"
+                )
+            }
+        }
     }
 }
 
@@ -222,7 +270,7 @@ impl Converter {
         self.samples(raw::puigneht_convert_run, run, out)
     }
 
-    /// The same of one frame.
+    /// 32-bit samples of exactly one frame, the channels in turn.
     pub fn convert_frame(&self, run: Run<'_>, out: &mut [i32]) -> Result<Clipped, Error> {
         self.samples(raw::puigneht_convert_frame, run, out)
     }
