@@ -118,7 +118,7 @@ pub extern "C" fn puigneht_convert_run<'a>(
     255
 }
 
-// The same of one frame.
+// 32-bit samples of exactly one frame.
 #[no_mangle]
 pub extern "C" fn puigneht_convert_frame<'a>(
     rate: u32,

@@ -89,7 +89,7 @@ pub fn convert_run_parts<'a>(
     Converted { verdict, stats }
 }
 
-// The same of one frame.
+// 32-bit samples of exactly one frame. An absent neighbour's slice is neither read nor measured.
 pub fn convert_frame_parts<'a>(
     conv: Converter,
     has_before: bool,

@@ -139,7 +139,7 @@ pub fn bytes(
     tally::with(t, done, n as u64, equal)
 }
 
-// The same, lending the counts, which are compared too.
+// A piece by `convert_parts`, with the counts lent and compared too.
 pub fn counted(
     t: Tally,
     p: Piece,
