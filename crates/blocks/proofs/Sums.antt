@@ -46,12 +46,6 @@ some-block Hz88200 = lit< tt
 some-block Hz176400 = lit< tt
 some-block Hz352800 = lit< tt
 
-pub block-fits : (rate : PcmRate) → block-length rate ≤ 336
-unfolding block-length
-block-fits Hz88200 = lit≤ tt
-block-fits Hz176400 = lit≤ tt
-block-fits Hz352800 = lit≤ tt
-
 -- a frame is an even number of samples, and so are more of them
 pub even-frame : (rate : PcmRate) → samples-per-frame rate % 2 ≡ 0
 unfolding samples-per-frame
