@@ -9,6 +9,7 @@ use borrow.Author.Tests.{lt-ltb, le-ltb}
 use lib.IntN.{ℤ}
 use lib.ListN.{length, take, drop, length-drop, replicate, length-replicate, take-append-drop}
 use lib.Seq.{length-take-le, take-append-le, drop-append-le}
+use Rattle.numbers.specs.Extremes.{lesser, greater}
 use Rattle.numbers.specs.Lists.{count}
 use Rattle.numbers.proofs.Lists.{tabulate-same, total-same, below-or, part-end}
 use Rattle.reference.specs.Frames.{Run, frame-length, frame-count, frame, idle, neighbour, before-frame, after-frame, sequence, channel-byte}
@@ -20,7 +21,7 @@ use Rattle.reference.proofs.Locality.{reach-small}
 use Rattle.joins.proofs.Pieces.{PieceOf, unclamped-same, piece-clips}
 use Rattle.report_lines.specs.Text.{joined}
 use Rattle.report_lines.specs.Lines.{level-line}
-use Rattle.levels.specs.Levels.{lesser, greater, extreme, level, frame-lines, whole-input, FrameOf}
+use Rattle.levels.specs.Levels.{extreme, level, frame-lines, whole-input, FrameOf}
 use Rattle.levels.proofs.Frames.{extreme-same}
 
 module _ (ch : ℕ) (input : List ℕ) where

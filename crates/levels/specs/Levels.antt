@@ -2,12 +2,12 @@
 use mathlib.Core.Path.{_≡_}
 use mathlib.Core.List.{List, []}
 use mathlib.Core.Bool.{false, cond}
-use Prim.Native.Nat.{ℕ, zero, suc, _+_, _-_, _*_, _/_, _<_}
+use Prim.Native.Nat.{ℕ, suc, _+_, _-_, _*_, _/_, _<_}
 use lib.Dec.{ltb}
 use lib.Ieee.{ofInt, binary64}
 use lib.IntN.{ℤ, pos}
 use lib.ListN.{length, getD, take}
-use lib.Signed.{ltZ}
+use Rattle.numbers.specs.Extremes.{lesser, greater, picked}
 use Rattle.numbers.specs.Lists.{tabulate, count}
 use Rattle.reference.specs.Frames.{Run, run, frame-length, frame-count, frame}
 use Rattle.reference.specs.Scaling.{db-to-linear}
@@ -31,16 +31,9 @@ converter-of s =
 
 -- ---- a channel of a frame
 
-unfoldable pub lesser : ℤ → ℤ → ℤ
-lesser x y = cond (ltZ y x) y x
-
-unfoldable pub greater : ℤ → ℤ → ℤ
-greater x y = cond (ltZ x y) y x
-
--- what is picked of f a, …, f (a + n - 1), one after the other: the least by `lesser`, the greatest by `greater`; of no numbers, f a
-unfoldable pub extreme : (ℤ → ℤ → ℤ) → (ℕ → ℤ) → ℕ → ℕ → ℤ
-extreme pick f a zero = f a
-extreme pick f a (suc n) = pick (extreme pick f a n) (f (a + n))
+-- what is picked of f a, …, f (a + n - 1); of no numbers, f a
+abbrev pub extreme : (ℤ → ℤ → ℤ) → (ℕ → ℤ) → ℕ → ℕ → ℤ
+extreme pick f a n = picked pick (f a) f a n
 
 -- document 01's over: 1 if the channel has a clip in the frame
 unfoldable pub over-of : ℕ → ℕ

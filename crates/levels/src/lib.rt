@@ -3,6 +3,7 @@ ghost use mathlib.Core.Path.{_≡_};
 ghost use Prim.Native.Nat.{ℕ, _+_, _*_, _/_, _<_, _≤_};
 ghost use lib.IntN.{pos};
 ghost use lib.ListN.{length, getD};
+ghost use Rattle.numbers.specs.Extremes as extremes;
 ghost use Rattle.numbers.specs.Lists.{tabulate, total};
 ghost use Rattle.reference.specs.Frames.{run};
 ghost use Rattle.report_lines.specs.Text.{joined, Printed};
@@ -66,13 +67,13 @@ struct Extremes {
 }
 
 fn lesser(a: i32, b: i32) -> i32
-    ensures { λ r. ⌜ r ≡ levels.lesser a b ⌝ }
+    ensures { λ r. ⌜ r ≡ extremes.lesser a b ⌝ }
 {
     if b < a { b } else { a }
 }
 
 fn greater(a: i32, b: i32) -> i32
-    ensures { λ r. ⌜ r ≡ levels.greater a b ⌝ }
+    ensures { λ r. ⌜ r ≡ extremes.greater a b ⌝ }
 {
     if a < b { b } else { a }
 }
@@ -80,8 +81,8 @@ fn greater(a: i32, b: i32) -> i32
 // Lowest and highest sample of channel c.
 fn extremes_of(samples: &[i32], ch: usize, c: usize) -> Extremes
     requires { ⌜ (c < ch) × (ch ≤ length (now samples)) ⌝ }
-    ensures { λ r. ⌜ r .low ≡ levels.extreme levels.lesser (λ n. getD (now (samples .entry)) (n * ch + c) (pos 0)) 0 (length (now (samples .entry)) / ch) ⌝ }
-    ensures { λ r. ⌜ r .high ≡ levels.extreme levels.greater (λ n. getD (now (samples .entry)) (n * ch + c) (pos 0)) 0 (length (now (samples .entry)) / ch) ⌝ }
+    ensures { λ r. ⌜ r .low ≡ levels.extreme extremes.lesser (λ n. getD (now (samples .entry)) (n * ch + c) (pos 0)) 0 (length (now (samples .entry)) / ch) ⌝ }
+    ensures { λ r. ⌜ r .high ≡ levels.extreme extremes.greater (λ n. getD (now (samples .entry)) (n * ch + c) (pos 0)) 0 (length (now (samples .entry)) / ch) ⌝ }
 {
     let n = samples.len() / ch;
     let mut low = samples[c];
