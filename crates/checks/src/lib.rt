@@ -8,6 +8,8 @@ ghost use Rattle.reference.specs.Refusals as table;
 ghost use Rattle.reference.specs.Refusals.{decision, decide, is-accepted, opening-places, one-frame, input-places, run-lengths, byte-lengths, convert-run-places, convert-frame-places, convert-places};
 use reference::Converter;
 use reference::Cutoff;
+use reference::FRAME_BYTES;
+use reference::MOST_FRAMES;
 use reference::PcmError;
 use reference::PcmRate;
 use reference::Verdict;
@@ -65,7 +67,7 @@ fn one(conv: Converter, frames: &[u8]) -> Verdict
     ensures { λ r. ⌜ decision r ≡ decide (one-frame (conv .channels) (now (frames .entry)) ∷ []) ⌝ }
 {
     let n = frames.len();
-    if n != 4704 * (conv.channels as usize) {
+    if n != FRAME_BYTES * (conv.channels as usize) {
         return Verdict::Refused(PcmError::InputLength(n, 1));
     }
     Verdict::Accepted
@@ -83,13 +85,13 @@ fn input(
     requires { ⌜ (0 < conv .channels) × (conv .channels ≤ 6) ⌝ }
     ensures { λ r. ⌜ decision r ≡ decide (input-places conv (run «has_before» (now (before .entry)) (now (frames .entry)) «has_after» (now (after .entry)))) ⌝ }
 {
-    let size = 4704 * (conv.channels as usize);
+    let size = FRAME_BYTES * (conv.channels as usize);
     let n = frames.len();
     if n % size != 0 {
         return Verdict::Refused(PcmError::InputLength(n, 0));
     }
     let count = n / size;
-    if count > 540000 {
+    if count > MOST_FRAMES {
         return Verdict::Refused(PcmError::Frames(count));
     }
     if has_before {
@@ -115,8 +117,8 @@ fn all_samples(conv: Converter, frames: &[u8]) -> usize
 {
     let ch = conv.channels as usize;
     let rate = conv.rate;
-    let count = frames.len() / (4704 * ch);
-    count * blocks::samples_per_frame(rate) * ch
+    let count = frames.len() / (FRAME_BYTES * ch);
+    count * reference::samples_per_frame(rate) * ch
 }
 
 // From the run length on, with 32-bit output.
@@ -169,7 +171,7 @@ fn byte_lengths(
     }
     if lent {
         let m = counts.len();
-        let count = frames.len() / (4704 * (conv.channels as usize));
+        let count = frames.len() / (FRAME_BYTES * (conv.channels as usize));
         if m != count {
             return Verdict::Refused(PcmError::FrameCounts(m, count));
         }

@@ -15,10 +15,9 @@ use Rattle.reference.specs.Frames.{Run, frame-count}
 use Rattle.reference.specs.Output.{samples-per-frame, unclamped, sample, clipped, item, channel-samples, all-samples, samples, channel-clips, stats, frame-clips}
 use Rattle.reference.specs.Scaling.{clips}
 use Rattle.reference.specs.declared.Converter.{Converter}
-use Rattle.reference.proofs.Frames.{some-samples}
+use Rattle.reference.proofs.Frames.{some-samples, frame-samples}
 use Rattle.gain.proofs.Tallies.{tally-clipped, tally-few}
-use Rattle.blocks.proofs.Sums.{frame-samples}
-use Rattle.levels.specs.Levels.{lesser, greater, extreme, level, level-of}
+use Rattle.levels.specs.Levels.{extreme, level, level-of}
 
 -- extremes of numbers that are the same
 pub extreme-same : (pick : ℤ → ℤ → ℤ) (f g : ℕ → ℤ) (a b n : ℕ) → 0 < n → ((k : ℕ) → k < n → f (a + k) ≡ g (b + k)) → extreme pick f a n ≡ extreme pick g b n

@@ -4,10 +4,27 @@ mod round;
 pub use round::div_round23;
 pub use round::div_round24;
 
+// Bytes of one channel in a frame.
+pub const FRAME_BYTES: usize = 4704;
+
+// Frames of the longest run.
+pub const MOST_FRAMES: usize = 540000;
+
 pub enum PcmRate {
     Hz88200,
     Hz176400,
     Hz352800,
+}
+
+// Samples of one channel in a frame.
+pub fn samples_per_frame(rate: PcmRate) -> usize
+    ensures { λ r. ⌜ (r ≡ samples-per-frame rate) × (r ≤ 4704) ⌝ }
+{
+    match rate {
+        PcmRate::Hz88200 => FRAME_BYTES / 4,
+        PcmRate::Hz176400 => FRAME_BYTES / 2,
+        PcmRate::Hz352800 => FRAME_BYTES,
+    }
 }
 
 pub enum Cutoff {

@@ -24,7 +24,7 @@ pub use record::convert_run;
 pub fn samples_per_frame(rate: PcmRate) -> usize
     ensures { λ r. ⌜ r ≡ output.samples-per-frame rate ⌝ }
 {
-    blocks::samples_per_frame(rate)
+    reference::samples_per_frame(rate)
 }
 
 // Bytes of each channel before and after a stretch of frames that its samples may depend on.
