@@ -83,7 +83,7 @@ fn input(
     after: &[u8],
 ) -> Verdict
     requires { ⌜ (0 < conv .channels) × (conv .channels ≤ 6) ⌝ }
-    ensures { λ r. ⌜ decision r ≡ decide (input-places conv (run «has_before» (now (before .entry)) (now (frames .entry)) «has_after» (now (after .entry)))) ⌝ }
+    ensures { λ r. ⌜ decision r ≡ decide (input-places rack conv (run «has_before» (now (before .entry)) (now (frames .entry)) «has_after» (now (after .entry)))) ⌝ }
 {
     let size = FRAME_BYTES * (conv.channels as usize);
     let n = frames.len();
@@ -158,7 +158,7 @@ fn byte_lengths(
     counts: &[u64],
 ) -> Verdict
     requires { ⌜ (0 < conv .channels) × (conv .channels ≤ 6) ⌝ }
-    ensures { λ r. ⌜ decision r ≡ decide (byte-lengths conv (run «has_before» (now (before .entry)) (now (frames .entry)) «has_after» (now (after .entry))) (now (out .entry)) lent (now (counts .entry))) ⌝ }
+    ensures { λ r. ⌜ decision r ≡ decide (byte-lengths rack conv (run «has_before» (now (before .entry)) (now (frames .entry)) «has_after» (now (after .entry))) (now (out .entry)) lent (now (counts .entry))) ⌝ }
 {
     let v = input(conv, has_before, before, frames, has_after, after);
     if !accepted(v) {
@@ -233,7 +233,7 @@ pub fn byte_call(
     lent: bool,
     counts: &[u64],
 ) -> Verdict
-    ensures { λ r. ⌜ decision r ≡ decide (convert-places conv (run «has_before» (now (before .entry)) (now (frames .entry)) «has_after» (now (after .entry))) (now (out .entry)) lent (now (counts .entry))) ⌝ }
+    ensures { λ r. ⌜ decision r ≡ decide (convert-places rack conv (run «has_before» (now (before .entry)) (now (frames .entry)) «has_after» (now (after .entry))) (now (out .entry)) lent (now (counts .entry))) ⌝ }
 {
     let v = opening(conv);
     if accepted(v) {

@@ -66,12 +66,12 @@ module _ (conv : Converter) (opens : decide (opening-places conv) ≡ accepted) 
   room : List ℕ
   room = replicate (3 * all-samples conv first) 0
 
-  first-lengths : decide (byte-lengths conv first room false []) ≡ accepted
+  first-lengths : decide (byte-lengths rack conv first room false []) ≡ accepted
   unfolding byte-lengths input-places run-length if-present one-frame lent-length first room
   first-lengths =
       passes _ (not-same _ 0 (whole A one), (few A one, (not-same (length B) (frame-length ch) two, (not-same _ _ (length-replicate (3 * all-samples conv first) 0), tt))))
 
-  first-fits : decide (convert-places conv first room false []) ≡ accepted
+  first-fits : decide (convert-places rack conv first room false []) ≡ accepted
   unfolding convert-places
   first-fits = decide-skip (opening-places conv) _ opens ∙ first-lengths
 
@@ -98,17 +98,17 @@ module _ (conv : Converter) (opens : decide (opening-places conv) ≡ accepted) 
   unfolding all-samples channel-samples first
   some-room e = omega (arith, ap (λ n. n * samples-per-frame (conv .rate) * ch) (one-count A one), mul-le-mul (some-samples (conv .rate)) some)
 
-  short-lengths : decide (byte-lengths conv first [] false []) ≡ refused 7 (number 0 ∷ number (3 * all-samples conv first) ∷ [])
+  short-lengths : decide (byte-lengths rack conv first [] false []) ≡ refused 7 (number 0 ∷ number (3 * all-samples conv first) ∷ [])
   unfolding byte-lengths input-places run-length if-present one-frame lent-length first
   short-lengths =
       at-next _ _ (not-same _ 0 (whole A one)) ∙ at-next _ _ (few A one) ∙ at-next _ _ (not-same (length B) (frame-length ch) two)
       ∙ at-first _ _ (rw (ne-eqb 0 (3 * all-samples conv first) some-room))
 
-  short-refused : decide (convert-places conv first [] false []) ≡ refused 7 (number 0 ∷ number (3 * all-samples conv first) ∷ [])
+  short-refused : decide (convert-places rack conv first [] false []) ≡ refused 7 (number 0 ∷ number (3 * all-samples conv first) ∷ [])
   unfolding convert-places
   short-refused = decide-skip (opening-places conv) _ opens ∙ short-lengths
 
-  is-refused : is-accepted (decide (convert-places conv first [] false [])) ≡ false
+  is-refused : is-accepted (decide (convert-places rack conv first [] false [])) ≡ false
   unfolding is-accepted
   is-refused = ap is-accepted short-refused
 

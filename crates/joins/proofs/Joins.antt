@@ -56,14 +56,14 @@ cond-add false x y z h = refl
 
 -- a call with right lengths gives what the definition gives for its piece
 record Gives {conv : Converter} (call : Call conv) : Type 0 where
-  fits : decide (input-places conv (run-of call)) ≡ accepted
+  fits : decide (input-places rack conv (run-of call)) ≡ accepted
   sampled : samples-of call ≡ samples conv (run-of call)
   clips : (c : ℕ) → c < 6 → clips-of call c ≡ channel-clips conv (run-of call) c
   counts : lends call ≡ true → counts-of call ≡ per-frame-clips conv (run-of call)
 
 module _ (conv : Converter) (opens : decide (opening-places conv) ≡ accepted) where
   -- the places from the run length on decide
-  convert-skip : (c : ConvertCall conv) → decide (convert-places conv (c .run) (c .out) (c .lent) (c .counts)) ≡ decide (lengths (convert c))
+  convert-skip : (c : ConvertCall conv) → decide (convert-places rack conv (c .run) (c .out) (c .lent) (c .counts)) ≡ decide (lengths (convert c))
   unfolding convert-places
   convert-skip c = decide-skip (opening-places conv) _ opens
 
@@ -110,7 +110,7 @@ module _ (conv : Converter) (opens : decide (opening-places conv) ≡ accepted) 
       let right = accepted-is _ e in
       let yes = convert-skip c ∙ right in
       record {
-        fits = decide-first (input-places conv (c .run)) _ right;
+        fits = decide-first (input-places rack conv (c .run)) _ right;
         sampled = ap read-s24le (c .promise .written ∙ exit-accepted _ _ _ yes) ∙ samples-back conv (c .run);
         clips = clips-at (c .run) _ (c .promise .answered .counted ∙ exit-accepted _ _ _ yes);
         counts = λ lent. c .promise .per-frame ∙ exit-accepted _ _ _ yes ∙ lent-list _ _ _ lent;
@@ -119,7 +119,7 @@ module _ (conv : Converter) (opens : decide (opening-places conv) ≡ accepted) 
       let right = accepted-is _ e in
       let yes = run-skip c ∙ right in
       record {
-        fits = decide-first (input-places conv (c .run)) _ right;
+        fits = decide-first (input-places rack conv (c .run)) _ right;
         sampled = c .promise .written ∙ exit-accepted _ _ _ yes;
         clips = clips-at (c .run) _ (c .promise .answered .counted ∙ exit-accepted _ _ _ yes);
         counts = λ lent. let z : _≡_ {A = ℕ} 0 1 = cc in absurd (omega arith);
@@ -145,7 +145,7 @@ module _ (conv : Converter) where
   unfolding frames-in flatMap
   bytes-length [] g = omega arith
   bytes-length (d ∷ ds) g =
-      omega (arith, length-append (run-of d .frames) (bytes-in ds), whole-frames conv (run-of d) (g .0 .fits), bytes-length ds (g .1))
+      omega (arith, length-append (run-of d .frames) (bytes-in ds), whole-frames rack conv (run-of d) (g .0 .fits), bytes-length ds (g .1))
 
   -- the calls give what the run has from frame a on
   record From (r : Run) (a : ℕ) (ds : List (Call conv)) : Type 0 where
@@ -166,9 +166,9 @@ module _ (conv : Converter) where
         let m = frames-in ds in
         let cut : PieceOf conv r a n (run-of d) = record {
           some-channel = some-channel conv opens;
-          run-before = one-before conv r fits;
-          piece-before = one-before conv (run-of d) (g .0 .fits);
-          whole = whole-frames conv (run-of d) (g .0 .fits);
+          run-before = one-before rack conv r fits;
+          piece-before = one-before rack conv (run-of d) (g .0 .fits);
+          whole = whole-frames rack conv (run-of d) (g .0 .fits);
           done = done;
           rest = bytes-in ds;
           parts = e;
@@ -176,7 +176,7 @@ module _ (conv : Converter) where
           agree = agree .0;
         } in
         let more : From r (a + n) ds = from ds (g .1) (a + n) (done ++ run-of d .frames) (e ∙ sym (append-assoc done (run-of d .frames) (bytes-in ds)))
-        (omega (arith, length-append done (run-of d .frames), whole-frames conv (run-of d) (g .0 .fits))) (agree .1) in
+        (omega (arith, length-append done (run-of d .frames), whole-frames rack conv (run-of d) (g .0 .fits))) (agree .1) in
         let at-samples : (a + n) * per * ch ≡ a * per * ch + n * per * ch = omega arith in
         let all-samples : (n + m) * per * ch ≡ n * per * ch + m * per * ch = omega arith in
         let at-channel : (a + n) * per ≡ a * per + n * per = omega arith in

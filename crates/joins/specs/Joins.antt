@@ -74,7 +74,7 @@ module _ {conv : Converter} where
 
   -- the places that the call tries from the run length on
   abbrev pub lengths : Call conv → List Place
-  lengths (convert c) = byte-lengths conv (c .run) (c .out) (c .lent) (c .counts)
+  lengths (convert c) = byte-lengths rack conv (c .run) (c .out) (c .lent) (c .counts)
   lengths (convert-run c) = run-lengths conv (c .run) (c .out)
 
   -- document 01's right lengths: the table's condition holds at none of them
@@ -126,7 +126,7 @@ pub record AcceptedConverter (conv : Converter) : Type 0 where
   pub opens : decide (opening-places conv) ≡ accepted
 
 pub record AcceptedRun (conv : Converter) (r : Run) : Type 0 where
-  pub fits : decide (input-places conv r) ≡ accepted
+  pub fits : decide (input-places rack conv r) ≡ accepted
 
 -- ---- what follows
 

@@ -79,6 +79,6 @@ module _ (s : Settings) (i : Input) (lent : ℕ) (out o o' counts c c' : List �
   convert-call p q =
       call-exact _ p q (λ k l. (k .0 ∙ sym (l .0), k .1 ∙ sym (l .1), k .2 ∙ sym (l .2)))
       (λ x y.
-      let e = convert-exact _ _ _ out counts o o' c c' (x .made) (y .made) (x .promise) (y .promise) in
+      let e = convert-exact _ _ _ _ out counts o o' c c' (x .made) (y .made) (x .promise) (y .promise) in
       let t = conversion-exact x y (e .0) in
       (t .0, (e .1, e .2, t .1)))

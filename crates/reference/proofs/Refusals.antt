@@ -113,14 +113,14 @@ unfolding if-present one-frame neighbour
 neighbour-length ch true bytes ps e = eqb-true _ _ (not-false _ (pass _ _ e .0))
 neighbour-length ch false bytes ps e = length-replicate (frame-length ch) idle
 
-module _ (conv : Converter) (r : Run) (fits : decide (input-places conv r) ≡ accepted) where
+module _ (limit : Limit) (conv : Converter) (r : Run) (fits : decide (input-places limit conv r) ≡ accepted) where
   pub whole-frames : length (r .frames) ≡ frame-count (conv .channels) (r .frames) * frame-length (conv .channels)
   unfolding input-places run-length frame-count
   whole-frames =
       let h : length (r .frames) % frame-length (conv .channels) ≡ 0 = eqb-true _ _ (not-false _ (pass _ _ fits .0)) in
       omega (arith, div-add-mod' (length (r .frames)) (frame-length (conv .channels)))
 
-  pub few-frames : frame-count (conv .channels) (r .frames) ≤ 540000
+  pub few-frames : frame-count (conv .channels) (r .frames) ≤ limit .most
   unfolding input-places run-length
   few-frames = ltb-false _ _ (pass _ _ (pass _ _ fits .1) .0)
 

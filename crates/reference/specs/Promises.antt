@@ -58,11 +58,14 @@ unfoldable pub if-lent : Bool → List ℕ → List ℕ → List ℕ
 if-lent true new old = new
 if-lent false new old = old
 
--- byte output
-pub record ConvertPromise (conv : Converter) (r : Run) (lent : Bool) (out counts out' counts' : List ℕ) (answer : Converted) : Type 0 where
-  pub answered : Answered (convert-places conv r out lent counts) conv r answer
-  pub written : out' ≡ by-decision (decide (convert-places conv r out lent counts)) (s24le (samples conv r)) out
-  pub per-frame : counts' ≡ by-decision (decide (convert-places conv r out lent counts)) (if-lent lent (per-frame-clips conv r) counts) counts
+-- byte output, at most so many frames
+pub record BytesPromise (limit : Limit) (conv : Converter) (r : Run) (lent : Bool) (out counts out' counts' : List ℕ) (answer : Converted) : Type 0 where
+  pub answered : Answered (convert-places limit conv r out lent counts) conv r answer
+  pub written : out' ≡ by-decision (decide (convert-places limit conv r out lent counts)) (s24le (samples conv r)) out
+  pub per-frame : counts' ≡ by-decision (decide (convert-places limit conv r out lent counts)) (if-lent lent (per-frame-clips conv r) counts) counts
+
+abbrev pub ConvertPromise : Converter → Run → Bool → List ℕ → List ℕ → List ℕ → List ℕ → Converted → Type 0
+ConvertPromise = BytesPromise rack
 
 -- ---- `pack_s24le`
 

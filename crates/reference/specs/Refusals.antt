@@ -109,17 +109,25 @@ opening-places conv =
 unfoldable pub one-frame : ℕ → List ℕ → Place
 one-frame channels bytes = place (not (eqb (length bytes) (frame-length channels))) 4 (number (length bytes) ∷ number 1 ∷ [])
 
+-- how many frames a call takes, and the number of the refusal of more, which carries the frames
+pub record Limit : Type 0 where
+  pub most : ℕ
+  pub refusal : ℕ
+
+abbrev pub rack : Limit
+rack = record { most = 540000; refusal = 5 }
+
 -- run length
-unfoldable pub run-length : ℕ → List ℕ → List Place
-run-length channels frames =
+unfoldable pub run-length : Limit → ℕ → List ℕ → List Place
+run-length limit channels frames =
     place (not (eqb (length frames % frame-length channels) 0)) 4 (number (length frames) ∷ number 0 ∷ [])
-    ∷ place (ltb 540000 (frame-count channels frames)) 5 (number (frame-count channels frames) ∷ [])
+    ∷ place (ltb (limit .most) (frame-count channels frames)) (limit .refusal) (number (frame-count channels frames) ∷ [])
     ∷ []
 
 -- run length, before, after
-unfoldable pub input-places : Converter → Run → List Place
-input-places conv r =
-    run-length (conv .channels) (r .frames)
+unfoldable pub input-places : Limit → Converter → Run → List Place
+input-places limit conv r =
+    run-length limit (conv .channels) (r .frames)
     ++ (if-present (r .has-before) (one-frame (conv .channels) (r .before))
     ++ if-present (r .has-after) (one-frame (conv .channels) (r .after)))
 
@@ -130,18 +138,18 @@ lent-length refusal n expected = place (not (eqb n expected)) refusal (number n 
 -- ---- what each conversion tries: from the run length on, and in all
 
 unfoldable pub run-lengths : Converter → Run → List ℤ → List Place
-run-lengths conv r out = input-places conv r ++ (lent-length 6 (length out) (all-samples conv r) ∷ [])
+run-lengths conv r out = input-places rack conv r ++ (lent-length 6 (length out) (all-samples conv r) ∷ [])
 
-unfoldable pub byte-lengths : Converter → Run → List ℕ → Bool → List ℕ → List Place
-byte-lengths conv r out lent counts =
-    input-places conv r
+unfoldable pub byte-lengths : Limit → Converter → Run → List ℕ → Bool → List ℕ → List Place
+byte-lengths limit conv r out lent counts =
+    input-places limit conv r
     ++ (lent-length 7 (length out) (3 * all-samples conv r)
     ∷ if-present lent (lent-length 8 (length counts) (frame-count (conv .channels) (r .frames))))
 
 unfoldable pub convert-run-places : Converter → Run → List ℤ → List Place
 convert-run-places conv r out = opening-places conv ++ run-lengths conv r out
 
-unfoldable pub convert-places : Converter → Run → List ℕ → Bool → List ℕ → List Place
+unfoldable pub convert-places : Limit → Converter → Run → List ℕ → Bool → List ℕ → List Place
 convert-places conv r out lent counts = opening-places conv ++ byte-lengths conv r out lent counts
 
 unfoldable pub convert-frame-places : Converter → Run → List ℤ → List Place

@@ -82,8 +82,8 @@ module _ (conv : Converter) (hb : Bool) (b f : List â„•) (ha : Bool) (a : List â
       record {
         some = some-channel conv (ok .opens);
         few = few-channels conv (ok .opens);
-        limit = few-frames conv (run hb b f ha a) (ok .fits);
-        whole = whole-frames conv (run hb b f ha a) (ok .fits);
+        limit = few-frames rack conv (run hb b f ha a) (ok .fits);
+        whole = whole-frames rack conv (run hb b f ha a) (ok .fits);
         first = passed (conv .channels) hb b _ neighbours .0;
         last = passed (conv .channels) ha a _ last-place .0;
       }

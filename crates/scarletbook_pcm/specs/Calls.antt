@@ -16,7 +16,7 @@ run-of d = run (d .«has_before») (now (d .before)) (now (d .frames)) (d .«has
 -- what its places before the output's lengths find: an accepted converter and an accepted run
 pub record AcceptedCall (conv : Converter) (r : Run) : Type 0 where
   pub opens : decide (opening-places conv) ≡ accepted
-  pub fits : decide (input-places conv r) ≡ accepted
+  pub fits : decide (input-places rack conv r) ≡ accepted
 
 -- a neighbour's slice, or an empty one where it is absent
 unfoldable pub present : Bool → List ℕ → List ℕ

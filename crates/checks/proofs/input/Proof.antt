@@ -5,7 +5,7 @@ use mathlib.Core.Bool.{not}
 use mathlib.Core.Path.{_≡_, ap, sym, _∙_}
 use borrow.Author.Tests.{ne-eqb, eq-eqb, lt-ltb, le-ltb}
 use borrow.Author.Needs.{needs}
-use Rattle.reference.specs.Refusals.{decide, input-places, run-length, one-frame, if-present}
+use Rattle.reference.specs.Refusals.{rack, decide, input-places, run-length, one-frame, if-present}
 use Rattle.reference.specs.Frames.{run, frame-count}
 use Rattle.reference.proofs.Refusals.{at-first, at-next, at-end, present-holds, present-passes, absent-passes}
 use Rattle.checks.proofs.input.Statement.{statement}
@@ -42,7 +42,7 @@ returns-3 c = sym (at-next _ _ (ap not (eq-eqb _ _ (c .before .before .before .i
 -- past the run length and the frame before, by whichever branch
 so-far : (c : lts.Joined3 reads.Pre reads.Post) →
     let a = c .before .before .before .before .args in
-    decide (input-places (a .conv) (run (a .has-before) (a .before .now) (a .frames .now) (a .has-after) (a .after .now)))
+    decide (input-places rack (a .conv) (run (a .has-before) (a .before .now) (a .frames .now) (a .has-after) (a .after .now)))
     ≡ decide (if-present (a .has-after) (one-frame (a .conv .channels) (a .after .now)) ++ [])
 unfolding input-places run-length frame-count one-frame
 so-far c =
