@@ -17,7 +17,7 @@ use Rattle.reference.specs.Frames.{Run, run, idle, frame-length, frame-count, f
 use Rattle.reference.specs.Scaling.{LN-10, magnitude, exponent, series, squared, db-to-linear, allowed, right-gain}
 use Rattle.reference.specs.Figures.{mono}
 use Rattle.reference.specs.Output.{samples-per-frame, channel-samples, all-samples, samples, stats, s24le}
-use Rattle.reference.specs.Refusals.{number, accepted, refused, Place, decide, is-accepted, unsupported, opening-places, input-places, run-length, one-frame, if-present, lent-length, byte-lengths, run-lengths, convert-places, convert-run-places}
+use Rattle.reference.specs.Refusals.{rack, number, accepted, refused, Place, decide, is-accepted, unsupported, opening-places, held-places, input-places, run-length, one-frame, if-present, lent-length, byte-lengths, run-lengths, convert-places, convert-run-places}
 use Rattle.reference.specs.Promises.{if-lent, no-clips}
 use Rattle.reference.specs.declared.Converter.{Converter}
 use Rattle.reference.specs.declared.Verdict.the-variants as verdict
@@ -35,7 +35,7 @@ passes (p ∷ ps) h = at-next p ps (h .0) ∙ passes ps (h .1)
 not-same : (m n : ℕ) → m ≡ n → not (eqb m n) ≡ false
 not-same m n e = rw (eq-eqb m n e)
 
-module _ (conv : Converter) (opens : decide (opening-places conv) ≡ accepted) (some : 0 < conv .channels)
+module _ (conv : Converter) (opens : decide (held-places conv) ≡ accepted) (some : 0 < conv .channels)
     (A B : List ℕ) (one : length A ≡ frame-length (conv .channels)) (two : length B ≡ frame-length (conv .channels)) where
   abbrev ch : ℕ
   ch = conv .channels
@@ -73,7 +73,7 @@ module _ (conv : Converter) (opens : decide (opening-places conv) ≡ accepted) 
 
   first-fits : decide (convert-places rack conv first room false []) ≡ accepted
   unfolding convert-places
-  first-fits = decide-skip (opening-places conv) _ opens ∙ first-lengths
+  first-fits = decide-skip (held-places conv) _ opens ∙ first-lengths
 
   first-call : ConvertCall conv
   unfolding if-lent
@@ -106,7 +106,7 @@ module _ (conv : Converter) (opens : decide (opening-places conv) ≡ accepted) 
 
   short-refused : decide (convert-places rack conv first [] false []) ≡ refused 7 (number 0 ∷ number (3 * all-samples conv first) ∷ [])
   unfolding convert-places
-  short-refused = decide-skip (opening-places conv) _ opens ∙ short-lengths
+  short-refused = decide-skip (held-places conv) _ opens ∙ short-lengths
 
   is-refused : is-accepted (decide (convert-places rack conv first [] false [])) ≡ false
   unfolding is-accepted
@@ -140,7 +140,7 @@ module _ (conv : Converter) (opens : decide (opening-places conv) ≡ accepted) 
 
   second-fits : decide (convert-run-places conv second numbers) ≡ accepted
   unfolding convert-run-places
-  second-fits = decide-skip (opening-places conv) _ opens ∙ second-lengths
+  second-fits = decide-skip (held-places conv) _ opens ∙ second-lengths
 
   second-call : ConvertRunCall conv
   second-call = record {
@@ -213,7 +213,7 @@ module _ (conv : Converter) (opens : decide (opening-places conv) ≡ accepted) 
 
 -- ---- and there is such a converter: Standard 88,200, mono, 0 dB; with a frame of zeros and a frame of ones
 
-pub mono-opens : decide (opening-places mono) ≡ accepted
+pub mono-opens : decide (held-places mono) ≡ accepted
 unfolding decide opening-places mono unsupported right-gain allowed db-to-linear exponent magnitude series squared LN-10 ofInt ofBits toBits mul div add lt le
 mono-opens = refl
 

@@ -12,7 +12,7 @@ use Rattle.numbers.specs.Lists.{tabulate, total, count, Each}
 use Rattle.numbers.proofs.Lists.{getD-tabulate, tabulate-join, total-join}
 use Rattle.reference.specs.Frames.{Run, frame-length, frame-count, sequence}
 use Rattle.reference.specs.Output.{samples-per-frame, clipped, item, channel-samples, all-samples, samples, channel-clips, stats, frame-clips, per-frame-clips}
-use Rattle.reference.specs.Refusals.{accepted, decide, decision, is-accepted, opening-places, input-places, byte-lengths, run-lengths, convert-places, convert-run-places}
+use Rattle.reference.specs.Refusals.{rack, accepted, decide, decision, is-accepted, held-places, input-places, byte-lengths, run-lengths, convert-places, convert-run-places}
 use Rattle.reference.specs.Promises.{if-lent, no-clips}
 use Rattle.reference.specs.declared.Converter.{Converter}
 use Rattle.reference.specs.declared.ConvertStats.{ConvertStats}
@@ -61,15 +61,15 @@ record Gives {conv : Converter} (call : Call conv) : Type 0 where
   clips : (c : ℕ) → c < 6 → clips-of call c ≡ channel-clips conv (run-of call) c
   counts : lends call ≡ true → counts-of call ≡ per-frame-clips conv (run-of call)
 
-module _ (conv : Converter) (opens : decide (opening-places conv) ≡ accepted) where
+module _ (conv : Converter) (opens : decide (held-places conv) ≡ accepted) where
   -- the places from the run length on decide
   convert-skip : (c : ConvertCall conv) → decide (convert-places rack conv (c .run) (c .out) (c .lent) (c .counts)) ≡ decide (lengths (convert c))
   unfolding convert-places
-  convert-skip c = decide-skip (opening-places conv) _ opens
+  convert-skip c = decide-skip (held-places conv) _ opens
 
   run-skip : (c : ConvertRunCall conv) → decide (convert-run-places conv (c .run) (c .out)) ≡ decide (lengths (convert-run c))
   unfolding convert-run-places
-  run-skip c = decide-skip (opening-places conv) _ opens
+  run-skip c = decide-skip (held-places conv) _ opens
 
   answered : (call : Call conv) → decision (answer-of call .verdict) ≡ decide (lengths call)
   answered (convert c) = c .promise .answered .decided ∙ convert-skip c
@@ -153,7 +153,7 @@ module _ (conv : Converter) where
     clips : (c : ℕ) → c < 6 → add-up (map (λ call. clips-of call c) ds) ≡ cond (ltb c ch) (count (clipped conv r c) (a * per) (frames-in ds * per)) 0
     counts : Each (λ call. lends call ≡ true) ds → flatMap counts-of ds ≡ tabulate (frame-clips conv r) a (frames-in ds)
 
-  module _ (opens : decide (opening-places conv) ≡ accepted) (r : Run) (fits : decide (input-places conv r) ≡ accepted) where
+  module _ (opens : decide (held-places conv) ≡ accepted) (r : Run) (fits : decide (input-places rack conv r) ≡ accepted) where
     from : (ds : List (Call conv)) → Each Gives ds → (a : ℕ) (done : List ℕ) → r .frames ≡ done ++ bytes-in ds → length done ≡ a * frame-length ch
         → AllAgree conv (sequence ch r) a (map run-of ds) → From r a ds
     unfolding flatMap add-up frames-in tabulate total samples all-samples channel-samples channel-clips per-frame-clips

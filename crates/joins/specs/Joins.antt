@@ -10,7 +10,7 @@ use Rattle.numbers.specs.Lists.{tabulate}
 use Rattle.reference.specs.Frames.{Run, frame-bytes, frame-count, frame, before-frame, after-frame, sequence, channel-byte}
 use Rattle.reference.specs.Stages.{reach}
 use Rattle.reference.specs.Output.{samples, channel-clips, per-frame-clips}
-use Rattle.reference.specs.Refusals.{accepted, Place, decide, decision, is-accepted, opening-places, input-places, byte-lengths, run-lengths}
+use Rattle.reference.specs.Refusals.{rack, accepted, Place, decide, decision, is-accepted, held-places, input-places, byte-lengths, run-lengths}
 use Rattle.reference.specs.Promises.{ConvertPromise, ConvertRunPromise, no-clips}
 use Rattle.reference.specs.declared.Converter.{Converter}
 use Rattle.reference.specs.declared.Converted.{Converted}
@@ -123,7 +123,7 @@ pub record JoinTo {conv : Converter} (r : Run) (calls : List (Call conv)) : Type
 
 -- document 01's accepted converter and accepted run
 pub record AcceptedConverter (conv : Converter) : Type 0 where
-  pub opens : decide (opening-places conv) ≡ accepted
+  pub opens : decide (held-places conv) ≡ accepted
 
 pub record AcceptedRun (conv : Converter) (r : Run) : Type 0 where
   pub fits : decide (input-places rack conv r) ≡ accepted

@@ -156,7 +156,7 @@ module _ (conv : Converter) (input : List ℕ) (f : ℕ) (piece : Run) (here : F
   level-same c l =
       let pick : (p : ℤ → ℤ → ℤ) → extreme p (sample conv piece c) (0 * per) per ≡ extreme p (sample conv whole c) (f * per) per =
       λ p. extreme-same p (sample conv piece c) (sample conv whole c) (0 * per) (f * per) per (some-samples (conv .rate))
-      (λ k h. rw (zero-mul per, zero-add k) (ap clamp (unclamped-same conv whole f 1 piece piece-of c k l (omega arith)))) per (omega arith) in
+      (λ k h. rw (zero-mul per, zero-add k) (ap clamp (unclamped-same conv whole f 1 piece piece-of c k l (omega arith)))) in
       rw (pick lesser, pick greater, channel-same c l) refl
 
   pub lines-same : (number : ℕ) → frame-lines conv piece number 0 ≡ frame-lines conv whole number f

@@ -14,18 +14,19 @@ use Rattle.reference.specs.Scaling.{db-to-linear}
 use Rattle.reference.specs.Output.{samples-per-frame, sample, clipped, samples, frame-clips}
 use Rattle.reference.specs.Refusals.{accepted, decide, decision, convert-frame-places}
 use Rattle.reference.specs.Promises.{by-decision}
+use Rattle.reference.specs.declared.Settings.{Settings}
 use Rattle.reference.specs.declared.Converter.{Converter}
 use Rattle.report_lines.specs.Text.{joined, Printed}
 use Rattle.report_lines.specs.Lines.{level-line}
 use Rattle.report_lines.specs.declared.Level.{Level}
-use Rattle.settings_line.specs.declared.Settings.{Settings}
+use Rattle.settings_line.specs.declared.LineSettings.{LineSettings}
 use Rattle.levels.specs.declared.Reported.{Reported}
 
 -- ---- settings
 
--- the converter of some settings: its gain record is that of the whole decibels
-unfoldable pub converter-of : Settings → Converter
-converter-of s =
+-- the settings that a line's stand for: their gain record is that of the whole decibels
+unfoldable pub read-settings : LineSettings → Settings
+read-settings s =
     let db = ofInt binary64 (s .db) in
     record { rate = s .rate; cutoff = s .cutoff; channels = s .channels; gain = record { db = db; linear = db-to-linear db } }
 

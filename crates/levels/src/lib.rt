@@ -17,9 +17,10 @@ use reference::Converter;
 use reference::Gain;
 use reference::Opened;
 use reference::PcmError;
+use reference::Settings;
 use reference::Verdict;
 use report_lines::Level;
-use settings_line::Settings;
+use settings_line::LineSettings;
 
 // What is told of a frame: how the call was decided, how long its lines are, and its clips over all channels.
 pub struct Reported {
@@ -28,16 +29,16 @@ pub struct Reported {
     pub clipped: u64,
 }
 
-// Opens the converter of some settings.
-pub fn opened(s: Settings) -> Opened
-    ensures { λ r. ⌜ OpeningPromise (levels.converter-of s) r ⌝ }
+// Opens the converter of a line's settings.
+pub fn opened(s: LineSettings) -> Opened
+    ensures { λ r. ⌜ OpeningPromise (levels.read-settings s) r ⌝ }
 {
     let rate = s.rate;
     let cutoff = s.cutoff;
     let db = std::num::nearest_i64_to_f64(s.db as i64);
     let linear = gain::db_to_linear(db);
     let gain = Gain { db, linear };
-    scarletbook_pcm::open(Converter {
+    scarletbook_pcm::open(Settings {
         rate,
         cutoff,
         channels: s.channels,

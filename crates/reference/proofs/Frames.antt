@@ -1,7 +1,7 @@
 -- The bytes of a channel in frames put end to end; and that no sample of a run reads before the frame before it.
 use mathlib.Core.Path.{_≡_, _∙_}
 use mathlib.Core.List.{List, _++_}
-use Prim.Native.Nat.{ℕ, suc, _+_, _-_, _*_, _<_}
+use Prim.Native.Nat.{ℕ, suc, _+_, _-_, _*_, _<_, _≤_}
 use native.Mathlib.Nat.{mul-le-mul-left}
 use native.Mathlib.Omega.{arith}
 use lib.Arith.{digits-lt}

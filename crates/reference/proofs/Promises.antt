@@ -15,6 +15,7 @@ use Rattle.reference.specs.declared.PcmRate.{PcmRate}
 use Rattle.reference.specs.declared.PcmRate.the-variants.{Hz88200}
 use Rattle.reference.specs.declared.Cutoff.{Cutoff}
 use Rattle.reference.specs.declared.Cutoff.the-variants.{Wide}
+use Rattle.reference.specs.declared.Settings.{Settings}
 use Rattle.reference.specs.declared.Converter.{Converter}
 use Rattle.reference.specs.declared.PcmError.{PcmError}
 use Rattle.reference.specs.declared.PcmError.the-variants as error
@@ -116,7 +117,7 @@ gain-exact db (from-db.Made g) b p q = p .made (sym (p .decided)) ∙ sym (q .ma
 gain-exact db (from-db.Refused e) (from-db.Made g) p q = apart e (p .decided ∙ sym (q .decided))
 gain-exact db (from-db.Refused e) (from-db.Refused f) p q = ap from-db.Refused (error-exact e f (p .decided ∙ sym (q .decided)))
 
-pub opening-exact : (settings : Converter) (a b : Opened) → OpeningPromise settings a → OpeningPromise settings b → a ≡ b
+pub opening-exact : (settings : Settings) (a b : Opened) → OpeningPromise settings a → OpeningPromise settings b → a ≡ b
 opening-exact settings a b p q =
     let v = decision-exact (a .verdict) (b .verdict) (p .decided ∙ sym (q .decided)) in
     let c = p .converter ∙ sym (q .converter) in

@@ -9,7 +9,7 @@ use borrow.Author.Tests.{ltb-false, leb-true, eqb-true, not-false}
 use lib.Dec.{leb}
 use lib.ListN.{length, length-replicate}
 use Rattle.reference.specs.Frames.{Run, idle, frame-length, frame-count, neighbour, before-frame}
-use Rattle.reference.specs.Refusals.{Datum, accepted, refused, error-decision, is-accepted, Place, decide, opening-places, run-length, one-frame, if-present, input-places}
+use Rattle.reference.specs.Refusals.{Datum, accepted, refused, error-decision, is-accepted, Place, decide, opening-places, held-places, run-length, Limit, one-frame, if-present, input-places}
 use Rattle.reference.specs.declared.Converter.{Converter}
 use Rattle.reference.specs.declared.PcmError.{PcmError}
 use Rattle.reference.specs.declared.PcmError.the-variants as error
@@ -99,7 +99,7 @@ and-right : (a b : Bool) → a && b ≡ true → b ≡ true
 and-right true b e = e
 and-right false b e = let z : _≡_ {A = ℕ} 0 1 = cc in absurd (omega arith)
 
-module _ (conv : Converter) (opens : decide (opening-places conv) ≡ accepted) where
+module _ (conv : Converter) (opens : decide (held-places conv) ≡ accepted) where
   pub some-channel : 0 < conv .channels
   unfolding opening-places
   some-channel = leb-true 1 (conv .channels) (and-left (leb 1 (conv .channels)) (leb (conv .channels) 6) (not-false _ (pass _ _ opens .0)))

@@ -1,4 +1,9 @@
-// The records of document 01, and the rounding of its module 1. The definition of a conversion is in specs/.
+// The records and numbers of document 01, and the rounding of its module 1. The definition of a conversion is in specs/.
+ghost use mathlib.Core.Path.{_≡_};
+ghost use Prim.Native.Nat.{_≤_};
+ghost use Rattle.reference.specs.Output.{samples-per-frame};
+ghost use Rattle.reference.specs.Settings.{converter-of};
+
 mod round;
 
 pub use round::div_round23;
@@ -39,11 +44,34 @@ pub struct Gain {
     pub linear: f64,
 }
 
+// What opening is given.
+pub struct Settings {
+    pub rate: PcmRate,
+    pub cutoff: Cutoff,
+    pub channels: u8,
+    pub gain: Gain,
+}
+
+// What opening gives, and each conversion is given.
 pub struct Converter {
     pub rate: PcmRate,
     pub cutoff: Cutoff,
     pub channels: u8,
     pub gain: Gain,
+}
+
+pub fn converter_of(settings: Settings) -> Converter
+    ensures { λ r. ⌜ r ≡ converter-of settings ⌝ }
+{
+    let rate = settings.rate;
+    let cutoff = settings.cutoff;
+    let gain = settings.gain;
+    Converter {
+        rate,
+        cutoff,
+        channels: settings.channels,
+        gain,
+    }
 }
 
 // Samples that the clamp changed, by channel; an unused channel has 0.
@@ -76,7 +104,7 @@ pub enum FromDb {
     Refused(PcmError),
 }
 
-// What opening answers: the settings given are the converter, also where they are refused.
+// What opening answers: the converter of the settings given, also where they are refused.
 pub struct Opened {
     pub verdict: Verdict,
     pub converter: Converter,

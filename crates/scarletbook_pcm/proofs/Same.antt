@@ -14,7 +14,7 @@ use Rattle.reference.specs.Frames.{Run, run, frame-length, frame-count, neighbo
 use Rattle.reference.specs.Stages.{y}
 use Rattle.reference.specs.Scaling.{scaled, clamp, clips, right-gain}
 use Rattle.reference.specs.Output.{samples-per-frame, unclamped, sample, clipped, item, channel-samples, all-samples, samples, channel-clips, stats, frame-clips, per-frame-clips, s24le}
-use Rattle.reference.specs.Refusals.{accepted, decide, Place, if-present, one-frame, run-length, opening-places, input-places, unsupported}
+use Rattle.reference.specs.Refusals.{rack, accepted, decide, Place, if-present, one-frame, run-length, opening-places, input-places, unsupported}
 use Rattle.reference.specs.declared.Converter.{Converter}
 use Rattle.reference.specs.declared.ConvertStats.{ConvertStats}
 use Rattle.reference.proofs.Refusals.{pass, some-channel, few-channels, whole-frames, few-frames}
