@@ -33,12 +33,6 @@ returns-2 : tie.Need-returns-2
 unfolding input-places run-length frame-count
 returns-2 c = sym (at-next _ _ (ap not (eq-eqb _ _ (c .before .if1 .left))) ∙ at-first _ _ (lt-ltb _ _ (c .if2 .taken)))
 
-returns-3 : tie.Need-returns-3
-unfolding input-places run-length frame-count one-frame
-returns-3 c = sym (at-next _ _ (ap not (eq-eqb _ _ (c .before .before .before .if1 .left)))
-    ∙ at-next _ _ (le-ltb _ _ (c .before .before .if2 .left))
-    ∙ present-holds _ _ _ (c .before .if3 .taken) (ap not (ne-eqb _ _ (c .if4 .taken))))
-
 -- past the run length and the frame before, by whichever branch
 so-far : (c : lts.Joined3 reads.Pre reads.Post) →
     let a = c .before .before .before .before .args in
@@ -50,6 +44,12 @@ so-far c =
     ∙ at-next _ _ (le-ltb _ _ (c .before .if2 .left))
     ∙ ⊎-elim (λ t. present-passes _ _ _ (t .0 .taken) (ap not (eq-eqb _ _ (t .1 .left)))) (λ t. absent-passes _ _ _ (t .left)) (c .if3 .came)
     ∙ ap decide (sym (append-nil _))
+
+returns-3 : tie.Need-returns-3
+unfolding input-places run-length frame-count one-frame
+returns-3 c = sym (at-next _ _ (ap not (eq-eqb _ _ (c .before .before .before .if1 .left)))
+    ∙ at-next _ _ (le-ltb _ _ (c .before .before .if2 .left))
+    ∙ present-holds _ _ _ (c .before .if3 .taken) (ap not (ne-eqb _ _ (c .if4 .taken))))
 
 returns-4 : tie.Need-returns-4
 unfolding one-frame
