@@ -49,7 +49,7 @@ module _ (s : CSettings) (opened o o' numbers n n' : List ℕ) (decibels f f' : 
 
 -- what a conversion tells beside its output
 module _ {P Q : Converted → Type 0} {old n n' : Results} {a a' : ℕ} where
-  pub conversion-exact : (p : ConversionDone P n a) (q : ConversionDone Q n' a') → p .made ≡ q .made → (a ≡ a') × (n ≡ n')
+  pub conversion-exact : (p : ConversionDone P old n a) (q : ConversionDone Q old n' a') → p .made ≡ q .made → (a ≡ a') × (n ≡ n')
   conversion-exact p q e =
       let h = ap (λ (m : Converted). decision (m .verdict)) e in
       let t = told-exact h (p .told .told) (q .told .told) in
@@ -59,8 +59,8 @@ module _ {P Q : Converted → Type 0} {old n n' : Results} {a a' : ℕ} where
 
 module _ (s : CSettings) (i : Input) (out o o' : List ℤ) (old n n' : Results) (a a' : ℕ) where
   samples-call : (u : Bool) (places : List Place) (conv : Converter) (r : Run)
-      → Call u a ((o ≡ out) × (n ≡ old)) (ConversionDone (SamplesPromise places conv r out o) n a)
-      → Call u a' ((o' ≡ out) × (n' ≡ old)) (ConversionDone (SamplesPromise places conv r out o') n' a') → (a ≡ a') × ((o ≡ o') × (n ≡ n'))
+      → Call u a ((o ≡ out) × (n ≡ old)) (ConversionDone (SamplesPromise places conv r out o) old n a)
+      → Call u a' ((o' ≡ out) × (n' ≡ old)) (ConversionDone (SamplesPromise places conv r out o') old n' a') → (a ≡ a') × ((o ≡ o') × (n ≡ n'))
   samples-call u places conv r p q =
       call-exact u p q (λ k l. (k .0 ∙ sym (l .0), k .1 ∙ sym (l .1)))
       (λ x y.

@@ -93,12 +93,12 @@ OpenCall s opened opened' numbers numbers' decibels decibels' answer =
     ((opened' ≡ opened) × (numbers' ≡ numbers) × (decibels' ≡ decibels))
     (OpenDone (settings-of s) opened opened' numbers' decibels' answer)
 
--- and for a conversion, whose clip counts are written besides
-pub record ConversionDone (Promise : Converted → Type 0) (new : Results) (answer : ℕ) : Type 0 where
+-- and for a conversion, whose clip counts are written besides if it was accepted
+pub record ConversionDone (Promise : Converted → Type 0) (old new : Results) (answer : ℕ) : Type 0 where
   pub made : Converted
   pub promise : Promise made
   pub told : ToldWhole (decision (made .verdict)) answer (new .numbers) (new .decibels)
-  pub counted : new .clipped ≡ made .stats .clipped
+  pub counted : new .clipped ≡ by-decision (decision (made .verdict)) (made .stats .clipped) (old .clipped)
 
 abbrev pub conversion-understood : CSettings → Input → Results → Bool
 conversion-understood s i old =
@@ -110,7 +110,7 @@ abbrev pub SamplesCall : (Converter → Run → List ℤ → List ℤ → Conver
 SamplesCall Promise s i out out' old new answer =
     Call (conversion-understood s i old) answer
     ((out' ≡ out) × (new ≡ old))
-    (ConversionDone (Promise (converter-of s) (run-of i) out out') new answer)
+    (ConversionDone (Promise (converter-of (settings-of s)) (run-of i) out out') old new answer)
 
 abbrev pub ConvertRunCall : CSettings → Input → List ℤ → List ℤ → Results → Results → ℕ → Type 0
 ConvertRunCall = SamplesCall ConvertRunPromise
@@ -123,4 +123,4 @@ abbrev pub ConvertCall : CSettings → Input → ℕ → List ℕ → List ℕ �
 ConvertCall s i lent out out' counts counts' old new answer =
     Call (known-flag lent && conversion-understood s i old) answer
     ((out' ≡ out) × (counts' ≡ counts) × (new ≡ old))
-    (ConversionDone (ConvertPromise (converter-of s) (run-of i) (flag lent) out counts out' counts') new answer)
+    (ConversionDone (ConvertPromise (converter-of (settings-of s)) (run-of i) (flag lent) out counts out' counts') old new answer)
