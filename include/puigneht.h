@@ -57,7 +57,7 @@ uint8_t puigneht_open(uint32_t rate, uint8_t cutoff, uint8_t channels, const dou
 
 /* 32-bit samples of a run of whole frames, the channels in turn. `before` and `after` are the frames next to the run;
  * where the flag is 0 there is none, and the list is not read. `out` has a sample for each sample of the run.
- * Writes `clipped` (6 items): the clipped samples of each channel. */
+ * Writes `clipped` (6 items) if accepted: the clipped samples of each channel. */
 uint8_t puigneht_convert_run(uint32_t rate, uint8_t cutoff, uint8_t channels, const double *gain, size_t gain_len,
                              uint8_t has_before, const uint8_t *before, size_t before_len, const uint8_t *frames,
                              size_t frames_len, uint8_t has_after, const uint8_t *after, size_t after_len,

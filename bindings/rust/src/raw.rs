@@ -105,3 +105,45 @@ extern "C" {
         bytes_len: usize,
     );
 }
+
+#[cfg(test)]
+mod tests {
+    // A refused conversion writes the refusal's data and no other list, the clip counts neither.
+    #[test]
+    fn refused() {
+        let (gain, frames) = ([0.0, 1.0], [0x69; 4703]);
+        let (mut out, mut counts, mut clipped) = ([7u8; 3528], [7u64; 1], [7u64; 6]);
+        let (mut data, mut decibels) = ([7u64; 2], [7.0]);
+        // SAFETY: each pointer and length is that of a live array, and no written array overlaps another.
+        let answer = unsafe {
+            super::puigneht_convert(
+                88200,
+                0,
+                1,
+                gain.as_ptr(),
+                2,
+                0,
+                frames.as_ptr(),
+                0,
+                frames.as_ptr(),
+                frames.len(),
+                0,
+                frames.as_ptr(),
+                0,
+                1,
+                out.as_mut_ptr(),
+                out.len(),
+                counts.as_mut_ptr(),
+                counts.len(),
+                clipped.as_mut_ptr(),
+                6,
+                data.as_mut_ptr(),
+                2,
+                decibels.as_mut_ptr(),
+                1,
+            )
+        };
+        assert_eq!((answer, data, decibels), (4, [4703, 0], [0.0]));
+        assert_eq!((clipped, counts, out), ([7; 6], [7], [7; 3528]));
+    }
+}

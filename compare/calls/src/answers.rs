@@ -70,8 +70,10 @@ pub mod port {
         Back { clipped: [7; 6], data: [7; 2], decibels: [7.0] }
     }
 
+    // A refused call has kept the list of clips: what it changed there is told.
     fn answer(number: u8, b: Back) -> Answer {
-        Answer { number, data: b.data, decibels: bits(b.decibels[0]), clipped: b.clipped }
+        let clipped = if number == 0 { b.clipped } else { b.clipped.map(|n| n ^ 7) };
+        Answer { number, data: b.data, decibels: bits(b.decibels[0]), clipped }
     }
 
     // The gain record of some decibels; where they are refused, the answer.
@@ -90,7 +92,9 @@ pub mod port {
                 b.decibels.as_mut_ptr(), 1,
             )
         };
-        b.clipped = [0; 6];
+        if number == 0 {
+            b.clipped = [0; 6];
+        }
         (answer(number, b), opened)
     }
 

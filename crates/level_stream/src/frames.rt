@@ -181,7 +181,7 @@ fn in_buffers(
 {
     let ch = conv.channels as usize;
     let rate = conv.rate;
-    let size = 4704 * ch;
+    let size = reference::FRAME_BYTES * ch;
     let bytes = 3 * size;
     let items = scarletbook_pcm::samples_per_frame(rate) * ch;
     let s = turns(

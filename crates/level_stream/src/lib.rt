@@ -3,7 +3,7 @@ ghost use Prim.Native.Nat.{_≤_};
 ghost use lib.ListN.{length};
 use reference::Verdict;
 use settings_line::FirstLine;
-use settings_line::Settings;
+use settings_line::LineSettings;
 
 mod frames;
 
@@ -38,7 +38,7 @@ fn settings(line: &[u8], n: usize, from: i32, to: i32)
     }
 }
 
-fn opened(s: Settings, from: i32, to: i32)
+fn opened(s: LineSettings, from: i32, to: i32)
     requires { ⌜ s .channels ≤ 2 ⌝ }
 {
     let o = levels::opened(s);

@@ -8,7 +8,7 @@ use lib.Dec.{eqb}
 use lib.Ieee.{Float}
 use lib.ListN.{length}
 use Rattle.interface.specs.Codes.{known-rate, known-cutoff, known-flag}
-use Rattle.interface.specs.Settings.{Settings, known-settings}
+use Rattle.interface.specs.Settings.{CSettings, known-settings}
 use Rattle.interface.specs.Told.{room}
 use Rattle.puigneht.specs.Calls.{Input, Results, Call, open-understood, conversion-understood}
 
@@ -37,13 +37,13 @@ pub record Lengths (gain : List Float) (n : ℕ) (first numbers : List ℕ) (dec
   pub firsts : length first ≡ n
   pub told : (length numbers ≡ 2) × (length decibels ≡ 1)
 
-pub open-lengths : (s : Settings) (opened numbers : List ℕ) (decibels : List Float) → open-understood s opened numbers decibels ≡ true → Lengths (s .gain) 2 opened numbers decibels
+pub open-lengths : (s : CSettings) (opened numbers : List ℕ) (decibels : List Float) → open-understood s opened numbers decibels ≡ true → Lengths (s .gain) 2 opened numbers decibels
 open-lengths s opened numbers decibels h =
     let settings = both-true (known-settings (s .rate) (s .cutoff) (length (s .gain))) _ h in
     let lists = both-true (eqb (length opened) 2) _ (settings .1) in
     record { floats = two-floats _ _ _ (settings .0); firsts = eqb-true _ _ (lists .0); told = room-is _ _ (lists .1) }
 
-pub lengths : (s : Settings) (i : Input) (old : Results) → conversion-understood s i old ≡ true → Lengths (s .gain) 6 (old .clipped) (old .numbers) (old .decibels)
+pub lengths : (s : CSettings) (i : Input) (old : Results) → conversion-understood s i old ≡ true → Lengths (s .gain) 6 (old .clipped) (old .numbers) (old .decibels)
 lengths s i old h =
     let settings = both-true (known-settings (s .rate) (s .cutoff) (length (s .gain))) _ h in
     let flags = both-true (known-flag (i .has-after)) _ (both-true (known-flag (i .has-before)) _ (settings .1) .1) in

@@ -12,7 +12,7 @@ use Rattle.reference.specs.declared.Converter.{Converter}
 use Rattle.reference.specs.declared.Converted.{Converted}
 use Rattle.reference.specs.declared.Opened.{Opened}
 use Rattle.reference.proofs.Promises.{gain-exact, opening-exact, samples-exact, convert-exact}
-use Rattle.interface.specs.Settings.{Settings}
+use Rattle.interface.specs.Settings.{CSettings}
 use Rattle.interface.specs.Told.{Told, ToldWhole}
 use Rattle.puigneht.specs.Calls.{Input, Results, Call, GainDone, GainCall, OpenCall, ConversionDone, ConvertRunCall, ConvertFrameCall, ConvertCall}
 
@@ -37,7 +37,7 @@ module _ (db : Float) (gain g g' decibels f f' : List Float) (a a' : ℕ) where
   pub gain-call : GainCall db gain g decibels f a → GainCall db gain g' decibels f' a' → (a ≡ a') × ((g ≡ g') × (f ≡ f'))
   gain-call p q = call-exact _ p q (λ k l. (k .0 ∙ sym (l .0), k .1 ∙ sym (l .1))) done
 
-module _ (s : Settings) (opened o o' numbers n n' : List ℕ) (decibels f f' : List Float) (a a' : ℕ) where
+module _ (s : CSettings) (opened o o' numbers n n' : List ℕ) (decibels f f' : List Float) (a a' : ℕ) where
   pub open-call : OpenCall s opened o numbers n decibels f a → OpenCall s opened o' numbers n' decibels f' a' → (a ≡ a') × ((o ≡ o') × (n ≡ n') × (f ≡ f'))
   open-call p q =
       call-exact _ p q (λ k l. (k .0 ∙ sym (l .0), k .1 ∙ sym (l .1), k .2 ∙ sym (l .2)))
@@ -48,8 +48,8 @@ module _ (s : Settings) (opened o o' numbers n n' : List ℕ) (decibels f f' : L
       (t .0, (rw (x .written, h) (sym (y .written)), numbers-exact h (x .told) (y .told), t .1)))
 
 -- what a conversion tells beside its output
-module _ {P Q : Converted → Type 0} {n n' : Results} {a a' : ℕ} where
-  pub conversion-exact : (p : ConversionDone P n a) (q : ConversionDone Q n' a') → p .made ≡ q .made → (a ≡ a') × (n ≡ n')
+module _ {P Q : Converted → Type 0} {old n n' : Results} {a a' : ℕ} where
+  pub conversion-exact : (p : ConversionDone P old n a) (q : ConversionDone Q old n' a') → p .made ≡ q .made → (a ≡ a') × (n ≡ n')
   conversion-exact p q e =
       let h = ap (λ (m : Converted). decision (m .verdict)) e in
       let t = told-exact h (p .told .told) (q .told .told) in
@@ -57,10 +57,10 @@ module _ {P Q : Converted → Type 0} {n n' : Results} {a a' : ℕ} where
       let c : n .clipped ≡ n' .clipped = rw (p .counted, e) (sym (q .counted)) in
       (t .0, λ i. record { clipped = c i; numbers = w i; decibels = t .1 i })
 
-module _ (s : Settings) (i : Input) (out o o' : List ℤ) (old n n' : Results) (a a' : ℕ) where
+module _ (s : CSettings) (i : Input) (out o o' : List ℤ) (old n n' : Results) (a a' : ℕ) where
   samples-call : (u : Bool) (places : List Place) (conv : Converter) (r : Run)
-      → Call u a ((o ≡ out) × (n ≡ old)) (ConversionDone (SamplesPromise places conv r out o) n a)
-      → Call u a' ((o' ≡ out) × (n' ≡ old)) (ConversionDone (SamplesPromise places conv r out o') n' a') → (a ≡ a') × ((o ≡ o') × (n ≡ n'))
+      → Call u a ((o ≡ out) × (n ≡ old)) (ConversionDone (SamplesPromise places conv r out o) old n a)
+      → Call u a' ((o' ≡ out) × (n' ≡ old)) (ConversionDone (SamplesPromise places conv r out o') old n' a') → (a ≡ a') × ((o ≡ o') × (n ≡ n'))
   samples-call u places conv r p q =
       call-exact u p q (λ k l. (k .0 ∙ sym (l .0), k .1 ∙ sym (l .1)))
       (λ x y.
@@ -74,11 +74,11 @@ module _ (s : Settings) (i : Input) (out o o' : List ℤ) (old n n' : Results) (
   pub convert-frame-call : ConvertFrameCall s i out o old n a → ConvertFrameCall s i out o' old n' a' → (a ≡ a') × ((o ≡ o') × (n ≡ n'))
   convert-frame-call = samples-call _ _ _ _
 
-module _ (s : Settings) (i : Input) (lent : ℕ) (out o o' counts c c' : List ℕ) (old n n' : Results) (a a' : ℕ) where
+module _ (s : CSettings) (i : Input) (lent : ℕ) (out o o' counts c c' : List ℕ) (old n n' : Results) (a a' : ℕ) where
   pub convert-call : ConvertCall s i lent out o counts c old n a → ConvertCall s i lent out o' counts c' old n' a' → (a ≡ a') × ((o ≡ o') × (c ≡ c') × (n ≡ n'))
   convert-call p q =
       call-exact _ p q (λ k l. (k .0 ∙ sym (l .0), k .1 ∙ sym (l .1), k .2 ∙ sym (l .2)))
       (λ x y.
-      let e = convert-exact _ _ _ out counts o o' c c' (x .made) (y .made) (x .promise) (y .promise) in
+      let e = convert-exact _ _ _ _ out counts o o' c c' (x .made) (y .made) (x .promise) (y .promise) in
       let t = conversion-exact x y (e .0) in
       (t .0, (e .1, e .2, t .1)))

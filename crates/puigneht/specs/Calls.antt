@@ -9,15 +9,17 @@ use lib.Ieee.{Float}
 use lib.ListN.{length}
 use Rattle.reference.specs.Frames.{Run, run}
 use Rattle.reference.specs.Stages.{reach}
+use Rattle.reference.specs.Settings.{converter-of}
 use Rattle.reference.specs.Output.{samples-per-frame}
 use Rattle.reference.specs.Refusals.{decision, gain-decision}
 use Rattle.reference.specs.Promises.{by-decision, GainPromise, OpeningPromise, ConvertRunPromise, ConvertFramePromise, ConvertPromise}
+use Rattle.reference.specs.declared.Settings.{Settings}
 use Rattle.reference.specs.declared.Converter.{Converter}
 use Rattle.reference.specs.declared.FromDb.{FromDb}
 use Rattle.reference.specs.declared.Opened.{Opened}
 use Rattle.reference.specs.declared.Converted.{Converted}
 use Rattle.interface.specs.Codes.{known-flag, flag}
-use Rattle.interface.specs.Settings.{Settings, known-settings, converter-of}
+use Rattle.interface.specs.Settings.{CSettings, known-settings, settings-of}
 use Rattle.interface.specs.Told.{room, room-for-all, Told, ToldWhole, gain-floats}
 
 -- ---- arguments
@@ -75,50 +77,50 @@ unfoldable pub opened-numbers : Converter → List ℕ
 opened-numbers conv = samples-per-frame (conv .rate) ∷ reach (conv .rate) (conv .cutoff) ∷ []
 
 -- so for opening
-pub record OpenDone (conv : Converter) (opened opened' numbers' : List ℕ) (decibels' : List Float) (answer : ℕ) : Type 0 where
+pub record OpenDone (settings : Settings) (opened opened' numbers' : List ℕ) (decibels' : List Float) (answer : ℕ) : Type 0 where
   pub made : Opened
-  pub promise : OpeningPromise conv made
+  pub promise : OpeningPromise settings made
   pub told : ToldWhole (decision (made .verdict)) answer numbers' decibels'
-  pub written : opened' ≡ by-decision (decision (made .verdict)) (opened-numbers conv) opened
+  pub written : opened' ≡ by-decision (decision (made .verdict)) (opened-numbers (converter-of settings)) opened
 
-abbrev pub open-understood : Settings → List ℕ → List ℕ → List Float → Bool
+abbrev pub open-understood : CSettings → List ℕ → List ℕ → List Float → Bool
 open-understood s opened numbers decibels =
     known-settings (s .rate) (s .cutoff) (length (s .gain)) && (eqb (length opened) 2 && room (length numbers) (length decibels))
 
-abbrev pub OpenCall : Settings → List ℕ → List ℕ → List ℕ → List ℕ → List Float → List Float → ℕ → Type 0
+abbrev pub OpenCall : CSettings → List ℕ → List ℕ → List ℕ → List ℕ → List Float → List Float → ℕ → Type 0
 OpenCall s opened opened' numbers numbers' decibels decibels' answer =
     Call (open-understood s opened numbers decibels) answer
     ((opened' ≡ opened) × (numbers' ≡ numbers) × (decibels' ≡ decibels))
-    (OpenDone (converter-of s) opened opened' numbers' decibels' answer)
+    (OpenDone (settings-of s) opened opened' numbers' decibels' answer)
 
--- and for a conversion, whose clip counts are written besides
-pub record ConversionDone (Promise : Converted → Type 0) (new : Results) (answer : ℕ) : Type 0 where
+-- and for a conversion, whose clip counts are written besides if it was accepted
+pub record ConversionDone (Promise : Converted → Type 0) (old new : Results) (answer : ℕ) : Type 0 where
   pub made : Converted
   pub promise : Promise made
   pub told : ToldWhole (decision (made .verdict)) answer (new .numbers) (new .decibels)
-  pub counted : new .clipped ≡ made .stats .clipped
+  pub counted : new .clipped ≡ by-decision (decision (made .verdict)) (made .stats .clipped) (old .clipped)
 
-abbrev pub conversion-understood : Settings → Input → Results → Bool
+abbrev pub conversion-understood : CSettings → Input → Results → Bool
 conversion-understood s i old =
     known-settings (s .rate) (s .cutoff) (length (s .gain))
     && (known-flag (i .has-before) && (known-flag (i .has-after) && room-for-all (length (old .clipped)) (length (old .numbers)) (length (old .decibels))))
 
 -- a call for 32-bit samples
-abbrev pub SamplesCall : (Converter → Run → List ℤ → List ℤ → Converted → Type 0) → Settings → Input → List ℤ → List ℤ → Results → Results → ℕ → Type 0
+abbrev pub SamplesCall : (Converter → Run → List ℤ → List ℤ → Converted → Type 0) → CSettings → Input → List ℤ → List ℤ → Results → Results → ℕ → Type 0
 SamplesCall Promise s i out out' old new answer =
     Call (conversion-understood s i old) answer
     ((out' ≡ out) × (new ≡ old))
-    (ConversionDone (Promise (converter-of s) (run-of i) out out') new answer)
+    (ConversionDone (Promise (converter-of (settings-of s)) (run-of i) out out') old new answer)
 
-abbrev pub ConvertRunCall : Settings → Input → List ℤ → List ℤ → Results → Results → ℕ → Type 0
+abbrev pub ConvertRunCall : CSettings → Input → List ℤ → List ℤ → Results → Results → ℕ → Type 0
 ConvertRunCall = SamplesCall ConvertRunPromise
 
-abbrev pub ConvertFrameCall : Settings → Input → List ℤ → List ℤ → Results → Results → ℕ → Type 0
+abbrev pub ConvertFrameCall : CSettings → Input → List ℤ → List ℤ → Results → Results → ℕ → Type 0
 ConvertFrameCall = SamplesCall ConvertFramePromise
 
 -- a call for bytes
-abbrev pub ConvertCall : Settings → Input → ℕ → List ℕ → List ℕ → List ℕ → List ℕ → Results → Results → ℕ → Type 0
+abbrev pub ConvertCall : CSettings → Input → ℕ → List ℕ → List ℕ → List ℕ → List ℕ → Results → Results → ℕ → Type 0
 ConvertCall s i lent out out' counts counts' old new answer =
     Call (known-flag lent && conversion-understood s i old) answer
     ((out' ≡ out) × (counts' ≡ counts) × (new ≡ old))
-    (ConversionDone (ConvertPromise (converter-of s) (run-of i) (flag lent) out counts out' counts') new answer)
+    (ConversionDone (ConvertPromise (converter-of (settings-of s)) (run-of i) (flag lent) out counts out' counts') old new answer)

@@ -3,7 +3,7 @@ ghost use mathlib.Core.Path.{_≡_};
 ghost use lib.ListN.{length};
 ghost use Rattle.reference.specs.Refusals.{decision};
 ghost use Rattle.reference.specs.Promises.{by-decision, PackPromise};
-ghost use Rattle.interface.specs.Settings.{settings};
+ghost use Rattle.interface.specs.Settings.{c-settings};
 ghost use Rattle.interface.specs.Told.{ToldWhole};
 ghost use Rattle.puigneht.specs.Calls.{input, results, opened-numbers, GainCall, OpenCall, ConvertRunCall, ConvertFrameCall, ConvertCall};
 use interface::both;
@@ -12,6 +12,7 @@ use interface::known_flag;
 use interface::known_settings;
 use interface::put_two;
 use interface::room;
+use interface::settings;
 use interface::tell;
 use interface::tell_conversion;
 use interface::tell_gain;
@@ -63,12 +64,12 @@ pub extern "C" fn puigneht_open(
     data: &mut [u64],
     decibels: &mut [f64],
 ) -> u8
-    ensures { λ r. ⌜ OpenCall (settings rate cutoff channels (now (gain .entry))) (now (opened .entry)) (now (opened .exit)) (now («data» .entry)) (now («data» .exit)) (now (decibels .entry)) (now (decibels .exit)) r ⌝ }
+    ensures { λ r. ⌜ OpenCall (c-settings rate cutoff channels (now (gain .entry))) (now (opened .entry)) (now (opened .exit)) (now («data» .entry)) (now («data» .exit)) (now (decibels .entry)) (now (decibels .exit)) r ⌝ }
 {
     let known = known_settings(rate, cutoff, gain.len());
     let fits = both(opened.len() == 2, room(data.len(), decibels.len()));
     if both(known, fits) {
-        let made = scarletbook_pcm::open(converter(rate, cutoff, channels, gain));
+        let made = scarletbook_pcm::open(settings(rate, cutoff, channels, gain));
         return tell_opening(made, opened, data, decibels);
     }
     255
@@ -91,7 +92,7 @@ pub extern "C" fn puigneht_convert_run<'a>(
     data: &mut [u64],
     decibels: &mut [f64],
 ) -> u8
-    ensures { λ r. ⌜ ConvertRunCall (settings rate cutoff channels (now (gain .entry))) (input «has_before» (now (before .entry)) (now (frames .entry)) «has_after» (now (after .entry))) (now (out .entry)) (now (out .exit)) (results (now (clipped .entry)) (now («data» .entry)) (now (decibels .entry))) (results (now (clipped .exit)) (now («data» .exit)) (now (decibels .exit))) r ⌝ }
+    ensures { λ r. ⌜ ConvertRunCall (c-settings rate cutoff channels (now (gain .entry))) (input «has_before» (now (before .entry)) (now (frames .entry)) «has_after» (now (after .entry))) (now (out .entry)) (now (out .exit)) (results (now (clipped .entry)) (now («data» .entry)) (now (decibels .entry))) (results (now (clipped .exit)) (now («data» .exit)) (now (decibels .exit))) r ⌝ }
 {
     if understood(
         rate,
@@ -135,7 +136,7 @@ pub extern "C" fn puigneht_convert_frame<'a>(
     data: &mut [u64],
     decibels: &mut [f64],
 ) -> u8
-    ensures { λ r. ⌜ ConvertFrameCall (settings rate cutoff channels (now (gain .entry))) (input «has_before» (now (before .entry)) (now (frames .entry)) «has_after» (now (after .entry))) (now (out .entry)) (now (out .exit)) (results (now (clipped .entry)) (now («data» .entry)) (now (decibels .entry))) (results (now (clipped .exit)) (now («data» .exit)) (now (decibels .exit))) r ⌝ }
+    ensures { λ r. ⌜ ConvertFrameCall (c-settings rate cutoff channels (now (gain .entry))) (input «has_before» (now (before .entry)) (now (frames .entry)) «has_after» (now (after .entry))) (now (out .entry)) (now (out .exit)) (results (now (clipped .entry)) (now («data» .entry)) (now (decibels .entry))) (results (now (clipped .exit)) (now («data» .exit)) (now (decibels .exit))) r ⌝ }
 {
     if understood(
         rate,
@@ -181,7 +182,7 @@ pub extern "C" fn puigneht_convert<'a>(
     data: &mut [u64],
     decibels: &mut [f64],
 ) -> u8
-    ensures { λ r. ⌜ ConvertCall (settings rate cutoff channels (now (gain .entry))) (input «has_before» (now (before .entry)) (now (frames .entry)) «has_after» (now (after .entry))) lent (now (out .entry)) (now (out .exit)) (now (counts .entry)) (now (counts .exit)) (results (now (clipped .entry)) (now («data» .entry)) (now (decibels .entry))) (results (now (clipped .exit)) (now («data» .exit)) (now (decibels .exit))) r ⌝ }
+    ensures { λ r. ⌜ ConvertCall (c-settings rate cutoff channels (now (gain .entry))) (input «has_before» (now (before .entry)) (now (frames .entry)) «has_after» (now (after .entry))) lent (now (out .entry)) (now (out .exit)) (now (counts .entry)) (now (counts .exit)) (results (now (clipped .entry)) (now («data» .entry)) (now (decibels .entry))) (results (now (clipped .exit)) (now («data» .exit)) (now (decibels .exit))) r ⌝ }
 {
     let known = understood(
         rate,

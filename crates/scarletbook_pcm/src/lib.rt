@@ -10,6 +10,7 @@ use reference::Converter;
 use reference::Cutoff;
 use reference::Opened;
 use reference::PcmRate;
+use reference::Settings;
 
 mod record;
 mod work;
@@ -24,7 +25,7 @@ pub use record::convert_run;
 pub fn samples_per_frame(rate: PcmRate) -> usize
     ensures { λ r. ⌜ r ≡ output.samples-per-frame rate ⌝ }
 {
-    blocks::samples_per_frame(rate)
+    reference::samples_per_frame(rate)
 }
 
 // Bytes of each channel before and after a stretch of frames that its samples may depend on.
@@ -52,14 +53,12 @@ pub fn context_bytes(conv: Converter) -> usize
     }
 }
 
-pub fn open(settings: Converter) -> Opened
+pub fn open(settings: Settings) -> Opened
     ensures { λ r. ⌜ OpeningPromise settings r ⌝ }
 {
     let verdict = checks::opening(settings);
-    Opened {
-        verdict,
-        converter: settings,
-    }
+    let converter = reference::converter_of(settings);
+    Opened { verdict, converter }
 }
 
 fn nothing_counted() -> ConvertStats

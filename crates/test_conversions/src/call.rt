@@ -4,6 +4,7 @@ use reference::Cutoff;
 use reference::FromDb;
 use reference::Gain;
 use reference::PcmRate;
+use reference::Settings;
 
 // The record that the gain call makes of decibels, or of 0 dB where it refuses.
 pub fn made(db: u64) -> Gain {
@@ -33,15 +34,19 @@ fn cutoff(route: u64) -> Cutoff {
 }
 
 // A route is three times its cutoff and its rate, both from 0.
-pub fn converter(route: u64, channels: u64, gain: Gain) -> Converter {
+pub fn settings(route: u64, channels: u64, gain: Gain) -> Settings {
     let rate = rate(route);
     let cutoff = cutoff(route);
-    Converter {
+    Settings {
         rate,
         cutoff,
         channels: (channels % 256) as u8,
         gain,
     }
+}
+
+pub fn converter(route: u64, channels: u64, gain: Gain) -> Converter {
+    reference::converter_of(settings(route, channels, gain))
 }
 
 // What the gain call answers.

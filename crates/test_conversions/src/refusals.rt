@@ -7,6 +7,7 @@ use crate::rust;
 use reference::Converted;
 use reference::Converter;
 use reference::Gain;
+use reference::Settings;
 use reference::Verdict;
 use test_support::at;
 
@@ -24,12 +25,12 @@ const FACTOR: [[u64; 9]; 1] = [[
 ]];
 
 // The settings of a row.
-fn settings(row: &[u64]) -> Converter {
+fn settings(row: &[u64]) -> Settings {
     let gain = Gain {
         db: test_support::float(at(row, 2)),
         linear: test_support::float(at(row, 3)),
     };
-    call::converter(at(row, 0), at(row, 1), gain)
+    call::settings(at(row, 0), at(row, 1), gain)
 }
 
 fn standard() -> Converter {
@@ -129,7 +130,12 @@ fn refused(question: u64, conv: Converter, lengths: &[u64], row: &[u64]) -> bool
 // Wrong settings, with wrong lengths too.
 fn settings_refused(question: u64, row: &[u64]) -> bool {
     let lengths = [question, 1, 1, 1, 1, 3];
-    refused(question, settings(row), &lengths, row)
+    refused(
+        question,
+        reference::converter_of(settings(row)),
+        &lengths,
+        row,
+    )
 }
 
 fn lengths_refused(row: &[u64]) -> bool {

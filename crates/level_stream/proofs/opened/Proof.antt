@@ -1,6 +1,7 @@
 -- `opened` meets its contract.
 use borrow.Author.Needs.{needs}
-use Rattle.levels.specs.Levels.{converter-of}
+use Rattle.reference.specs.Settings.{converter-of}
+use Rattle.levels.specs.Levels.{read-settings}
 use Rattle.level_stream.proofs.opened.Statement.{statement}
 use Rattle.level_stream.proofs.opened.Tie as tie
 
@@ -11,7 +12,7 @@ enum-told : tie.Need-enum-told
 enum-told c = search needs
 
 report-frames-requires : tie.Need-report-frames-requires
-unfolding converter-of
+unfolding converter-of read-settings
 report-frames-requires c κs = rw (c .before .before .before .opened .ensures .converter) (c .before .before .before .before .pre)
 
 enum-known-verdict : tie.Need-enum-known-verdict

@@ -5,14 +5,14 @@ use lib.Dec.{eqb}
 use lib.ListN.{length}
 use denote.Ref.{now}
 use borrow.Author.Needs.{needs}
-use Rattle.interface.specs.Settings.{Settings, settings}
+use Rattle.interface.specs.Settings.{CSettings, c-settings}
 use Rattle.puigneht.specs.Calls.{open-understood}
 use Rattle.puigneht.proofs.Calls.{Lengths, open-lengths, turned-away, worked}
 use Rattle.puigneht.proofs.puigneht_open.Statement.{statement}
 use Rattle.puigneht.proofs.puigneht_open.Tie as tie
 
-abbrev the-settings : tie.Start → Settings
-the-settings s = settings (s .args .rate) (s .args .cutoff) (s .args .channels) (now (s .args .gain))
+abbrev the-settings : tie.Start → CSettings
+the-settings s = c-settings (s .args .rate) (s .args .cutoff) (s .args .channels) (now (s .args .gain))
 
 abbrev asked : tie.Start → Bool
 asked s = open-understood (the-settings s) (now (s .args .opened)) (now (s .args .«data»)) (now (s .args .decibels))
@@ -47,8 +47,8 @@ both-requires c κs = search needs
 both-requires-2 : tie.Need-both-requires-2
 both-requires-2 c κs = search needs
 
-converter-requires : tie.Need-converter-requires
-converter-requires c κs = fit c .floats
+settings-requires : tie.Need-settings-requires
+settings-requires c κs = fit c .floats
 
 open-requires : tie.Need-open-requires
 open-requires c κs = search needs
@@ -71,7 +71,7 @@ returns : tie.Need-returns
 returns c =
     let told = c .before .before .before .before .before .before .tell-opening .ensures in
     let made = c .before .before .before .before .before .before .before .before .before .before .«open» in
-    let promise = rw (c .before .before .before .before .before .before .before .before .before .before .before .converter .ensures) at (made .ensures) in
+    let promise = rw (c .before .before .before .before .before .before .before .before .before .before .before .settings .ensures) at (made .ensures) in
     worked (known (c .before .before .before .before .before .before .before .before .before .before .before .before)) (record { made = made .result; promise = promise; told = told .0; written = rw (promise .converter) at (told .1) })
 
 returns-2 : tie.Need-returns-2
@@ -87,7 +87,7 @@ puigneht-open-spec =
     room-requires
     both-requires
     both-requires-2
-    converter-requires
+    settings-requires
     open-requires
     tell-opening-requires
     same-length

@@ -8,7 +8,7 @@ use denote.Ref.{now}
 use lib.ListN.{length}
 use lib.Seq.{length-take-le}
 use Rattle.reference.specs.Output.{samples-per-frame}
-use Rattle.blocks.proofs.Sums.{frame-samples}
+use Rattle.reference.proofs.Frames.{frame-samples}
 use Rattle.level_stream.proofs.frames.in_buffers.Statement.{statement}
 use Rattle.level_stream.proofs.frames.in_buffers.Tie as tie
 

@@ -2,9 +2,9 @@
 use mathlib.Core.Path.{refl}
 use native.Mathlib.Omega.{arith}
 use borrow.Author.Needs.{needs}
 use Rattle.reference.specs.Output.{samples-per-frame}
-use Rattle.blocks.proofs.samples_per_frame.Statement.{statement}
-use Rattle.blocks.proofs.samples_per_frame.Tie as tie
+use Rattle.reference.proofs.samples_per_frame.Statement.{statement}
+use Rattle.reference.proofs.samples_per_frame.Tie as tie
 
 enum-told : tie.Need-enum-told
 enum-told c = search needs
