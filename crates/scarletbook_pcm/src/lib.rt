@@ -15,11 +15,14 @@ use reference::Settings;
 mod record;
 mod work;
 
-// The run record, and the calls over it; the functions `.._parts` below take its fields one by one.
+// The run record, and the calls over it; the functions `.._of` make it of its fields, and the functions `.._parts` below do without it.
 pub use record::Run;
 pub use record::convert;
 pub use record::convert_frame;
+pub use record::convert_frame_of;
+pub use record::convert_of;
 pub use record::convert_run;
+pub use record::convert_run_of;
 
 // Samples of one channel in a frame.
 pub fn samples_per_frame(rate: PcmRate) -> usize
