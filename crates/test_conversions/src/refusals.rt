@@ -1,9 +1,8 @@
-// Document 01's table: each place's number and data as the original gives them (rust.rt), and nothing written. Number 5 is left to its proof: it
+// Document 01's table: each place's number and data as the original gives them (data/), and nothing written. Number 5 is left to its proof: it
 // wants 2.5 GB of frames.
 use crate::call;
 use crate::input;
 use crate::row;
-use crate::rust;
 use reference::Converted;
 use reference::Converter;
 use reference::Gain;
@@ -12,7 +11,7 @@ use reference::Verdict;
 use test_support::at;
 
 // A record whose factor is not its decibels' (-0 dB with the float after 1), as a row of settings: the original has no such refusal.
-const FACTOR: [[u64; 9]; 1] = [[
+const FACTOR: [u64; 9] = [
     0,
     1,
     0x8000_0000_0000_0000,
@@ -22,7 +21,7 @@ const FACTOR: [[u64; 9]; 1] = [[
     3,
     0x8000_0000_0000_0000,
     0,
-]];
+];
 
 // The settings of a row.
 fn settings(row: &[u64]) -> Settings {
@@ -149,7 +148,7 @@ fn opening_refused(row: &[u64]) -> bool {
 }
 
 // Opening and the three conversions with a row of settings, or a row of lengths.
-fn right(question: u64, row: &[u64; 9]) -> bool {
+fn right(question: u64, row: &[u64]) -> bool {
     match question {
         0 => opening_refused(row),
         4 => lengths_refused(row),
@@ -157,12 +156,11 @@ fn right(question: u64, row: &[u64; 9]) -> bool {
     }
 }
 
-fn count(question: u64, rows: &[[u64; 9]]) -> u64 {
+fn count(question: u64, rows: &[u64]) -> u64 {
     let mut n = 0u64;
     let mut i = 0usize;
-    while i < rows.len() {
-        let row = rows[i];
-        if right(question, &row) {
+    while i < rows.len() / 9 {
+        if right(question, &rows[i * 9..i * 9 + 9]) {
             n += 1;
         }
         i += 1;
@@ -170,14 +168,30 @@ fn count(question: u64, rows: &[[u64; 9]]) -> u64 {
     n
 }
 
-pub fn refusals() {
-    let settings = rust::SETTINGS;
+// A line: route, channels, decibels as bits, three zeros; number and data.
+fn by_settings() {
+    let mut bytes = [0u8; 4096];
+    let mut settings = [0u64; 45];
+    test_support::read(b"refused_settings", 45, &mut bytes);
+    test_support::column(&bytes, 0, 1, &mut settings);
     test_support::right(b"refused by open ", 5, count(0, &settings));
     test_support::right(b"refused by convert_run ", 5, count(1, &settings));
     test_support::right(b"refused by convert_frame ", 5, count(2, &settings));
     test_support::right(b"refused by convert ", 5, count(3, &settings));
+}
+
+// A line: the call (1 convert_run, 2 convert_frame, 3 convert), before, run, after, output, counts; number and data. Mono at 88,200 Hz.
+fn by_lengths() {
+    let mut bytes = [0u8; 4096];
+    let mut lengths = [0u64; 135];
+    test_support::read(b"refused_lengths", 135, &mut bytes);
+    test_support::column(&bytes, 0, 1, &mut lengths);
+    test_support::right(b"refused lengths ", 15, count(4, &lengths));
+}
+
+pub fn refusals() {
+    by_settings();
     let factor = FACTOR;
     test_support::right(b"another factor refused ", 1, count(3, &factor));
-    let lengths = rust::LENGTHS;
-    test_support::right(b"refused lengths ", 15, count(4, &lengths));
+    by_lengths();
 }

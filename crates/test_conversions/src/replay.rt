@@ -1,11 +1,11 @@
-// Each row of rust.rt, converted by every call.
+// Each line of data/conversions, converted by every call over the run record. A line: route, channels, decibels as bits, frames, neighbours (1
+// before, 2 after), pattern, seed; two digests of the samples, two of the bytes, the clips of six channels and of two frames.
 ghost use Prim.Native.Nat.{_≤_};
 use crate::call;
 use crate::input;
 use crate::input::Digest;
 use crate::row;
 use crate::row::times;
-use crate::rust;
 use reference::Converted;
 use reference::Converter;
 use test_support::at;
@@ -60,7 +60,7 @@ fn samples_right<'a>(
     after: &'a [u8],
     out: &mut [i32],
 ) -> bool {
-    let done = scarletbook_pcm::convert_run_parts(
+    let done = scarletbook_pcm::convert_run_of(
         converter(row),
         has_before(row),
         before,
@@ -79,7 +79,7 @@ fn frame_right<'a>(
     after: &'a [u8],
     out: &mut [i32],
 ) -> bool {
-    let done = scarletbook_pcm::convert_frame_parts(
+    let done = scarletbook_pcm::convert_frame_of(
         converter(row),
         has_before(row),
         before,
@@ -101,7 +101,7 @@ fn bytes_right<'a>(
     out: &mut [u8],
     counts: &mut [u64],
 ) -> bool {
-    let done = scarletbook_pcm::convert_parts(
+    let done = scarletbook_pcm::convert_of(
         converter(row),
         has_before(row),
         before,
@@ -265,7 +265,10 @@ fn print(name: &[u8], c: Score) {
 }
 
 pub fn beside_rust() {
-    let rows = rust::CONVERSIONS;
+    let mut bytes = [0u8; 65536];
+    let mut rows = [0u64; 2508];
+    test_support::read(b"conversions", 2508, &mut bytes);
+    test_support::column(&bytes, 0, 1, &mut rows);
     print(b"samples ", count(0, &rows));
     print(b"samples of one frame ", count(1, &rows));
     print(b"bytes and counts ", count(2, &rows));

@@ -1,9 +1,10 @@
-// The gain and the scaling beside what the original gives (rust.rt) and the figures of document 01.
+// The gain and the scaling beside what the original gives (data/, written by compare/factors.sh) and the figures of document 01.
+ghost use Prim.Native.Nat.{_<_};
+ghost use lib.IntN.{natAbs};
 use reference::FromDb;
 use reference::Gain;
 use reference::PcmError;
-
-mod rust;
+use test_support::lifted;
 
 fn is_factor(db: u64, factor: u64) -> bool {
     test_support::bits(gain::db_to_linear(test_support::float(db))) == factor
@@ -45,10 +46,6 @@ fn answer(question: u8, db: u64, factor: u64) -> bool {
     }
 }
 
-fn number_at(s: &[i32], i: usize) -> i32 {
-    if i < s.len() { s[i] } else { 0 }
-}
-
 // How many pairs are answered by yes.
 fn count(question: u8, db: &[u64], factor: &[u64]) -> u64 {
     let mut n = 0u64;
@@ -66,28 +63,35 @@ fn count(question: u8, db: &[u64], factor: &[u64]) -> u64 {
     n
 }
 
-// Whether y becomes this sample at db decibels, and is clipped so often.
-fn scales(y: i32, db: u64, sample: i32, clips: u64) -> bool {
+// What `lifted` has made positive.
+fn lowered(n: u64) -> i64
+    ensures { λ r. ⌜ natAbs r < 4294967296 ⌝ }
+{
+    (n % 0x1_0000_0000) as i64 - 0x8000_0000
+}
+
+// Whether y becomes this sample at db decibels, and is clipped so often. Number and sample have 2^31 added.
+fn scales(y: u64, db: u64, sample: u64, clips: u64) -> bool {
     match gain::from_db(test_support::float(db)) {
         FromDb::Made(g) => {
-            let ys = [y as i64];
+            let ys = [lowered(y)];
             let mut out = [0i32; 1];
             let t = gain::scale_block(&ys, g.linear, &mut out);
-            out[0] == sample && t.clipped == clips
+            lifted(out[0]) == sample && t.clipped == clips
         }
         FromDb::Refused(_) => false,
     }
 }
 
 // How many of the numbers become these samples.
-fn count_scaled(ys: &[i32], db: &[u64], samples: &[i32], clips: &[u64]) -> u64 {
+fn count_scaled(ys: &[u64], db: &[u64], samples: &[u64], clips: &[u64]) -> u64 {
     let mut n = 0u64;
     let mut i = 0usize;
     while i < ys.len() {
         if scales(
-            number_at(ys, i),
+            test_support::at(ys, i),
             test_support::at(db, i),
-            number_at(samples, i),
+            test_support::at(samples, i),
             test_support::at(clips, i),
         ) {
             n += 1;
@@ -97,20 +101,30 @@ fn count_scaled(ys: &[i32], db: &[u64], samples: &[i32], clips: &[u64]) -> u64 {
     n
 }
 
-// The original's lists.
-fn beside_rust() {
-    let db = rust::DECIBELS;
-    let factors = rust::FACTORS;
-    test_support::right(b"factors ", db.len() as u64, count(0, &db, &factors));
-    let ys = rust::NUMBERS;
-    let gains = rust::GAINS;
-    let samples = rust::SAMPLES;
-    let clips = rust::CLIPS;
-    test_support::right(
-        b"samples ",
-        ys.len() as u64,
-        count_scaled(&ys, &gains, &samples, &clips),
-    );
+// A line: decibels and their factor by `db_to_linear`, as bits.
+fn factors() {
+    let mut bytes = [0u8; 8192];
+    let mut db = [0u64; 110];
+    let mut factors = [0u64; 110];
+    test_support::read(b"factors", 220, &mut bytes);
+    test_support::column(&bytes, 0, 2, &mut db);
+    test_support::column(&bytes, 1, 2, &mut factors);
+    test_support::right(b"factors ", 110, count(0, &db, &factors));
+}
+
+// A line: a number, decibels as bits, the sample by `quantise`, how many it counted as clipped.
+fn scalings() {
+    let mut bytes = [0u8; 8192];
+    let mut ys = [0u64; 96];
+    let mut db = [0u64; 96];
+    let mut samples = [0u64; 96];
+    let mut clips = [0u64; 96];
+    test_support::read(b"scalings", 384, &mut bytes);
+    test_support::column(&bytes, 0, 4, &mut ys);
+    test_support::column(&bytes, 1, 4, &mut db);
+    test_support::column(&bytes, 2, 4, &mut samples);
+    test_support::column(&bytes, 3, 4, &mut clips);
+    test_support::right(b"samples ", 96, count_scaled(&ys, &db, &samples, &clips));
 }
 
 // The gain call's edges: 24, -120 and -0 are taken; the next float above 24, the next below -120, NaN and the infinities are not. The factors are the original's, 1 at -0.
@@ -147,7 +161,9 @@ fn edges() {
 
 // Document 01's figures: y is 2^26 where all bits are 1, and minus that where all are 0. The last is 8,388,607.25 before the rounding.
 fn figures() {
-    let ys = [67108864, 67108864, 67108864, -67108864, -67108864, 67108858];
+    let high = lifted(67108864);
+    let low = lifted(-67108864);
+    let ys = [high, high, high, low, low, lifted(67108858)];
     let db = [
         0,
         0xc034_0000_0000_0000,
@@ -156,7 +172,9 @@ fn figures() {
         0x4038_0000_0000_0000,
         0,
     ];
-    let samples = [8388607, 838861, 8, -8388608, -8388608, 8388607];
+    let top = lifted(8388607);
+    let bottom = lifted(-8388608);
+    let samples = [top, lifted(838861), lifted(8), bottom, bottom, top];
     let clips = [1, 0, 0, 0, 1, 0];
     test_support::right(
         b"figures ",
@@ -166,7 +184,8 @@ fn figures() {
 }
 
 fn main() {
-    beside_rust();
+    factors();
+    scalings();
     edges();
     figures();
 }

@@ -16,17 +16,17 @@ abbrev μ-loop : tie.MeasureT-loop
 loop-holds : tie.Need-loop-holds Inv-loop μ-loop
 loop-holds c = search needs
 
-number-at-requires : tie.Need-number-at-requires Inv-loop μ-loop
-number-at-requires c κs = search needs
-
 at-requires : tie.Need-at-requires Inv-loop μ-loop
 at-requires c κs = search needs
 
-number-at-requires-2 : tie.Need-number-at-requires-2 Inv-loop μ-loop
-number-at-requires-2 c κs = search needs
-
 at-requires-2 : tie.Need-at-requires-2 Inv-loop μ-loop
 at-requires-2 c κs = search needs
+
+at-requires-3 : tie.Need-at-requires-3 Inv-loop μ-loop
+at-requires-3 c κs = search needs
+
+at-requires-4 : tie.Need-at-requires-4 Inv-loop μ-loop
+at-requires-4 c κs = search needs
 
 scales-requires : tie.Need-scales-requires Inv-loop μ-loop
 scales-requires c κs = search needs
@@ -53,10 +53,10 @@ count-scaled-spec =
     Inv-loop
     μ-loop
     loop-holds
-    number-at-requires
     at-requires
-    number-at-requires-2
     at-requires-2
+    at-requires-3
+    at-requires-4
     scales-requires
     add-n
     add-i

@@ -1,21 +1,21 @@
--- `scales` is safe and ends: the factor of a made record is bounded, and an i32 is below 2^32 in size.
-use mathlib.Core.Path.{_≡_, refl, subst}
+-- `scales` is safe and ends: the factor of a made record is bounded, and the number is below 2^32 in size.
+use mathlib.Core.Path.{refl, sym, subst}
 use Prim.Native.Nat.{ℕ, zero, suc, _^_, _<_}
 use native.Mathlib.Omega.{arith}
-use native.Mathlib.Nat.{lt-of-lt-of-le}
 use borrow.Author.Needs.{needs}
 use mathlib.Core.List.{[], _∷_}
-use lib.Dec.{lit≤}
 use lib.ListN.{getD}
-use lib.IntN.{ℤ, pos, negsuc, natAbs}
-use mir.Syntax.{w32, w64}
-use mir.Val.{toZ, ofZ, SFits}
-use mir.ValLaws.{toZ-ofZ}
+use lib.IntN.{ℤ, pos, natAbs}
+use Rattle.numbers.proofs.Machine.{val}
 use Rattle.reference.specs.Promises.{GainPromise}
 use Rattle.reference.specs.declared.FromDb.{FromDb}
 use Rattle.gain.proofs.Records.{made-bounded}
 use Rattle.test_gain.proofs.scales.Statement.{statement}
 use Rattle.test_gain.proofs.scales.Tie as tie
+
+only : (z : ℤ) → natAbs z < 2 ^ 32 → (k : ℕ) → k < 1 → natAbs (getD (z ∷ []) k (pos 0)) < 2 ^ 32
+only z h zero l = h
+only z h (suc k) l = absurd (omega arith)
 
 float-requires : tie.Need-float-requires
 float-requires c κs = search needs
@@ -26,22 +26,8 @@ from-db-requires c κs = search needs
 enum-known-g : tie.Need-enum-known-g
 enum-known-g c = search needs
 
-wider : (z : ℤ) → SFits w32 z → SFits w64 z
-wider z h = record { sfits = lt-of-lt-of-le (h .sfits) (lit≤ tt) }
-
-small : (z : ℤ) → SFits w32 z → natAbs z < 2 ^ 32
-small (pos n) h = omega (arith, h .sfits)
-small (negsuc n) h = omega (arith, h .sfits)
-
-only : (z : ℤ) → natAbs z < 2 ^ 32 → (k : ℕ) → k < 1 → natAbs (getD (z ∷ []) k (pos 0)) < 2 ^ 32
-only z h zero l = h
-only z h (suc k) l = absurd (omega arith)
-
-back : (c : tie.Start) → toZ w32 (ofZ w32 (c .args .y)) ≡ c .args .y
-back c = toZ-ofZ w32 (c .args .y) (c .fits .y)
-
-cast-t12 : tie.Need-cast-t12
-cast-t12 c = let start = c .before .before .before .before .before in rw (back start) (wider (start .args .y) (start .fits .y))
+lowered-requires : tie.Need-lowered-requires
+lowered-requires c κs = search needs
 
 slice-aggregate-scale-block : tie.Need-slice-aggregate-scale-block
 slice-aggregate-scale-block c = search needs
@@ -51,16 +37,18 @@ slice-aggregate-scale-block-2 c = search needs
 
 scale-block-requires : tie.Need-scale-block-requires
 scale-block-requires c κs =
-    let g = c .before .before .before .g .given in
-    let from = c .before .before .before .before .before in
-    let start = from .before .before in
-    let made = subst (λ (a : FromDb). GainPromise (from .before .float .result) a) (g .1) (from .from-db .ensures) in
-    let y = start .args .y in
-    let h : natAbs (toZ w64 (ofZ w64 (toZ w32 (ofZ w32 y)))) < 2 ^ 32 = rw (back start, toZ-ofZ w64 y (wider y (start .fits .y))) (small y (start .fits .y)) in
-    (refl, (made-bounded _ (g .0 .0) made, only _ h))
+    let low = c .before .before .lowered in
+    let known = c .before .before .before .before in
+    let from = known .before .before in
+    let made = subst (λ (a : FromDb). GainPromise (from .before .float .result) a) (known .g .given .1) (from .from-db .ensures) in
+    let h = subst (λ (z : ℤ). natAbs z < 2 ^ 32) (sym (val (low .result) (low .result) (low .ok) refl)) (low .ensures) in
+    (refl, (made-bounded _ (known .g .given .0 .0) made, only _ h))
 
-array-copy-out-if1 : tie.Need-array-copy-out-if1
-array-copy-out-if1 c = search needs
+array-copy-out-lifted : tie.Need-array-copy-out-lifted
+array-copy-out-lifted c = search needs
+
+lifted-requires : tie.Need-lifted-requires
+lifted-requires c κs = search needs
 
 enum-told : tie.Need-enum-told
 enum-told c = search needs
@@ -81,11 +69,12 @@ scales-spec =
     float-requires
     from-db-requires
     enum-known-g
-    cast-t12
+    lowered-requires
     slice-aggregate-scale-block
     slice-aggregate-scale-block-2
     scale-block-requires
-    array-copy-out-if1
+    array-copy-out-lifted
+    lifted-requires
     enum-told
     returns
     returns-2

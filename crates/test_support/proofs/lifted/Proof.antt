@@ -1,23 +1,19 @@
--- `lifted` is safe: an i32 is at least -2^31.
+-- `lifted` meets its contract: an i32 is at least -2^31.
 use mathlib.Core.Path.{_≡_, refl, sym, ap, _∙_, subst}
 use Prim.Native.Nat.{ℕ, suc, _+_, _-_, _<_, _^_}
 use native.Mathlib.Omega.{arith}
-use native.Mathlib.Nat.{lt-of-lt-of-le}
-use borrow.Author.Needs.{needs}
 use borrow.Author.Tests.{le-ltb}
-use lib.Dec.{T, lit≤}
+use lib.Dec.{T}
 use lib.IntN.{ℤ, pos, negsuc, natAbs, _+ℤ_}
 use lib.Signed.{nonNeg}
 use mir.Syntax.{w32, w64}
 use mir.Val.{SFits, Fits, toZ, ofZ}
 use mir.Facts.{toZ-ofZ}
+use Rattle.numbers.proofs.Machine.{t, wide-fits, wide-is}
 use Rattle.test_support.proofs.lifted.Statement.{statement}
 use Rattle.test_support.proofs.lifted.Tie as tie
 
-wider : {z : ℤ} → SFits w32 z → SFits w64 z
-wider h = record { sfits = lt-of-lt-of-le (h .sfits) (lit≤ tt) }
-
--- What the sum is, as a natural number.
+-- what the sum is, as a natural number
 up : ℤ → ℕ
 up (pos n) = n + 2147483648
 up (negsuc n) = 2147483647 - n
@@ -33,30 +29,26 @@ up-small (pos n) h = omega (arith, h .sfits)
 up-small (negsuc n) h = omega arith
 
 module _ (z : ℤ) (h : SFits w32 z) where
-  back : toZ w64 (ofZ w64 (toZ w32 (ofZ w32 z))) ≡ z
-  back = ap (λ y. toZ w64 (ofZ w64 y)) (toZ-ofZ h) ∙ toZ-ofZ (wider h)
-
-  sum : toZ w64 (ofZ w64 (toZ w32 (ofZ w32 z))) +ℤ pos 2147483648 ≡ pos (up z)
-  sum = ap (λ y. y +ℤ pos 2147483648) back ∙ up-is z h
+  sum : t (toZ w32 (ofZ w32 z)) +ℤ pos 2147483648 ≡ pos (up z)
+  sum = ap (λ (y : ℤ). y +ℤ pos 2147483648) (wide-is z (h .sfits)) ∙ up-is z h
 
   fits : SFits w64 (pos (up z))
   fits = record { sfits = omega (arith, up-small z h) }
 
+  kept : t (t (toZ w32 (ofZ w32 z)) +ℤ pos 2147483648) ≡ pos (up z)
+  kept = ap t sum ∙ toZ-ofZ fits
+
 cast-result : tie.Need-cast-result
-cast-result c = rw (toZ-ofZ (c .fits .s)) (wider (c .fits .s))
+cast-result c = wide-fits (c .args .s) (c .fits .s .sfits)
 
 add-result : tie.Need-add-result
 add-result c = subst (λ (y : ℤ). SFits w64 y) (sym (sum (c .args .s) (c .fits .s))) (fits (c .args .s) (c .fits .s))
 
 cast-result-2 : tie.Need-cast-result-2
-cast-result-2 c =
-    let z = c .args .s in
-    let h = c .fits .s in
-    let e = ap (λ (y : ℤ). toZ w64 (ofZ w64 y)) (sum z h) ∙ toZ-ofZ (fits z h) in
-    subst (λ (y : ℤ). T (nonNeg y) × Fits w64 (natAbs y)) (sym e) (tt, record { fits = omega (arith, up-small z h) })
+cast-result-2 c = subst (λ (y : ℤ). T (nonNeg y) × Fits w64 (natAbs y)) (sym (kept (c .args .s) (c .fits .s))) (tt, record { fits = omega (arith, up-small (c .args .s) (c .fits .s)) })
 
 returns : tie.Need-returns
-returns c = search needs
+returns c = ap (λ (y : ℤ). pos (natAbs y)) (kept (c .args .s) (c .fits .s)) ∙ sym (up-is (c .args .s) (c .fits .s))
 
 pub lifted-spec : {M : Type 1} → statement M
 lifted-spec = tie.close (tie.spec cast-result add-result cast-result-2 returns)
