@@ -22,9 +22,6 @@ module _ {a b : ℤ} (fa : SFits w64 a) (fb : SFits w64 b) where
   pub add-is : natAbs a + natAbs b < 2 ^ 63 → t (t a +ℤ t b) ≡ a +ℤ b
   add-is h = toZ-ofZ (add-fits h) ∙ ap₂ (λ (x y : ℤ). x +ℤ y) (toZ-ofZ fa) (toZ-ofZ fb)
 
-  pub mul-is : natAbs a * natAbs b < 2 ^ 63 → t (t a *ℤ t b) ≡ a *ℤ b
-  mul-is h = toZ-ofZ (mul-fits h) ∙ ap₂ (λ (x y : ℤ). x *ℤ y) (toZ-ofZ fa) (toZ-ofZ fb)
-
 -- an i32 as an i64
 module _ (z : ℤ) (m : mag z < 2 ^ 31) where
   narrow : SFits w32 z
