@@ -1,5 +1,7 @@
 -- `opened` meets its contract.
+use mathlib.Core.Path.{sym, ap, _∙_}
 use borrow.Author.Needs.{needs}
+use Rattle.reference.specs.Refusals.{decision}
 use Rattle.levels.specs.Levels.{converter-of}
 use Rattle.level_stream.proofs.opened.Statement.{statement}
 use Rattle.level_stream.proofs.opened.Tie as tie
@@ -12,7 +14,8 @@ enum-told c = search needs
 
 report-frames-requires : tie.Need-report-frames-requires
 unfolding converter-of
-report-frames-requires c κs = rw (c .before .before .before .opened .ensures .converter) (c .before .before .before .before .pre)
+report-frames-requires c κs = let o = c .before .before .before .opened .ensures in
+    rw (o .converter) (sym (o .decided) ∙ ap decision (c .enum-told .given .1), c .before .before .before .before .pre)
 
 enum-known-verdict : tie.Need-enum-known-verdict
 enum-known-verdict c = search needs
