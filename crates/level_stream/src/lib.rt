@@ -13,7 +13,6 @@ pub fn report(line_from: i32, frames_from: i32, to: i32) {
     let mut line = [0u8; 23];
     let came = level_input::read_line(line_from, &mut line);
     if came.failed {
-        os::fail(b"read");
         return;
     }
     if came.whole {
@@ -24,7 +23,7 @@ pub fn report(line_from: i32, frames_from: i32, to: i32) {
 }
 
 fn refused_settings(to: i32) {
-    io::write_all(to, b"refused settings\n");
+    frames::written(to, b"refused settings\n");
 }
 
 // The first n bytes are the line.
