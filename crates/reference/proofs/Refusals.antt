@@ -88,6 +88,9 @@ error-refuses (error.Frames n) = refl
 error-refuses (error.OutputLength n k) = refl
 error-refuses (error.OutputBytes n k) = refl
 error-refuses (error.FrameCounts n k) = refl
+error-refuses error.NotDsf = refl
+error-refuses error.DsfFormat = refl
+error-refuses error.DsfLength = refl
 
 -- ---- what an accepted converter and an accepted run have
 
