@@ -55,6 +55,7 @@ pub fn of_error(e: PcmError) -> Report
         PcmError::NotDsf => numbers(9, 0, 0),
         PcmError::DsfFormat => numbers(10, 0, 0),
         PcmError::DsfLength => numbers(11, 0, 0),
+        PcmError::NotWav => numbers(12, 0, 0),
     }
 }
 

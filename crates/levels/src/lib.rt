@@ -60,6 +60,7 @@ pub fn refusal_number(e: PcmError) -> u64
         PcmError::NotDsf => 9,
         PcmError::DsfFormat => 10,
         PcmError::DsfLength => 11,
+        PcmError::NotWav => 12,
     }
 }
 

@@ -91,6 +91,7 @@ error-refuses (error.FrameCounts n k) = refl
 error-refuses error.NotDsf = refl
 error-refuses error.DsfFormat = refl
 error-refuses error.DsfLength = refl
+error-refuses error.NotWav = refl
 
 -- ---- what an accepted converter and an accepted run have
 

@@ -57,6 +57,7 @@ error-decision (error.FrameCounts n expected) = refused 8 (number n ∷ number e
 error-decision error.NotDsf = refused 9 []
 error-decision error.DsfFormat = refused 10 []
 error-decision error.DsfLength = refused 11 []
+error-decision error.NotWav = refused 12 []
 
 abbrev pub decision : Verdict → Decision
 decision verdict.Accepted = accepted

@@ -50,6 +50,8 @@ pub enum PcmError {
     NotDsf,
     DsfFormat,
     DsfLength,
+    // Not a file that the WAV reader takes, or none that it would.
+    NotWav,
 }
 
 pub enum Verdict {

@@ -67,6 +67,7 @@ pub fn error(e: PcmError) -> Told {
         PcmError::NotDsf => refusal(9, 0, 0),
         PcmError::DsfFormat => refusal(10, 0, 0),
         PcmError::DsfLength => refusal(11, 0, 0),
+        PcmError::NotWav => refusal(12, 0, 0),
     }
 }
 

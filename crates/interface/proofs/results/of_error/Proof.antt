@@ -79,6 +79,12 @@ enum-told-3 c = search needs
 numbers-requires-10 : tie.Need-numbers-requires-10
 numbers-requires-10 c κs = search needs
 
+enum-told-4 : tie.Need-enum-told-4
+enum-told-4 c = search needs
+
+numbers-requires-11 : tie.Need-numbers-requires-11
+numbers-requires-11 c κs = search needs
+
 returns : tie.Need-returns
 returns c = rw (c .before .before .e .given .1) (c .numbers .ensures)
 
@@ -112,6 +118,9 @@ returns-10 c = rw (c .before .enum-told2 .given .1) (c .numbers9 .ensures)
 returns-11 : tie.Need-returns-11
 returns-11 c = rw (c .before .enum-told3 .given .1) (c .numbers10 .ensures)
 
+returns-12 : tie.Need-returns-12
+returns-12 c = rw (c .before .enum-told4 .given .1) (c .numbers11 .ensures)
+
 pub of-error-spec : {M : Type 1} → statement M
 of-error-spec =
     tie.close
@@ -141,6 +150,8 @@ of-error-spec =
     numbers-requires-9
     enum-told-3
     numbers-requires-10
+    enum-told-4
+    numbers-requires-11
     returns
     returns-2
     returns-3
@@ -151,4 +162,5 @@ of-error-spec =
     returns-8
     returns-9
     returns-10
-    returns-11)
+    returns-11
+    returns-12)
