@@ -53,6 +53,10 @@ pub fn of_error(e: PcmError) -> Report
         PcmError::OutputLength(n, expected) => numbers(6, n as u64, expected as u64),
         PcmError::OutputBytes(n, expected) => numbers(7, n as u64, expected as u64),
         PcmError::FrameCounts(n, expected) => numbers(8, n as u64, expected as u64),
+        PcmError::NotDsf => numbers(9, 0, 0),
+        PcmError::DsfFormat => numbers(10, 0, 0),
+        PcmError::DsfLength => numbers(11, 0, 0),
+        PcmError::NotWav => numbers(12, 0, 0),
     }
 }
 

@@ -59,6 +59,10 @@ pub fn refusal_number(e: PcmError) -> u64
         PcmError::OutputLength(_, _) => 6,
         PcmError::OutputBytes(_, _) => 7,
         PcmError::FrameCounts(_, _) => 8,
+        PcmError::NotDsf => 9,
+        PcmError::DsfFormat => 10,
+        PcmError::DsfLength => 11,
+        PcmError::NotWav => 12,
     }
 }
 

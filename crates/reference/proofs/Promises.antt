@@ -77,7 +77,11 @@ case-of n a b =
     (cond (eqb n 4) (error.InputLength (n-of a) (n-of b))
     (cond (eqb n 5) (error.Frames (n-of a))
     (cond (eqb n 6) (error.OutputLength (n-of a) (n-of b))
-    (cond (eqb n 7) (error.OutputBytes (n-of a) (n-of b)) (error.FrameCounts (n-of a) (n-of b))))))))
+    (cond (eqb n 7) (error.OutputBytes (n-of a) (n-of b))
+    (cond (eqb n 8) (error.FrameCounts (n-of a) (n-of b))
+    (cond (eqb n 9) error.NotDsf
+    (cond (eqb n 10) error.DsfFormat
+    (cond (eqb n 11) error.DsfLength error.NotWav))))))))))
 
 error-of : Decision → PcmError
 error-of accepted = error.Frames 0
@@ -93,6 +97,10 @@ error-back (error.Frames n) = refl
 error-back (error.OutputLength n k) = refl
 error-back (error.OutputBytes n k) = refl
 error-back (error.FrameCounts n k) = refl
+error-back error.NotDsf = refl
+error-back error.DsfFormat = refl
+error-back error.DsfLength = refl
+error-back error.NotWav = refl
 
 error-exact : (a b : PcmError) → error-decision a ≡ error-decision b → a ≡ b
 error-exact a b e = sym (error-back a) ∙ ap error-of e ∙ error-back b

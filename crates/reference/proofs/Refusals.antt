@@ -88,6 +88,10 @@ error-refuses (error.Frames n) = refl
 error-refuses (error.OutputLength n k) = refl
 error-refuses (error.OutputBytes n k) = refl
 error-refuses (error.FrameCounts n k) = refl
+error-refuses error.NotDsf = refl
+error-refuses error.DsfFormat = refl
+error-refuses error.DsfLength = refl
+error-refuses error.NotWav = refl
 
 -- ---- what an accepted converter and an accepted run have
 

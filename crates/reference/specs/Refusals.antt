@@ -56,6 +56,10 @@ error-decision (error.Frames n) = refused 5 (number n ∷ [])
 error-decision (error.OutputLength n expected) = refused 6 (number n ∷ number expected ∷ [])
 error-decision (error.OutputBytes n expected) = refused 7 (number n ∷ number expected ∷ [])
 error-decision (error.FrameCounts n expected) = refused 8 (number n ∷ number expected ∷ [])
+error-decision error.NotDsf = refused 9 []
+error-decision error.DsfFormat = refused 10 []
+error-decision error.DsfLength = refused 11 []
+error-decision error.NotWav = refused 12 []
 
 abbrev pub decision : Verdict → Decision
 decision verdict.Accepted = accepted

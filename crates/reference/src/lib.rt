@@ -87,10 +87,16 @@ pub enum PcmError {
     // The length, and its kind: 0 not whole frames, 1 not one frame.
     InputLength(usize, u8),
     Frames(usize),
-    // The length, and the length expected; so in the two below.
+    // The length, and the length expected; so in the next two.
     OutputLength(usize, usize),
     OutputBytes(usize, usize),
     FrameCounts(usize, usize),
+    // Of a DSF file: not as the document lays it out, its frequency or sample count, its lengths.
+    NotDsf,
+    DsfFormat,
+    DsfLength,
+    // Not a file that the WAV reader takes, or none that it would.
+    NotWav,
 }
 
 pub enum Verdict {

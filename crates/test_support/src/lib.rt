@@ -88,6 +88,10 @@ pub fn error(e: PcmError) -> Told
         PcmError::OutputLength(n, expected) => refusal(6, n as u64, expected as u64),
         PcmError::OutputBytes(n, expected) => refusal(7, n as u64, expected as u64),
         PcmError::FrameCounts(n, expected) => refusal(8, n as u64, expected as u64),
+        PcmError::NotDsf => refusal(9, 0, 0),
+        PcmError::DsfFormat => refusal(10, 0, 0),
+        PcmError::DsfLength => refusal(11, 0, 0),
+        PcmError::NotWav => refusal(12, 0, 0),
     }
 }
 
