@@ -57,6 +57,7 @@ pub fn of_error(e: PcmError) -> Report
         PcmError::DsfFormat => numbers(10, 0, 0),
         PcmError::DsfLength => numbers(11, 0, 0),
         PcmError::NotWav => numbers(12, 0, 0),
+        PcmError::Schedule => numbers(19, 0, 0),
     }
 }
 

@@ -63,6 +63,7 @@ pub fn refusal_number(e: PcmError) -> u64
         PcmError::DsfFormat => 10,
         PcmError::DsfLength => 11,
         PcmError::NotWav => 12,
+        PcmError::Schedule => 19,
     }
 }
 

@@ -81,7 +81,8 @@ case-of n a b =
     (cond (eqb n 8) (error.FrameCounts (n-of a) (n-of b))
     (cond (eqb n 9) error.NotDsf
     (cond (eqb n 10) error.DsfFormat
-    (cond (eqb n 11) error.DsfLength error.NotWav))))))))))
+    (cond (eqb n 11) error.DsfLength
+    (cond (eqb n 12) error.NotWav error.Schedule)))))))))))
 
 error-of : Decision → PcmError
 error-of accepted = error.Frames 0
@@ -101,6 +102,7 @@ error-back error.NotDsf = refl
 error-back error.DsfFormat = refl
 error-back error.DsfLength = refl
 error-back error.NotWav = refl
+error-back error.Schedule = refl
 
 error-exact : (a b : PcmError) → error-decision a ≡ error-decision b → a ≡ b
 error-exact a b e = sym (error-back a) ∙ ap error-of e ∙ error-back b

@@ -92,6 +92,7 @@ error-refuses error.NotDsf = refl
 error-refuses error.DsfFormat = refl
 error-refuses error.DsfLength = refl
 error-refuses error.NotWav = refl
+error-refuses error.Schedule = refl
 
 -- ---- what an accepted converter and an accepted run have
 

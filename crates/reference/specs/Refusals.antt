@@ -60,6 +60,7 @@ error-decision error.NotDsf = refused 9 []
 error-decision error.DsfFormat = refused 10 []
 error-decision error.DsfLength = refused 11 []
 error-decision error.NotWav = refused 12 []
+error-decision error.Schedule = refused 19 []
 
 abbrev pub decision : Verdict → Decision
 decision verdict.Accepted = accepted

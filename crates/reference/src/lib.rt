@@ -97,6 +97,8 @@ pub enum PcmError {
     DsfLength,
     // Not a file that the WAV reader takes, or none that it would.
     NotWav,
+    // A number of a simulation of turns outside its range.
+    Schedule,
 }
 
 pub enum Verdict {

@@ -92,6 +92,7 @@ pub fn error(e: PcmError) -> Told
         PcmError::DsfFormat => refusal(10, 0, 0),
         PcmError::DsfLength => refusal(11, 0, 0),
         PcmError::NotWav => refusal(12, 0, 0),
+        PcmError::Schedule => refusal(19, 0, 0),
     }
 }
 

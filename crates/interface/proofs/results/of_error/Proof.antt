@@ -85,6 +85,12 @@ enum-told-4 c = search needs
 numbers-requires-11 : tie.Need-numbers-requires-11
 numbers-requires-11 c κs = search needs
 
+enum-told-5 : tie.Need-enum-told-5
+enum-told-5 c = search needs
+
+numbers-requires-12 : tie.Need-numbers-requires-12
+numbers-requires-12 c κs = search needs
+
 returns : tie.Need-returns
 returns c = rw (c .before .before .e .given .1) (c .numbers .ensures)
 
@@ -121,6 +127,9 @@ returns-11 c = rw (c .before .enum-told3 .given .1) (c .numbers10 .ensures)
 returns-12 : tie.Need-returns-12
 returns-12 c = rw (c .before .enum-told4 .given .1) (c .numbers11 .ensures)
 
+returns-13 : tie.Need-returns-13
+returns-13 c = rw (c .before .enum-told5 .given .1) (c .numbers12 .ensures)
+
 pub of-error-spec : {M : Type 1} → statement M
 of-error-spec =
     tie.close
@@ -152,6 +161,8 @@ of-error-spec =
     numbers-requires-10
     enum-told-4
     numbers-requires-11
+    enum-told-5
+    numbers-requires-12
     returns
     returns-2
     returns-3
@@ -163,4 +174,5 @@ of-error-spec =
     returns-9
     returns-10
     returns-11
-    returns-12)
+    returns-12
+    returns-13)
