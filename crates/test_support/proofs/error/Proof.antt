@@ -66,6 +66,36 @@ enum-known-e-8 c = search needs
 refusal-requires-8 : tie.Need-refusal-requires-8
 refusal-requires-8 c κs = search needs
 
+enum-told : tie.Need-enum-told
+enum-told c = search needs
+
+refusal-requires-9 : tie.Need-refusal-requires-9
+refusal-requires-9 c κs = search needs
+
+enum-told-2 : tie.Need-enum-told-2
+enum-told-2 c = search needs
+
+refusal-requires-10 : tie.Need-refusal-requires-10
+refusal-requires-10 c κs = search needs
+
+enum-told-3 : tie.Need-enum-told-3
+enum-told-3 c = search needs
+
+refusal-requires-11 : tie.Need-refusal-requires-11
+refusal-requires-11 c κs = search needs
+
+enum-told-4 : tie.Need-enum-told-4
+enum-told-4 c = search needs
+
+refusal-requires-12 : tie.Need-refusal-requires-12
+refusal-requires-12 c κs = search needs
+
+enum-told-5 : tie.Need-enum-told-5
+enum-told-5 c = search needs
+
+refusal-requires-13 : tie.Need-refusal-requires-13
+refusal-requires-13 c κs = search needs
+
 returns : tie.Need-returns
 returns c = rw (c .before .before .e .given .1) (c .refusal .ensures)
 
@@ -89,6 +119,21 @@ returns-7 c = rw (c .before .before .e7 .given .1) (c .refusal7 .ensures)
 
 returns-8 : tie.Need-returns-8
 returns-8 c = rw (c .before .before .e8 .given .1) (c .refusal8 .ensures)
+
+returns-9 : tie.Need-returns-9
+returns-9 c = rw (c .before .enum-told .given .1) (c .refusal9 .ensures)
+
+returns-10 : tie.Need-returns-10
+returns-10 c = rw (c .before .enum-told2 .given .1) (c .refusal10 .ensures)
+
+returns-11 : tie.Need-returns-11
+returns-11 c = rw (c .before .enum-told3 .given .1) (c .refusal11 .ensures)
+
+returns-12 : tie.Need-returns-12
+returns-12 c = rw (c .before .enum-told4 .given .1) (c .refusal12 .ensures)
+
+returns-13 : tie.Need-returns-13
+returns-13 c = rw (c .before .enum-told5 .given .1) (c .refusal13 .ensures)
 
 pub error-spec : {M : Type 1} → statement M
 error-spec =
@@ -115,6 +160,16 @@ error-spec =
     refusal-requires-7
     enum-known-e-8
     refusal-requires-8
+    enum-told
+    refusal-requires-9
+    enum-told-2
+    refusal-requires-10
+    enum-told-3
+    refusal-requires-11
+    enum-told-4
+    refusal-requires-12
+    enum-told-5
+    refusal-requires-13
     returns
     returns-2
     returns-3
@@ -122,4 +177,9 @@ error-spec =
     returns-5
     returns-6
     returns-7
-    returns-8)
+    returns-8
+    returns-9
+    returns-10
+    returns-11
+    returns-12
+    returns-13)
