@@ -13,13 +13,14 @@ use Rattle.numbers.specs.Lists.{tabulate, total}
 use Rattle.numbers.proofs.Lists.{below-or, part-end}
 use Rattle.reference.specs.Frames.{Run, frame-length, frame-count, frame}
 use Rattle.reference.specs.Output.{frame-clips}
-use Rattle.reference.specs.Refusals.{accepted, decide, held-places}
+use Rattle.reference.specs.Settings.{converter-of}
+use Rattle.reference.specs.Refusals.{accepted, decide, opening-places, held-places}
 use Rattle.reference.specs.declared.Converter.{Converter}
 use Rattle.reference.proofs.Promises.{exit-accepted}
 use Rattle.reference.proofs.Refusals.{some-channel}
 use Rattle.report_lines.specs.Text.{joined, with-text}
-use Rattle.settings_line.specs.declared.Settings.{Settings}
-use Rattle.levels.specs.Levels.{converter-of, frame-lines, whole-input, FrameOf}
+use Rattle.settings_line.specs.declared.LineSettings.{LineSettings}
+use Rattle.levels.specs.Levels.{read-settings, frame-lines, whole-input, FrameOf}
 use Rattle.levels.proofs.Whole.{lines-same, clips-same}
 use Rattle.level_stream.specs.Report.{ending, left-over, all-clips, lines-of, text-by, report-text}
 use Rattle.level_stream.specs.Buffers.{part, Moment, told-frame, Turned, First, Turn, LeadTo, texts, Led, ToldWhole, AllTold}
@@ -254,7 +255,7 @@ all-told conv size m opens e l few =
     record { turns = l .turns; led = l .led; told = told-whole conv (some-channel conv opens) (l .turns) m (l .led) (subst (λ k. m .left < k) e few) }
 
 -- over the settings
-pub told-report : (s : Settings) (turns : List (Turn (converter-of s))) (m : Moment) → decide (opening-places (converter-of s)) ≡ accepted → (t : ToldWhole (converter-of s) turns m)
-    → joined (texts turns) ++ ending (m .left) (m .frames) (m .clipped) ≡ report-text s (t .input)
+pub told-report : (s : LineSettings) (turns : List (Turn (converter-of (read-settings s)))) (m : Moment) → decide (opening-places (read-settings s)) ≡ accepted
+    → (t : ToldWhole (converter-of (read-settings s)) turns m) → joined (texts turns) ++ ending (m .left) (m .frames) (m .clipped) ≡ report-text s (t .input)
 unfolding report-text
 told-report s turns m ok t = t .text ∙ sym (exit-accepted _ _ _ ok)
