@@ -9,7 +9,7 @@
 #include <stdlib.h>
 #include <string.h>
 #include <time.h>
-#include "scarletbook_pcm.h"
+#include "puigneht.h"
 
 enum { FRAMES_A_SECOND = 75, ALBUM_SECONDS = 3600, STACK = 1 << 20, PAINT = 0xa5, ROUNDS = 3 };
 
@@ -38,16 +38,16 @@ static void *convert(void *argument) {
     struct album *a = argument;
     double gain[2], decibels[1];
     uint64_t clipped[6], data[2];
-    if (scarletbook_gain(0.0, gain, 2, decibels, 1) != SCARLETBOOK_ACCEPTED) exit(1);
+    if (puigneht_gain(0.0, gain, 2, decibels, 1) != PUIGNEHT_ACCEPTED) exit(1);
     double start = now();
     for (size_t at = 0; at < a->frames;) {
         size_t n = a->piece && a->piece < a->frames - at ? a->piece : a->frames - at;
         uint8_t before = at > 0, after = at + n < a->frames;
-        uint8_t answer = scarletbook_convert(
+        uint8_t answer = puigneht_convert(
             a->rate, a->cutoff, a->channels, gain, 2, before, before ? a->in + (at - 1) * a->size : NULL, before ? a->size : 0,
             a->in + at * a->size, n * a->size, after, after ? a->in + (at + n) * a->size : NULL, after ? a->size : 0, 0,
             a->out + at * a->out_size, n * a->out_size, NULL, 0, clipped, 6, data, 2, decibels, 1);
-        if (answer != SCARLETBOOK_ACCEPTED) exit(1);
+        if (answer != PUIGNEHT_ACCEPTED) exit(1);
         for (int c = 0; c < 6; c++) a->clips += clipped[c];
         at += n;
     }
@@ -72,7 +72,7 @@ static size_t on_painted_stack(struct album *a, unsigned char *stack) {
 static struct album stretch(int route, uint8_t channels, size_t frames, size_t piece, const uint8_t *in, uint8_t *out) {
     size_t samples = (size_t)rates[route % 3] / FRAMES_A_SECOND;
     return (struct album){.rate = rates[route % 3], .cutoff = (uint8_t)(route / 3), .channels = channels, .frames = frames, .piece = piece,
-                          .size = (size_t)SCARLETBOOK_FRAME_BYTES * channels, .out_size = samples * channels * 3, .in = in, .out = out};
+                          .size = (size_t)PUIGNEHT_FRAME_BYTES * channels, .out_size = samples * channels * 3, .in = in, .out = out};
 }
 
 /* ns a sample of runs of that many frames with no neighbours, over some 1,000 frames; the best of the rounds. */
@@ -108,10 +108,10 @@ int main(int argc, char **argv) {
     size_t frames = (argc > 1 ? strtoul(argv[1], NULL, 10) : 20) * FRAMES_A_SECOND;
     size_t deepest = 0;
     unsigned char *stack = aligned_alloc(4096, STACK);
-    uint8_t *in = malloc(frames * 6 * SCARLETBOOK_FRAME_BYTES), *out = malloc(frames * 6 * 4704 * 3);
+    uint8_t *in = malloc(frames * 6 * PUIGNEHT_FRAME_BYTES), *out = malloc(frames * 6 * 4704 * 3);
     if (!stack || !in || !out) return 1;
     uint32_t x = 1;
-    for (size_t k = 0; k < frames * 6 * SCARLETBOOK_FRAME_BYTES; k++) in[k] = (uint8_t)((x = x * 1664525u + 1013904223u) >> 24);
+    for (size_t k = 0; k < frames * 6 * PUIGNEHT_FRAME_BYTES; k++) in[k] = (uint8_t)((x = x * 1664525u + 1013904223u) >> 24);
     printf("| Route | Channels | One run | 1 frame a piece | 8 | 75 | 1,000 |\n|---|---|---|---|---|---|---|\n");
     for (int route = 0; route < 9; route++) {
         if (route == 6) continue; /* wide at 88,200 */

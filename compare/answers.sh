@@ -1,7 +1,8 @@
 #!/usr/bin/env bash
-# Writes crates/conversion_figures/src/rust.rt: what the original's `Converter::convert` gives.
-# Usage: compare/answers.sh [SRC] > crates/conversion_figures/src/rust.rt
-# SRC is the original's repository, by default ../shared/docs/src.
+# Writes crates/test_conversions/data: what the original's `Converter::convert` gives.
+# Usage: compare/answers.sh SRC [DATA]
+# SRC is the original's repository; DATA the folder that is written to.
 set -eu
 here=$(cd "$(dirname "$0")" && pwd)
-exec "$here/beside.sh" answers "${1:-$here/../../shared/docs/src}"
+data=$(cd "${2:-$here/../crates/test_conversions/data}" && pwd)
+exec "$here/beside.sh" answers "${1:?the folder of the original}" "$data"

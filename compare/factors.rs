@@ -1,4 +1,4 @@
-// The lists that compare/factors.sh prints. The functions of the original stand above this text.
+// The files that compare/factors.sh writes. The functions of the original stand above this text.
 
 struct Random(u64);
 
@@ -16,16 +16,15 @@ impl Random {
     }
 }
 
-fn print(name: &str, kind: &str, what: &str, items: &[String]) {
-    println!("\n// {what}\npub const {name}: [{kind}; {}] = [", items.len());
-    for item in items {
-        println!("    {item},");
-    }
-    println!("];");
+// A line a row; each number as sixteen hexadecimal digits.
+fn file<const N: usize>(name: &str, rows: impl Iterator<Item = [u64; N]>) {
+    let line = |row: [u64; N]| row.map(|n| format!("{n:016x}")).join(" ") + "\n";
+    std::fs::write(name, rows.map(line).collect::<String>()).unwrap();
 }
 
-fn bits(x: f64) -> String {
-    format!("0x{:016x}", x.to_bits())
+// Made positive.
+fn lifted(n: i32) -> u64 {
+    (i64::from(n) + (1 << 31)) as u64
 }
 
 fn decibels(random: &mut Random) -> Vec<f64> {
@@ -50,20 +49,12 @@ fn scalings(random: &mut Random) -> Vec<(i32, f64)> {
 
 fn main() {
     let mut random = Random(0x9e37_79b9_7f4a_7c15);
-    println!("// What the original gives. Written by compare/factors.sh.");
     let db = decibels(&mut random);
-    print("DECIBELS", "u64", "Decibels, as bits.", &db.iter().map(|x| bits(*x)).collect::<Vec<_>>());
-    print("FACTORS", "u64", "Their factors by `db_to_linear`, as bits.", &db.iter().map(|x| bits(db_to_linear(*x))).collect::<Vec<_>>());
-    let scalings = scalings(&mut random);
-    print("NUMBERS", "i32", "Numbers to scale.", &scalings.iter().map(|s| s.0.to_string()).collect::<Vec<_>>());
-    print("GAINS", "u64", "The decibels for each, as bits.", &scalings.iter().map(|s| bits(s.1)).collect::<Vec<_>>());
-    let mut sample = [0i32];
-    let mut samples = Vec::new();
-    let mut clips = Vec::new();
-    for (y, db) in scalings {
-        clips.push(quantise(&[f64::from(y)], db_to_linear(db), &mut sample).to_string());
-        samples.push(sample[0].to_string());
-    }
-    print("SAMPLES", "i32", "The samples by `quantise`.", &samples);
-    print("CLIPS", "u64", "How many of each it counted as clipped.", &clips);
+    file("factors", db.iter().map(|x| [x.to_bits(), db_to_linear(*x).to_bits()]));
+    let scaled = |(y, db): (i32, f64)| {
+        let mut sample = [0i32];
+        let clips = quantise(&[f64::from(y)], db_to_linear(db), &mut sample);
+        [lifted(y), db.to_bits(), lifted(sample[0]), clips as u64]
+    };
+    file("scalings", scalings(&mut random).into_iter().map(scaled));
 }

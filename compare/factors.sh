@@ -1,10 +1,10 @@
 #!/usr/bin/env bash
-# Writes crates/gain_figures/src/rust.rt: what the original's `db_to_linear` and `quantise` give.
-# Usage: compare/factors.sh [SRC] > crates/gain_figures/src/rust.rt
-# SRC is the original's repository, by default ../shared/docs/src. The functions are taken from its kernel.rs as they stand, and compiled with compare/factors.rs.
+# Writes crates/test_gain/data: what the original's `db_to_linear` and `quantise` give.
+# Usage: compare/factors.sh SRC [DATA]
+# SRC is the original's repository; DATA the folder that is written to. The functions are taken from its kernel.rs as they stand, and compiled with compare/factors.rs.
 set -eu
 here=$(cd "$(dirname "$0")" && pwd)
-kernel=${1:-$here/../../shared/docs/src}/crates/scarletbook-pcm/src/kernel.rs
+kernel=${1:?the folder of the original}/crates/scarletbook-pcm/src/kernel.rs
 dir=$(mktemp -d)
 trap 'rm -r "$dir"' EXIT
 # An item of kernel.rs, from its first line to the brace that closes it.
@@ -15,4 +15,5 @@ item() { sed -n "/^\(pub(crate) \)\?fn $1(/,/^}/p" "$kernel"; }
     cat "$here/factors.rs"
 } > "$dir/factors.rs"
 rustc --edition 2024 -O -o "$dir/factors" "$dir/factors.rs"
+cd "${2:-$here/../crates/test_gain/data}"
 "$dir/factors"

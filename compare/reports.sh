@@ -1,10 +1,10 @@
 #!/usr/bin/env bash
-# Writes crates/report_figures/data and stdout: inputs of the level report, and what the report is by the original's `convert_frame`.
-# Usage: compare/reports.sh [SRC]
-# SRC is the original's repository, by default ../shared/docs/src.
+# Writes crates/test_reports/data and stdout: inputs of the level report, and what the report is by the original's `convert_frame`.
+# Usage: compare/reports.sh SRC
+# SRC is the original's repository.
 set -eu
 here=$(cd "$(dirname "$0")" && pwd)
-figures=$(cd "$here/../crates/report_figures" && pwd)
+figures=$(cd "$here/../crates/test_reports" && pwd)
 rm -rf "$figures/data"
 mkdir "$figures/data"
-exec "$here/beside.sh" reports "${1:-$here/../../shared/docs/src}" "$figures/data" > "$figures/stdout"
+exec "$here/beside.sh" reports "${1:?the folder of the original}" "$figures/data" > "$figures/stdout"

@@ -1,7 +1,7 @@
-// The port's static library stands in the folder that SCARLETBOOK_LIB names.
+// The port's static library stands in the folder that PUIGNEHT_LIB names.
 fn main() {
-    let folder = std::env::var("SCARLETBOOK_LIB").expect("SCARLETBOOK_LIB: the folder of libexports.a");
+    let folder = std::env::var("PUIGNEHT_LIB").expect("PUIGNEHT_LIB: the folder of libpuigneht.a");
     println!("cargo:rustc-link-search=native={folder}");
-    println!("cargo:rustc-link-lib=static=exports");
-    println!("cargo:rerun-if-env-changed=SCARLETBOOK_LIB");
+    println!("cargo:rustc-link-lib=static=puigneht");
+    println!("cargo:rerun-if-env-changed=PUIGNEHT_LIB");
 }

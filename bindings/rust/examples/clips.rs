@@ -2,13 +2,24 @@
 //!
 //!     cargo run --release --example clips album.dsd 6
 use puigneht::{gain, Converter, Cutoff, PcmRate, Run, FRAME_BYTES};
-use std::{env, error::Error, fs};
+use std::{env, error::Error, fs, process};
 
-fn main() -> Result<(), Box<dyn Error>> {
+fn main() {
+    if let Err(e) = clips() {
+        eprintln!("clips: {e}");
+        process::exit(1);
+    }
+}
+
+fn clips() -> Result<(), Box<dyn Error>> {
     let mut args = env::args().skip(1);
-    let path = args.next().ok_or("clips FILE DB")?;
-    let db = args.next().ok_or("clips FILE DB")?.parse()?;
-    let frames = fs::read(path)?;
+    let (Some(path), Some(db)) = (args.next(), args.next()) else {
+        return Err("to be called as clips FILE DB".into());
+    };
+    let db = db
+        .parse()
+        .map_err(|_| format!("DB is a number from -120 to 24, and not '{db}'"))?;
+    let frames = fs::read(&path).map_err(|e| format!("cannot read {path}: {e}"))?;
     let conv = Converter {
         rate: PcmRate::Hz88200,
         cutoff: Cutoff::Standard,

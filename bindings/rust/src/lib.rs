@@ -31,6 +31,16 @@ pub enum Cutoff {
     Wide,
 }
 
+impl Cutoff {
+    pub fn name(self) -> &'static str {
+        match self {
+            Cutoff::Standard => "standard",
+            Cutoff::Low => "low",
+            Cutoff::Wide => "wide",
+        }
+    }
+}
+
 /// Decibels and the factor that they stand for: made by [`gain`].
 #[derive(Clone, Copy, Debug, PartialEq)]
 pub struct Gain {
@@ -38,7 +48,7 @@ pub struct Gain {
     pub linear: f64,
 }
 
-/// Why a call is refused.
+/// Why a call is refused. Printed, it is a sentence with its numbers.
 #[derive(Clone, Copy, Debug, PartialEq)]
 pub enum Error {
     /// Channels that are not 1 to 6.
@@ -61,7 +71,45 @@ pub enum Error {
 
 impl std::fmt::Display for Error {
     fn fmt(&self, f: &mut std::fmt::Formatter<'_>) -> std::fmt::Result {
-        write!(f, "refused: {self:?}")
+        match *self {
+            Error::Channels(n) => write!(f, "{n} channels: there may be 1 to 6"),
+            Error::Unsupported(rate, cutoff) => {
+                write!(
+                    f,
+                    "the cutoff {} is not available at {} Hz",
+                    cutoff.name(),
+                    rate.hertz()
+                )
+            }
+            Error::Gain(db) => write!(
+                f,
+                "a gain of {db} dB: it may be -120 to 24, with the factor of these decibels"
+            ),
+            Error::InputLength(n, kind) => {
+                let what = if kind == 0 {
+                    "whole frames"
+                } else {
+                    "one frame"
+                };
+                write!(
+                    f,
+                    "{n} bytes are not {what}: a frame has {FRAME_BYTES} bytes of each channel"
+                )
+            }
+            Error::Frames(n) => write!(f, "{n} frames in one call: there may be 540000"),
+            Error::OutputLength(n, needed) => {
+                write!(f, "room for {n} samples, where {needed} are to be written")
+            }
+            Error::OutputBytes(n, needed) => {
+                write!(f, "room for {n} bytes, where {needed} are to be written")
+            }
+            Error::FrameCounts(n, needed) => {
+                write!(
+                    f,
+                    "room for the counts of {n} frames, where there are {needed}"
+                )
+            }
+        }
     }
 }
 
@@ -142,7 +190,7 @@ pub fn gain(db: f64) -> Result<Gain, Error> {
     let mut told = Told::default();
     // SAFETY: each pointer and length is that of a live array, and the arrays are apart.
     let answer =
-        unsafe { raw::scarletbook_gain(db, gain.as_mut_ptr(), 2, told.decibels.as_mut_ptr(), 1) };
+        unsafe { raw::puigneht_gain(db, gain.as_mut_ptr(), 2, told.decibels.as_mut_ptr(), 1) };
     let [db, linear] = gain;
     told.result(answer, Gain { db, linear })
 }
@@ -151,7 +199,7 @@ pub fn gain(db: f64) -> Result<Gain, Error> {
 pub fn pack_s24le(samples: &[i32], bytes: &mut [u8]) {
     // SAFETY: the slices are apart, since one of them is `&mut`.
     unsafe {
-        raw::scarletbook_pack_s24le(
+        raw::puigneht_pack_s24le(
             samples.as_ptr(),
             samples.len(),
             bytes.as_mut_ptr(),
@@ -160,7 +208,7 @@ pub fn pack_s24le(samples: &[i32], bytes: &mut [u8]) {
     }
 }
 
-// `scarletbook_convert_run` and `scarletbook_convert_frame` have one type.
+// `puigneht_convert_run` and `puigneht_convert_frame` have one type.
 type ConvertSamples = unsafe extern "C" fn(
     u32,
     u8,
@@ -193,7 +241,7 @@ impl Converter {
         let mut told = Told::default();
         // SAFETY: each pointer and length is that of a live array, and the arrays are apart.
         let answer = unsafe {
-            raw::scarletbook_open(
+            raw::puigneht_open(
                 self.rate.hertz(),
                 self.cutoff as u8,
                 self.channels,
@@ -219,12 +267,12 @@ impl Converter {
 
     /// 32-bit samples of a run, the channels in turn.
     pub fn convert_run(&self, run: Run<'_>, out: &mut [i32]) -> Result<Clipped, Error> {
-        self.samples(raw::scarletbook_convert_run, run, out)
+        self.samples(raw::puigneht_convert_run, run, out)
     }
 
-    /// The same of one frame.
+    /// 32-bit samples of exactly one frame, the channels in turn.
     pub fn convert_frame(&self, run: Run<'_>, out: &mut [i32]) -> Result<Clipped, Error> {
-        self.samples(raw::scarletbook_convert_frame, run, out)
+        self.samples(raw::puigneht_convert_frame, run, out)
     }
 
     fn samples(
@@ -283,7 +331,7 @@ impl Converter {
         let mut told = Told::default();
         // SAFETY: each pointer and length is that of a live slice, and no written slice overlaps another.
         let answer = unsafe {
-            raw::scarletbook_convert(
+            raw::puigneht_convert(
                 self.rate.hertz(),
                 self.cutoff as u8,
                 self.channels,

@@ -1,7 +1,7 @@
-//! The library's functions, as include/scarletbook_pcm.h declares them.
+//! The library's functions, as include/puigneht.h declares them.
 
 extern "C" {
-    pub fn scarletbook_gain(
+    pub fn puigneht_gain(
         db: f64,
         gain: *mut f64,
         gain_len: usize,
@@ -9,7 +9,7 @@ extern "C" {
         decibels_len: usize,
     ) -> u8;
 
-    pub fn scarletbook_open(
+    pub fn puigneht_open(
         rate: u32,
         cutoff: u8,
         channels: u8,
@@ -23,7 +23,7 @@ extern "C" {
         decibels_len: usize,
     ) -> u8;
 
-    pub fn scarletbook_convert_run(
+    pub fn puigneht_convert_run(
         rate: u32,
         cutoff: u8,
         channels: u8,
@@ -47,7 +47,7 @@ extern "C" {
         decibels_len: usize,
     ) -> u8;
 
-    pub fn scarletbook_convert_frame(
+    pub fn puigneht_convert_frame(
         rate: u32,
         cutoff: u8,
         channels: u8,
@@ -71,7 +71,7 @@ extern "C" {
         decibels_len: usize,
     ) -> u8;
 
-    pub fn scarletbook_convert(
+    pub fn puigneht_convert(
         rate: u32,
         cutoff: u8,
         channels: u8,
@@ -98,10 +98,52 @@ extern "C" {
         decibels_len: usize,
     ) -> u8;
 
-    pub fn scarletbook_pack_s24le(
+    pub fn puigneht_pack_s24le(
         samples: *const i32,
         samples_len: usize,
         bytes: *mut u8,
         bytes_len: usize,
     );
+}
+
+#[cfg(test)]
+mod tests {
+    // A refused conversion writes the refusal's data and no other list, the clip counts neither.
+    #[test]
+    fn refused() {
+        let (gain, frames) = ([0.0, 1.0], [0x69; 4703]);
+        let (mut out, mut counts, mut clipped) = ([7u8; 3528], [7u64; 1], [7u64; 6]);
+        let (mut data, mut decibels) = ([7u64; 2], [7.0]);
+        // SAFETY: each pointer and length is that of a live array, and no written array overlaps another.
+        let answer = unsafe {
+            super::puigneht_convert(
+                88200,
+                0,
+                1,
+                gain.as_ptr(),
+                2,
+                0,
+                frames.as_ptr(),
+                0,
+                frames.as_ptr(),
+                frames.len(),
+                0,
+                frames.as_ptr(),
+                0,
+                1,
+                out.as_mut_ptr(),
+                out.len(),
+                counts.as_mut_ptr(),
+                counts.len(),
+                clipped.as_mut_ptr(),
+                6,
+                data.as_mut_ptr(),
+                2,
+                decibels.as_mut_ptr(),
+                1,
+            )
+        };
+        assert_eq!((answer, data, decibels), (4, [4703, 0], [0.0]));
+        assert_eq!((clipped, counts, out), ([7; 6], [7], [7; 3528]));
+    }
 }

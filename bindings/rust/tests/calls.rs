@@ -190,6 +190,62 @@ fn refusals() {
     assert!(out.iter().all(|&s| s == -1) && bytes.iter().all(|&b| b == 7) && counts == [9; 3]);
 }
 
+// Each refusal, as a call gives it, is a sentence with its numbers.
+#[test]
+fn sentences() {
+    let conv = mono();
+    let frame = noise(FRAME_BYTES);
+    let said = |e: Result<puigneht::Clipped, Error>| e.unwrap_err().to_string();
+    assert_eq!(
+        Converter {
+            channels: 7,
+            ..conv
+        }
+        .open()
+        .unwrap_err()
+        .to_string(),
+        "7 channels: there may be 1 to 6"
+    );
+    assert_eq!(
+        Converter {
+            cutoff: Cutoff::Wide,
+            ..conv
+        }
+        .open()
+        .unwrap_err()
+        .to_string(),
+        "the cutoff wide is not available at 88200 Hz"
+    );
+    assert_eq!(
+        gain(24.5).unwrap_err().to_string(),
+        "a gain of 24.5 dB: it may be -120 to 24, with the factor of these decibels"
+    );
+    assert_eq!(
+        said(conv.convert_run(alone(&frame[1..]), &mut [0; 1176])),
+        "4703 bytes are not whole frames: a frame has 4704 bytes of each channel"
+    );
+    assert_eq!(
+        said(conv.convert_frame(alone(&[]), &mut [0; 1176])),
+        "0 bytes are not one frame: a frame has 4704 bytes of each channel"
+    );
+    assert_eq!(
+        Error::Frames(540_001).to_string(),
+        "540001 frames in one call: there may be 540000"
+    );
+    assert_eq!(
+        said(conv.convert_run(alone(&frame), &mut [0; 1175])),
+        "room for 1175 samples, where 1176 are to be written"
+    );
+    assert_eq!(
+        said(conv.convert(alone(&frame), &mut [0; 3527], None)),
+        "room for 3527 bytes, where 3528 are to be written"
+    );
+    assert_eq!(
+        said(conv.convert(alone(&frame), &mut [0; 3528], Some(&mut []))),
+        "room for the counts of 0 frames, where there are 1"
+    );
+}
+
 #[test]
 #[ignore = "asks for 2.5 GB of memory, which it does not touch"]
 fn too_many_frames() {

@@ -1,4 +1,4 @@
-// The list that compare/answers.sh prints: conversions, and what the original answers to each.
+// The files that compare/answers.sh writes: conversions and refusals, and what the original answers to each.
 mod pattern;
 
 use pattern::{HALVES, bytes};
@@ -126,30 +126,17 @@ const LENGTHS: [[usize; 6]; 15] = [
     [3, 4704, 4704, 4704, 3528, 3],
 ];
 
-fn table(name: &str, comment: &str, rows: &[[u64; 9]]) {
-    println!("\n// {comment}\npub const {name}: [[u64; 9]; {}] = [", rows.len());
-    for row in rows {
-        println!("    [{}],", row.map(|n| n.to_string()).join(", "));
-    }
-    println!("];");
+// A line a row; each number as sixteen hexadecimal digits.
+fn file(name: &str, rows: impl IntoIterator<Item = Vec<u64>>) {
+    let line = |row: Vec<u64>| row.iter().map(|n| format!("{n:016x}")).collect::<Vec<_>>().join(" ") + "\n";
+    let path = std::path::PathBuf::from(std::env::args().nth(1).expect("a folder")).join(name);
+    std::fs::write(path, rows.into_iter().map(line).collect::<String>()).unwrap();
 }
 
 fn main() {
     let edges = [0, 1, 2, 3, 4, 5, 7, 8].map(edge);
-    let rows: Vec<Vec<u64>> = (0..96).map(case).chain(HALVES.map(half)).chain(edges).map(|case| case.row()).collect();
-    let width = rows[0].len();
-    println!("// What the original gives. Written by compare/answers.sh.\n");
-    println!("// A row: route, channels, decibels as bits, frames, neighbours (1 before, 2 after), pattern, seed; two digests of the samples,");
-    println!("// two of the bytes, the clips of six channels and of two frames.");
-    println!("pub const CONVERSIONS: [u64; {}] = [", width * rows.len());
-    for number in rows.concat() {
-        println!("    {number},");
-    }
-    println!("];");
-    table("SETTINGS", "Refused settings: route, channels, decibels as bits, three zeros; number and data.", &SETTINGS.map(settings));
-    table(
-        "LENGTHS",
-        "Refused lengths, mono at 88,200 Hz: the call (1 convert_run, 2 convert_frame, 3 convert), before, run, after, output, counts; number and data.",
-        &LENGTHS.map(lengths),
-    );
+    let cases = (0..96).map(case).chain(HALVES.map(half)).chain(edges);
+    file("conversions", cases.map(|case| case.row()));
+    file("refused_settings", SETTINGS.map(|row| settings(row).to_vec()));
+    file("refused_lengths", LENGTHS.map(|row| lengths(row).to_vec()));
 }

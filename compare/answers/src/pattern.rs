@@ -1,7 +1,7 @@
 // Bytes of frames by a pattern and a seed, and seeds that hit exact halves.
 pub const FRAME: usize = scarletbook_pcm::FRAME_BYTES_PER_CHANNEL;
 
-// Bytes by a pattern: 0 chance, 1 one byte, 2 loud, 3 repeating every four bytes of a channel. conversion_figures/src/input.rt has the same rule.
+// Bytes by a pattern: 0 chance, 1 one byte, 2 loud, 3 repeating every four bytes of a channel. test_conversions/src/input.rt has the same rule.
 pub fn bytes(pattern: u64, seed: u64, channels: usize, frames: usize) -> Vec<u8> {
     let mut x = seed;
     let mut all = vec![0; frames * FRAME * channels];

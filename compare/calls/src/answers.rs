@@ -36,27 +36,27 @@ pub mod port {
     use super::*;
 
     unsafe extern "C" {
-        fn scarletbook_gain(db: f64, gain: *mut f64, gains: usize, decibels: *mut f64, n: usize) -> u8;
-        fn scarletbook_open(
+        fn puigneht_gain(db: f64, gain: *mut f64, gains: usize, decibels: *mut f64, n: usize) -> u8;
+        fn puigneht_open(
             rate: u32, cutoff: u8, channels: u8, gain: *const f64, gains: usize, opened: *mut u64, opens: usize, data: *mut u64, datas: usize,
             decibels: *mut f64, n: usize,
         ) -> u8;
-        fn scarletbook_convert_run(
+        fn puigneht_convert_run(
             rate: u32, cutoff: u8, channels: u8, gain: *const f64, gains: usize, has_before: u8, before: *const u8, befores: usize,
             frames: *const u8, framess: usize, has_after: u8, after: *const u8, afters: usize, out: *mut i32, outs: usize,
             clipped: *mut u64, clips: usize, data: *mut u64, datas: usize, decibels: *mut f64, n: usize,
         ) -> u8;
-        fn scarletbook_convert_frame(
+        fn puigneht_convert_frame(
             rate: u32, cutoff: u8, channels: u8, gain: *const f64, gains: usize, has_before: u8, before: *const u8, befores: usize,
             frames: *const u8, framess: usize, has_after: u8, after: *const u8, afters: usize, out: *mut i32, outs: usize,
             clipped: *mut u64, clips: usize, data: *mut u64, datas: usize, decibels: *mut f64, n: usize,
         ) -> u8;
-        fn scarletbook_convert(
+        fn puigneht_convert(
             rate: u32, cutoff: u8, channels: u8, gain: *const f64, gains: usize, has_before: u8, before: *const u8, befores: usize,
             frames: *const u8, framess: usize, has_after: u8, after: *const u8, afters: usize, lent: u8, out: *mut u8, outs: usize,
             counts: *mut u64, countss: usize, clipped: *mut u64, clips: usize, data: *mut u64, datas: usize, decibels: *mut f64, n: usize,
         ) -> u8;
-        fn scarletbook_pack_s24le(samples: *const i32, n: usize, bytes: *mut u8, m: usize);
+        fn puigneht_pack_s24le(samples: *const i32, n: usize, bytes: *mut u8, m: usize);
     }
 
     // What comes back through the lent slices.
@@ -70,14 +70,16 @@ pub mod port {
         Back { clipped: [7; 6], data: [7; 2], decibels: [7.0] }
     }
 
+    // A refused call has kept the list of clips: what it changed there is told.
     fn answer(number: u8, b: Back) -> Answer {
-        Answer { number, data: b.data, decibels: bits(b.decibels[0]), clipped: b.clipped }
+        let clipped = if number == 0 { b.clipped } else { b.clipped.map(|n| n ^ 7) };
+        Answer { number, data: b.data, decibels: bits(b.decibels[0]), clipped }
     }
 
     // The gain record of some decibels; where they are refused, the answer.
     pub fn gain(db: f64) -> Result<[f64; 2], Answer> {
         let (mut gain, mut decibels) = ([7.0; 2], [7.0]);
-        let number = unsafe { scarletbook_gain(db, gain.as_mut_ptr(), 2, decibels.as_mut_ptr(), 1) };
+        let number = unsafe { puigneht_gain(db, gain.as_mut_ptr(), 2, decibels.as_mut_ptr(), 1) };
         if number == 0 { Ok(gain) } else { Err(Answer { number, decibels: bits(decibels[0]), ..Default::default() }) }
     }
 
@@ -85,19 +87,21 @@ pub mod port {
     pub fn open(s: Settings, gain: [f64; 2]) -> (Answer, [u64; 2]) {
         let (mut b, mut opened) = (back(), [7; 2]);
         let number = unsafe {
-            scarletbook_open(
+            puigneht_open(
                 RATES[s.rate], s.cutoff as u8, s.channels, gain.as_ptr(), 2, opened.as_mut_ptr(), 2, b.data.as_mut_ptr(), 2,
                 b.decibels.as_mut_ptr(), 1,
             )
         };
-        b.clipped = [0; 6];
+        if number == 0 {
+            b.clipped = [0; 6];
+        }
         (answer(number, b), opened)
     }
 
     pub fn convert_run(s: Settings, gain: [f64; 2], one: bool, i: &Input, out: &mut [i32]) -> Answer {
         let mut b = back();
         let (before, after) = (i.before.unwrap_or(&[]), i.after.unwrap_or(&[]));
-        let call = if one { scarletbook_convert_frame } else { scarletbook_convert_run };
+        let call = if one { puigneht_convert_frame } else { puigneht_convert_run };
         let number = unsafe {
             call(
                 RATES[s.rate], s.cutoff as u8, s.channels, gain.as_ptr(), 2, i.before.is_some().into(), before.as_ptr(), before.len(),
@@ -114,7 +118,7 @@ pub mod port {
         let lent = counts.is_some().into();
         let counts = counts.unwrap_or(&mut []);
         let number = unsafe {
-            scarletbook_convert(
+            puigneht_convert(
                 RATES[s.rate], s.cutoff as u8, s.channels, gain.as_ptr(), 2, i.before.is_some().into(), before.as_ptr(), before.len(),
                 i.frames.as_ptr(), i.frames.len(), i.after.is_some().into(), after.as_ptr(), after.len(), lent, out.as_mut_ptr(), out.len(),
                 counts.as_mut_ptr(), counts.len(), b.clipped.as_mut_ptr(), 6, b.data.as_mut_ptr(), 2, b.decibels.as_mut_ptr(), 1,
@@ -131,7 +135,7 @@ pub mod port {
         let (mut out, mut counts) = ([7u8; 3528], [7u64; 1]);
         let (mut clipped, mut data, mut decibels) = ([7u64; 7], [7u64; 3], [7.0f64; 2]);
         let number = unsafe {
-            scarletbook_convert(
+            puigneht_convert(
                 wrong(0, 88200, 44100) as u32, wrong(1, 0, 3) as u8, 1, gain.as_ptr(), wrong(2, 2, 3) as usize, wrong(3, 1, 2) as u8,
                 frame.as_ptr(), 4704, frame.as_ptr(), 4704, wrong(4, 1, 255) as u8, frame.as_ptr(), 4704, wrong(5, 1, 2) as u8,
                 out.as_mut_ptr(), 3528, counts.as_mut_ptr(), 1, clipped.as_mut_ptr(), wrong(6, 6, 7) as usize, data.as_mut_ptr(),
@@ -147,7 +151,7 @@ pub mod port {
         let (gain, mut b) = ([0.0, 1.0], back());
         let none = std::ptr::null_mut::<u8>();
         let number = unsafe {
-            scarletbook_convert(
+            puigneht_convert(
                 88200, 0, 1, gain.as_ptr(), 2, 0, none, 0, none, 0, 0, none, 0, 0, none, 0, none.cast(), 0, b.clipped.as_mut_ptr(), 6,
                 b.data.as_mut_ptr(), 2, b.decibels.as_mut_ptr(), 1,
             )
@@ -156,7 +160,7 @@ pub mod port {
     }
 
     pub fn pack_s24le(samples: &[i32], bytes: &mut [u8]) {
-        unsafe { scarletbook_pack_s24le(samples.as_ptr(), samples.len(), bytes.as_mut_ptr(), bytes.len()) }
+        unsafe { puigneht_pack_s24le(samples.as_ptr(), samples.len(), bytes.as_mut_ptr(), bytes.len()) }
     }
 }
 

@@ -5,7 +5,7 @@ use mathlib.Core.List.{List}
 use Prim.Native.Nat.{ℕ, _+_, _*_, _%_, _^_, _≤_, _<_}
 use native.Mathlib.Nat.{mul-le-mul}
 use native.Mathlib.Omega.{arith}
-use lib.Dec.{lit≤, lit<}
+use lib.Dec.{lit<}
 use lib.IntN.{ℤ, pos, natAbs}
 use lib.ListN.{length, getD}
 use Rattle.numbers.specs.Lists.{Held}
@@ -17,6 +17,7 @@ use Rattle.reference.specs.declared.PcmRate.{PcmRate}
 use Rattle.reference.specs.declared.PcmRate.the-variants.{Hz88200, Hz176400, Hz352800}
 use Rattle.reference.specs.declared.Cutoff.{Cutoff}
 use Rattle.reference.specs.declared.Converter.{Converter}
+use Rattle.reference.proofs.Frames.{frame-samples}
 use Rattle.channel_bytes.specs.Lent.{lent-run, byte-at}
 use Rattle.route_states.specs.Routes.{y-of, last-taps, block-length}
 use Rattle.route_states.proofs.Routes.{y-of-is, y-of-size}
@@ -34,23 +35,11 @@ y-is rate cutoff h e β n = rw e (y-of-is rate cutoff β n)
 
 -- ---- numbers of a rate
 
-pub frame-samples : (rate : PcmRate) → samples-per-frame rate ≤ 4704
-unfolding samples-per-frame
-frame-samples Hz88200 = lit≤ tt
-frame-samples Hz176400 = lit≤ tt
-frame-samples Hz352800 = lit≤ tt
-
 pub some-block : (rate : PcmRate) → 0 < block-length rate
 unfolding block-length
 some-block Hz88200 = lit< tt
 some-block Hz176400 = lit< tt
 some-block Hz352800 = lit< tt
-
-pub block-fits : (rate : PcmRate) → block-length rate ≤ 336
-unfolding block-length
-block-fits Hz88200 = lit≤ tt
-block-fits Hz176400 = lit≤ tt
-block-fits Hz352800 = lit≤ tt
 
 -- a frame is an even number of samples, and so are more of them
 pub even-frame : (rate : PcmRate) → samples-per-frame rate % 2 ≡ 0

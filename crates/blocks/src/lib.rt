@@ -11,17 +11,6 @@ use gain::Tally;
 use reference::Converter;
 use reference::PcmRate;
 
-// Samples of one channel in a frame.
-pub fn samples_per_frame(rate: PcmRate) -> usize
-    ensures { λ r. ⌜ (r ≡ samples-per-frame rate) × (r ≤ 4704) ⌝ }
-{
-    match rate {
-        PcmRate::Hz88200 => 1176,
-        PcmRate::Hz176400 => 2352,
-        PcmRate::Hz352800 => 4704,
-    }
-}
-
 // Samples of a block.
 pub fn block_length(rate: PcmRate) -> usize
     ensures { λ r. ⌜ (r ≡ block-length rate) × (0 < r) × (r ≤ 336) ⌝ }
@@ -67,7 +56,7 @@ fn scaled<'a>(
     let gain = conv.gain;
     let factor = gain.linear;
     let ch = conv.channels as usize;
-    let first = samples_per_frame(rate) + n;
+    let first = reference::samples_per_frame(rate) + n;
     kernel::step(
         rate,
         cutoff,
@@ -188,7 +177,7 @@ pub fn channel<'a>(
     let rate = conv.rate;
     let cutoff = conv.cutoff;
     let ch = conv.channels as usize;
-    let spf = samples_per_frame(rate);
+    let spf = reference::samples_per_frame(rate);
     let first = spf + n;
     kernel::prime(
         rate,

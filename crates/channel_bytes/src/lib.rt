@@ -71,7 +71,7 @@ fn fill_idle(at: usize, m: usize, bytes: &mut [u8])
     }
 }
 
-// The same of a part that is a frame or nothing, which reads idle.
+// m bytes of channel c of a part that is a frame, from its byte off on, or idle bytes if it is nothing, go to place at.
 fn copy(part: &[u8], ch: usize, c: usize, off: usize, at: usize, m: usize, bytes: &mut [u8])
     requires { ⌜ (ch ≤ 6) × (c < ch) × (off + m ≤ 4704) × (at + m ≤ length (now bytes)) × (0 < length (now part) → length (now part) ≡ frame-length ch) ⌝ }
     ensures { λ _. ⌜ Wrote 0 (λ j. getD (now (part .entry)) ((off + j) * ch + c) 0x69) at m (now (bytes .entry)) (now (bytes .exit)) ⌝ }

@@ -5,11 +5,14 @@ ghost use Prim.Native.Nat.{_*_, _<_, _≤_};
 ghost use Rattle.reference.specs.Frames.{run, frame-count};
 ghost use Rattle.reference.specs.Output.{samples-per-frame};
 ghost use Rattle.reference.specs.Refusals as table;
-ghost use Rattle.reference.specs.Refusals.{decision, decide, is-accepted, opening-places, one-frame, input-places, run-lengths, byte-lengths, convert-run-places, convert-frame-places, convert-places};
+ghost use Rattle.reference.specs.Refusals.{rack, decision, decide, is-accepted, opening-places, held-places, one-frame, input-places, run-lengths, byte-lengths, convert-run-places, convert-frame-places, convert-places};
 use reference::Converter;
 use reference::Cutoff;
+use reference::FRAME_BYTES;
+use reference::MOST_FRAMES;
 use reference::PcmError;
 use reference::PcmRate;
+use reference::Settings;
 use reference::Verdict;
 
 pub fn accepted(v: Verdict) -> bool
@@ -35,28 +38,43 @@ fn unsupported(rate: PcmRate, cutoff: Cutoff) -> bool
     }
 }
 
-// The places of opening, which each conversion tries again.
-pub fn opening(conv: Converter) -> Verdict
-    ensures { λ r. ⌜ decision r ≡ decide (opening-places conv) ⌝ }
+// All that opening tries.
+pub fn opening(settings: Settings) -> Verdict
+    ensures { λ r. ⌜ decision r ≡ decide (opening-places settings) ⌝ }
 {
-    let channels = conv.channels;
+    let channels = settings.channels;
     if channels < 1 {
         return Verdict::Refused(PcmError::Channels(channels));
     }
     if channels > 6 {
         return Verdict::Refused(PcmError::Channels(channels));
     }
-    let rate = conv.rate;
-    let cutoff = conv.cutoff;
+    let rate = settings.rate;
+    let cutoff = settings.cutoff;
     if unsupported(rate, cutoff) {
         return Verdict::Refused(PcmError::Unsupported(rate, cutoff));
     }
-    let gain = conv.gain;
+    let gain = settings.gain;
     if gain::right_gain(gain) {
         return Verdict::Accepted;
     }
     let db = gain.db;
     Verdict::Refused(PcmError::Gain(db))
+}
+
+// What each conversion tries first: the converter as it is held.
+fn held(conv: Converter) -> Verdict
+    ensures { λ r. ⌜ decision r ≡ decide (held-places conv) ⌝ }
+{
+    let rate = conv.rate;
+    let cutoff = conv.cutoff;
+    let gain = conv.gain;
+    opening(Settings {
+        rate,
+        cutoff,
+        channels: conv.channels,
+        gain,
+    })
 }
 
 // `convert_frame`'s run.
@@ -65,7 +83,7 @@ fn one(conv: Converter, frames: &[u8]) -> Verdict
     ensures { λ r. ⌜ decision r ≡ decide (one-frame (conv .channels) (now (frames .entry)) ∷ []) ⌝ }
 {
     let n = frames.len();
-    if n != 4704 * (conv.channels as usize) {
+    if n != FRAME_BYTES * (conv.channels as usize) {
         return Verdict::Refused(PcmError::InputLength(n, 1));
     }
     Verdict::Accepted
@@ -81,15 +99,15 @@ fn input(
     after: &[u8],
 ) -> Verdict
     requires { ⌜ (0 < conv .channels) × (conv .channels ≤ 6) ⌝ }
-    ensures { λ r. ⌜ decision r ≡ decide (input-places conv (run «has_before» (now (before .entry)) (now (frames .entry)) «has_after» (now (after .entry)))) ⌝ }
+    ensures { λ r. ⌜ decision r ≡ decide (input-places rack conv (run «has_before» (now (before .entry)) (now (frames .entry)) «has_after» (now (after .entry)))) ⌝ }
 {
-    let size = 4704 * (conv.channels as usize);
+    let size = FRAME_BYTES * (conv.channels as usize);
     let n = frames.len();
     if n % size != 0 {
         return Verdict::Refused(PcmError::InputLength(n, 0));
     }
     let count = n / size;
-    if count > 540000 {
+    if count > MOST_FRAMES {
         return Verdict::Refused(PcmError::Frames(count));
     }
     if has_before {
@@ -115,8 +133,8 @@ fn all_samples(conv: Converter, frames: &[u8]) -> usize
 {
     let ch = conv.channels as usize;
     let rate = conv.rate;
-    let count = frames.len() / (4704 * ch);
-    count * blocks::samples_per_frame(rate) * ch
+    let count = frames.len() / (FRAME_BYTES * ch);
+    count * reference::samples_per_frame(rate) * ch
 }
 
 // From the run length on, with 32-bit output.
@@ -156,7 +174,7 @@ fn byte_lengths(
     counts: &[u64],
 ) -> Verdict
     requires { ⌜ (0 < conv .channels) × (conv .channels ≤ 6) ⌝ }
-    ensures { λ r. ⌜ decision r ≡ decide (byte-lengths conv (run «has_before» (now (before .entry)) (now (frames .entry)) «has_after» (now (after .entry))) (now (out .entry)) lent (now (counts .entry))) ⌝ }
+    ensures { λ r. ⌜ decision r ≡ decide (byte-lengths rack conv (run «has_before» (now (before .entry)) (now (frames .entry)) «has_after» (now (after .entry))) (now (out .entry)) lent (now (counts .entry))) ⌝ }
 {
     let v = input(conv, has_before, before, frames, has_after, after);
     if !accepted(v) {
@@ -169,7 +187,7 @@ fn byte_lengths(
     }
     if lent {
         let m = counts.len();
-        let count = frames.len() / (4704 * (conv.channels as usize));
+        let count = frames.len() / (FRAME_BYTES * (conv.channels as usize));
         if m != count {
             return Verdict::Refused(PcmError::FrameCounts(m, count));
         }
@@ -189,7 +207,7 @@ pub fn run_call(
 ) -> Verdict
     ensures { λ r. ⌜ decision r ≡ decide (convert-run-places conv (run «has_before» (now (before .entry)) (now (frames .entry)) «has_after» (now (after .entry))) (now (out .entry))) ⌝ }
 {
-    let v = opening(conv);
+    let v = held(conv);
     if accepted(v) {
         return item_lengths(conv, has_before, before, frames, has_after, after, out);
     }
@@ -208,7 +226,7 @@ pub fn frame_call(
 ) -> Verdict
     ensures { λ r. ⌜ decision r ≡ decide (convert-frame-places conv (run «has_before» (now (before .entry)) (now (frames .entry)) «has_after» (now (after .entry))) (now (out .entry))) ⌝ }
 {
-    let v = opening(conv);
+    let v = held(conv);
     if accepted(v) {
         let w = one(conv, frames);
         if accepted(w) {
@@ -231,9 +249,9 @@ pub fn byte_call(
     lent: bool,
     counts: &[u64],
 ) -> Verdict
-    ensures { λ r. ⌜ decision r ≡ decide (convert-places conv (run «has_before» (now (before .entry)) (now (frames .entry)) «has_after» (now (after .entry))) (now (out .entry)) lent (now (counts .entry))) ⌝ }
+    ensures { λ r. ⌜ decision r ≡ decide (convert-places rack conv (run «has_before» (now (before .entry)) (now (frames .entry)) «has_after» (now (after .entry))) (now (out .entry)) lent (now (counts .entry))) ⌝ }
 {
-    let v = opening(conv);
+    let v = held(conv);
     if accepted(v) {
         return byte_lengths(
             conv,

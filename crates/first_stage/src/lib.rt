@@ -1,13 +1,10 @@
-// Module 4: u by look-ups in the byte tables.
+// Module 4: sums of look-ups in byte tables, over windows of bytes. Of the tables of S1 or S1_WIDE they are u: crate stages.
 ghost use mathlib.Core.Path.{_≡_};
-ghost use mathlib.Core.List.{List};
-ghost use Prim.Native.Nat.{ℕ, _+_, _*_, _≤_, _<_};
-ghost use lib.IntN.{ℤ, pos, natAbs, _+ℤ_};
+ghost use Prim.Native.Nat.{_+_, _*_, _≤_, _<_};
+ghost use lib.IntN.{pos, natAbs, _+ℤ_};
 ghost use lib.ListN.{length, getD};
 ghost use Rattle.numbers.specs.Sums.{sumTo, at0};
 ghost use Rattle.numbers.specs.Lists.{Held};
-ghost use Rattle.reference.specs.Stages.{u};
-ghost use Rattle.tables.specs.Tables.{ByteTables};
 ghost use Rattle.first_stage.specs.Windows.{window-sum};
 
 fn look(tables: &[i32], i: usize) -> i64
@@ -54,8 +51,8 @@ fn window(tables: &[i32], half: usize, bytes: &[u8], at: usize) -> i64
     table_sum(tables, &bytes[at..end])
 }
 
-// u at every step-th place: of bytes from position base on, the first value is the one at base + start + half. Two windows are summed in a
-// turn: most bytes of the second are loaded for the first.
+// The sums of every step-th window, from byte `start` on. Two windows are summed in a turn: most bytes of the second are loaded for the
+// first.
 pub fn first_stage(
     tables: &[i32],
     half: usize,
@@ -65,7 +62,7 @@ pub fn first_stage(
     out: &mut [i64],
 )
     requires { ⌜ (length (now tables) ≡ 256 * (2 * half)) × (half ≤ 6) × (start + step * length (now out) + 2 * half ≤ length (now bytes) + step) × (length (now bytes) ≤ 512) × (step ≤ 2) ⌝ }
-    ensures { λ _. ⌜ ((h : List ℤ) (β : ℕ → ℕ) (base : ℕ) → length h ≡ 8 * half → 0 < half → ByteTables h (2 * half) (now (tables .entry)) → Held 0 β base (length (now (bytes .entry))) (now (bytes .entry)) → Held (pos 0) (λ k. u h β (base + start + half + step * k)) 0 (length (now (out .entry))) (now (out .exit))) ⌝ }
+    ensures { λ _. ⌜ Held (pos 0) (λ k. window-sum (now (tables .entry)) half (now (bytes .entry)) (start + step * k)) 0 (length (now (out .entry))) (now (out .exit)) ⌝ }
 {
     let mut k: usize = 0;
     while k + 1 < out.len() {

@@ -50,11 +50,11 @@ fn scale(y: i64, factor: f64) -> Scaled
     let x = (y as f64) * factor * 0.125;
     let z = nearest_even(x);
     let s = clip(z);
+    let sample = s as i32;
+    let clipped = (s != z) as u64;
     Scaled {
-        sample: s as i32,
-        tally: Tally {
-            clipped: (s != z) as u64,
-        },
+        sample,
+        tally: Tally { clipped },
     }
 }
 

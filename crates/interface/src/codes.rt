@@ -2,12 +2,14 @@
 ghost use mathlib.Core.Path.{_≡_};
 ghost use mathlib.Core.Bool.{_&&_};
 ghost use lib.ListN.{length};
+ghost use Rattle.reference.specs.Settings.{converter-of};
 ghost use Rattle.interface.specs.Codes as codes;
-ghost use Rattle.interface.specs.Settings.{settings, known-settings, converter-of};
+ghost use Rattle.interface.specs.Settings.{c-settings, known-settings, settings-of};
 use reference::Converter;
 use reference::Cutoff;
 use reference::Gain;
 use reference::PcmRate;
+use reference::Settings;
 
 pub fn hertz(rate: PcmRate) -> u64
     ensures { λ r. ⌜ r ≡ codes.hertz rate ⌝ }
@@ -76,10 +78,10 @@ pub fn known_settings(rate: u32, cutoff: u8, floats: usize) -> bool
     both(known_rate, both(known_cutoff, floats == 2))
 }
 
-// The converter that some settings stand for.
-pub fn converter(rate: u32, cutoff: u8, channels: u8, gain: &[f64]) -> Converter
+// The settings that the numbers of known ones stand for.
+pub fn settings(rate: u32, cutoff: u8, channels: u8, gain: &[f64]) -> Settings
     requires { ⌜ length (now gain) ≡ 2 ⌝ }
-    ensures { λ r. ⌜ r ≡ converter-of (settings rate cutoff channels (now (gain .entry))) ⌝ }
+    ensures { λ r. ⌜ r ≡ settings-of (c-settings rate cutoff channels (now (gain .entry))) ⌝ }
 {
     let rate = rate_of(rate);
     let cutoff = cutoff_of(cutoff);
@@ -87,10 +89,19 @@ pub fn converter(rate: u32, cutoff: u8, channels: u8, gain: &[f64]) -> Converter
         db: gain[0],
         linear: gain[1],
     };
-    Converter {
+    Settings {
         rate,
         cutoff,
         channels,
         gain,
     }
+}
+
+// And the converter of these.
+pub fn converter(rate: u32, cutoff: u8, channels: u8, gain: &[f64]) -> Converter
+    requires { ⌜ length (now gain) ≡ 2 ⌝ }
+    ensures { λ r. ⌜ r ≡ converter-of (settings-of (c-settings rate cutoff channels (now (gain .entry)))) ⌝ }
+{
+    let s = settings(rate, cutoff, channels, gain);
+    reference::converter_of(s)
 }

@@ -12,6 +12,7 @@ pub use codes::both;
 pub use codes::converter;
 pub use codes::known_flag;
 pub use codes::known_settings;
+pub use codes::settings;
 pub use results::put_two;
 pub use results::room;
 use results::room_for_all;

@@ -3,6 +3,7 @@ ghost use mathlib.Core.Path.{_≡_};
 ghost use mathlib.Core.List.{[], _∷_};
 ghost use lib.ListN.{length};
 ghost use Rattle.reference.specs.Refusals.{error-decision, decision, gain-decision};
+ghost use Rattle.reference.specs.Promises.{by-decision};
 ghost use Rattle.reference.specs.Scaling.{whole};
 ghost use Rattle.interface.specs.Codes.{report};
 ghost use Rattle.interface.specs.Told as told;
@@ -52,6 +53,11 @@ pub fn of_error(e: PcmError) -> Report
         PcmError::OutputLength(n, expected) => numbers(6, n as u64, expected as u64),
         PcmError::OutputBytes(n, expected) => numbers(7, n as u64, expected as u64),
         PcmError::FrameCounts(n, expected) => numbers(8, n as u64, expected as u64),
+        PcmError::NotDsf => numbers(9, 0, 0),
+        PcmError::DsfFormat => numbers(10, 0, 0),
+        PcmError::DsfLength => numbers(11, 0, 0),
+        PcmError::NotWav => numbers(12, 0, 0),
+        PcmError::Schedule => numbers(19, 0, 0),
     }
 }
 
@@ -111,7 +117,7 @@ pub fn tell(v: Verdict, data: &mut [u64], decibels: &mut [f64]) -> u8
     report.number
 }
 
-// The same of a gain, whose record is written if it was made.
+// Of a gain also its record, if it was made.
 pub fn tell_gain(made: FromDb, gain: &mut [f64], decibels: &mut [f64]) -> u8
     requires { ⌜ (length (now gain) ≡ 2) × (length (now decibels) ≡ 1) ⌝ }
     ensures { λ r. ⌜ Told (gain-decision made) r (now (decibels .exit)) ⌝ }
@@ -132,7 +138,7 @@ pub fn tell_gain(made: FromDb, gain: &mut [f64], decibels: &mut [f64]) -> u8
     }
 }
 
-// The same of a conversion, with its clip counts.
+// Of a conversion also its clip counts, if it was accepted.
 pub fn tell_conversion(
     made: Converted,
     clipped: &mut [u64],
@@ -142,10 +148,15 @@ pub fn tell_conversion(
     requires { ⌜ length (now clipped) ≡ 6 ⌝ }
     requires { ⌜ (length (now «data») ≡ 2) × (length (now decibels) ≡ 1) ⌝ }
     ensures { λ r. ⌜ ToldWhole (decision (made .verdict)) r (now («data» .exit)) (now (decibels .exit)) ⌝ }
-    ensures { λ _. ⌜ now (clipped .exit) ≡ made .stats .clipped ⌝ }
+    ensures { λ _. ⌜ now (clipped .exit) ≡ by-decision (decision (made .verdict)) (made .stats .clipped) (now (clipped .entry)) ⌝ }
 {
-    let stats = made.stats;
-    put_counts(stats, clipped);
     let verdict = made.verdict;
-    tell(verdict, data, decibels)
+    match verdict {
+        Verdict::Accepted => {
+            let stats = made.stats;
+            put_counts(stats, clipped);
+            tell(verdict, data, decibels)
+        }
+        Verdict::Refused(_) => tell(verdict, data, decibels),
+    }
 }

@@ -4,8 +4,8 @@ use mathlib.Core.Bool.{Bool, true, false, cond}
 use mathlib.Core.List.{List}
 use Prim.Native.Nat.{ℕ, _+_, _-_, _*_, _/_, _%_, _^_, _<_}
 use native.Mathlib.Omega.{arith}
-use borrow.Author.Tests.{ltb-true, ltb-false, lt-ltb, le-ltb}
-use lib.Dec.{ltb, lit<}
+use borrow.Author.Tests.{ltb-false, lt-ltb, le-ltb}
+use lib.Dec.{lit<}
 use lib.IntN.{ℤ, pos, negsuc}
 use lib.ListN.{length, getD}
 use lib.Signed.{mag, ltZ}
@@ -33,23 +33,6 @@ signed-low (negsuc n) h =
     let e : n % 2 ^ 24 ≡ n = omega arith in
     let f : 2 ^ 24 - 1 - (2 ^ 24 - 1 - n) ≡ n = omega arith in
     rw (e, le-ltb (2 ^ 24 - 1 - n) (2 ^ 23) (omega arith), f)
-
-low24-pos : (n : ℕ) → n < 2 ^ 24 → low24 (pos n) ≡ n
-unfolding low24
-low24-pos n h = omega arith
-
-low24-negsuc : (n : ℕ) → n < 2 ^ 24 → low24 (negsuc (2 ^ 24 - 1 - n)) ≡ n
-unfolding low24
-low24-negsuc n h = omega arith
-
--- `signed24 n` is what its comment says: in the range, and n its low 24 bits
-pub signed-holds : (n : ℕ) → n < 2 ^ 24 → (low24 (signed24 n) ≡ n) × (mag (signed24 n) < 2 ^ 23)
-unfolding signed24
-signed-holds n h = go (ltb n (2 ^ 23)) refl
-  where
-    go : (b : Bool) → ltb n (2 ^ 23) ≡ b → (low24 (cond b (pos n) (negsuc (2 ^ 24 - 1 - n))) ≡ n) × (mag (cond b (pos n) (negsuc (2 ^ 24 - 1 - n))) < 2 ^ 23)
-    go true e = (low24-pos n h, ltb-true n (2 ^ 23) e)
-    go false e = (low24-negsuc n h, omega (arith, ltb-false n (2 ^ 23) e))
 
 three-bytes : (n : ℕ) → n < 2 ^ 24 → n / 256 ^ 0 % 256 + 256 * (n / 256 ^ 1 % 256) + 65536 * (n / 256 ^ 2 % 256) ≡ n
 three-bytes n h = omega arith

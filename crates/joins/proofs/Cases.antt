@@ -7,6 +7,7 @@ use native.Mathlib.Nat.{zero-add}
 use native.Mathlib.Omega.{arith}
 use lib.ListN.{getD, replicate}
 use Rattle.reference.specs.Frames.{Run, idle, frame-length, frame-count, frame, neighbour, before-frame, sequence, channel-byte}
+use Rattle.reference.specs.Refusals.{rack}
 use Rattle.reference.specs.declared.Converter.{Converter}
 use Rattle.reference.proofs.Locality.{reach-small}
 use Rattle.reference.proofs.Frames.{channel-left, channel-right, channel-frame}
@@ -36,7 +37,7 @@ unfolding sequence
 own conv r a =
     let ch = conv .channels in
     let n = frame-count ch (r .frames) in
-    let one = one-before conv r (a .fits) in
+    let one = one-before rack conv r (a .fits) in
     let small = reach-small (conv .rate) (conv .cutoff) in
     record {
       last = record { same = λ c k l m. sym (channel-frame ch c (sequence ch r) 0 _ l (omega arith) ∙ rw zero-add (channel-left ch c (before-frame ch r) _ 1 (omega arith) _ l (omega arith))) };
@@ -45,7 +46,7 @@ own conv r a =
             let e : 4704 * suc (0 + n) + (0 + k) ≡ 4704 * 1 + (4704 * n + (0 + k)) = omega arith in
             sym (channel-frame ch c (sequence ch r) (suc (0 + n)) (0 + k) l (omega arith)
             ∙ rw e (channel-right ch c (before-frame ch r) _ 1 (omega arith) (4704 * n + (0 + k))
-            ∙ channel-right ch c (r .frames) _ n (whole-frames conv r (a .fits)) (0 + k)));
+            ∙ channel-right ch c (r .frames) _ n (whole-frames rack conv r (a .fits)) (0 + k)));
       };
     }
 

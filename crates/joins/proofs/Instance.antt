@@ -17,7 +17,7 @@ use Rattle.reference.specs.Frames.{Run, run, idle, frame-length, frame-count, f
 use Rattle.reference.specs.Scaling.{LN-10, magnitude, exponent, series, squared, db-to-linear, allowed, right-gain}
 use Rattle.reference.specs.Figures.{mono}
 use Rattle.reference.specs.Output.{samples-per-frame, channel-samples, all-samples, samples, stats, s24le}
-use Rattle.reference.specs.Refusals.{number, accepted, refused, Place, decide, is-accepted, unsupported, opening-places, input-places, run-length, one-frame, if-present, lent-length, byte-lengths, run-lengths, convert-places, convert-run-places}
+use Rattle.reference.specs.Refusals.{rack, number, accepted, refused, Place, decide, is-accepted, unsupported, opening-places, held-places, input-places, run-length, one-frame, if-present, lent-length, byte-lengths, run-lengths, convert-places, convert-run-places}
 use Rattle.reference.specs.Promises.{if-lent, no-clips}
 use Rattle.reference.specs.declared.Converter.{Converter}
 use Rattle.reference.specs.declared.Verdict.the-variants as verdict
@@ -35,7 +35,7 @@ passes (p ∷ ps) h = at-next p ps (h .0) ∙ passes ps (h .1)
 not-same : (m n : ℕ) → m ≡ n → not (eqb m n) ≡ false
 not-same m n e = rw (eq-eqb m n e)
 
-module _ (conv : Converter) (opens : decide (opening-places conv) ≡ accepted) (some : 0 < conv .channels)
+module _ (conv : Converter) (opens : decide (held-places conv) ≡ accepted) (some : 0 < conv .channels)
     (A B : List ℕ) (one : length A ≡ frame-length (conv .channels)) (two : length B ≡ frame-length (conv .channels)) where
   abbrev ch : ℕ
   ch = conv .channels
@@ -66,14 +66,14 @@ module _ (conv : Converter) (opens : decide (opening-places conv) ≡ accepted) 
   room : List ℕ
   room = replicate (3 * all-samples conv first) 0
 
-  first-lengths : decide (byte-lengths conv first room false []) ≡ accepted
+  first-lengths : decide (byte-lengths rack conv first room false []) ≡ accepted
   unfolding byte-lengths input-places run-length if-present one-frame lent-length first room
   first-lengths =
       passes _ (not-same _ 0 (whole A one), (few A one, (not-same (length B) (frame-length ch) two, (not-same _ _ (length-replicate (3 * all-samples conv first) 0), tt))))
 
-  first-fits : decide (convert-places conv first room false []) ≡ accepted
+  first-fits : decide (convert-places rack conv first room false []) ≡ accepted
   unfolding convert-places
-  first-fits = decide-skip (opening-places conv) _ opens ∙ first-lengths
+  first-fits = decide-skip (held-places conv) _ opens ∙ first-lengths
 
   first-call : ConvertCall conv
   unfolding if-lent
@@ -98,17 +98,17 @@ module _ (conv : Converter) (opens : decide (opening-places conv) ≡ accepted) 
   unfolding all-samples channel-samples first
   some-room e = omega (arith, ap (λ n. n * samples-per-frame (conv .rate) * ch) (one-count A one), mul-le-mul (some-samples (conv .rate)) some)
 
-  short-lengths : decide (byte-lengths conv first [] false []) ≡ refused 7 (number 0 ∷ number (3 * all-samples conv first) ∷ [])
+  short-lengths : decide (byte-lengths rack conv first [] false []) ≡ refused 7 (number 0 ∷ number (3 * all-samples conv first) ∷ [])
   unfolding byte-lengths input-places run-length if-present one-frame lent-length first
   short-lengths =
       at-next _ _ (not-same _ 0 (whole A one)) ∙ at-next _ _ (few A one) ∙ at-next _ _ (not-same (length B) (frame-length ch) two)
       ∙ at-first _ _ (rw (ne-eqb 0 (3 * all-samples conv first) some-room))
 
-  short-refused : decide (convert-places conv first [] false []) ≡ refused 7 (number 0 ∷ number (3 * all-samples conv first) ∷ [])
+  short-refused : decide (convert-places rack conv first [] false []) ≡ refused 7 (number 0 ∷ number (3 * all-samples conv first) ∷ [])
   unfolding convert-places
-  short-refused = decide-skip (opening-places conv) _ opens ∙ short-lengths
+  short-refused = decide-skip (held-places conv) _ opens ∙ short-lengths
 
-  is-refused : is-accepted (decide (convert-places conv first [] false [])) ≡ false
+  is-refused : is-accepted (decide (convert-places rack conv first [] false [])) ≡ false
   unfolding is-accepted
   is-refused = ap is-accepted short-refused
 
@@ -140,7 +140,7 @@ module _ (conv : Converter) (opens : decide (opening-places conv) ≡ accepted) 
 
   second-fits : decide (convert-run-places conv second numbers) ≡ accepted
   unfolding convert-run-places
-  second-fits = decide-skip (opening-places conv) _ opens ∙ second-lengths
+  second-fits = decide-skip (held-places conv) _ opens ∙ second-lengths
 
   second-call : ConvertRunCall conv
   second-call = record {
@@ -213,7 +213,7 @@ module _ (conv : Converter) (opens : decide (opening-places conv) ≡ accepted) 
 
 -- ---- and there is such a converter: Standard 88,200, mono, 0 dB; with a frame of zeros and a frame of ones
 
-pub mono-opens : decide (opening-places mono) ≡ accepted
+pub mono-opens : decide (held-places mono) ≡ accepted
 unfolding decide opening-places mono unsupported right-gain allowed db-to-linear exponent magnitude series squared LN-10 ofInt ofBits toBits mul div add lt le
 mono-opens = refl
 

@@ -12,7 +12,7 @@ use Rattle.numbers.specs.Lists.{tabulate, total, count, Each}
 use Rattle.numbers.proofs.Lists.{getD-tabulate, tabulate-join, total-join}
 use Rattle.reference.specs.Frames.{Run, frame-length, frame-count, sequence}
 use Rattle.reference.specs.Output.{samples-per-frame, clipped, item, channel-samples, all-samples, samples, channel-clips, stats, frame-clips, per-frame-clips}
-use Rattle.reference.specs.Refusals.{accepted, decide, decision, is-accepted, opening-places, input-places, byte-lengths, run-lengths, convert-places, convert-run-places}
+use Rattle.reference.specs.Refusals.{rack, accepted, decide, decision, is-accepted, held-places, input-places, byte-lengths, run-lengths, convert-places, convert-run-places}
 use Rattle.reference.specs.Promises.{if-lent, no-clips}
 use Rattle.reference.specs.declared.Converter.{Converter}
 use Rattle.reference.specs.declared.ConvertStats.{ConvertStats}
@@ -56,20 +56,20 @@ cond-add false x y z h = refl
 
 -- a call with right lengths gives what the definition gives for its piece
 record Gives {conv : Converter} (call : Call conv) : Type 0 where
-  fits : decide (input-places conv (run-of call)) ≡ accepted
+  fits : decide (input-places rack conv (run-of call)) ≡ accepted
   sampled : samples-of call ≡ samples conv (run-of call)
   clips : (c : ℕ) → c < 6 → clips-of call c ≡ channel-clips conv (run-of call) c
   counts : lends call ≡ true → counts-of call ≡ per-frame-clips conv (run-of call)
 
-module _ (conv : Converter) (opens : decide (opening-places conv) ≡ accepted) where
+module _ (conv : Converter) (opens : decide (held-places conv) ≡ accepted) where
   -- the places from the run length on decide
-  convert-skip : (c : ConvertCall conv) → decide (convert-places conv (c .run) (c .out) (c .lent) (c .counts)) ≡ decide (lengths (convert c))
+  convert-skip : (c : ConvertCall conv) → decide (convert-places rack conv (c .run) (c .out) (c .lent) (c .counts)) ≡ decide (lengths (convert c))
   unfolding convert-places
-  convert-skip c = decide-skip (opening-places conv) _ opens
+  convert-skip c = decide-skip (held-places conv) _ opens
 
   run-skip : (c : ConvertRunCall conv) → decide (convert-run-places conv (c .run) (c .out)) ≡ decide (lengths (convert-run c))
   unfolding convert-run-places
-  run-skip c = decide-skip (opening-places conv) _ opens
+  run-skip c = decide-skip (held-places conv) _ opens
 
   answered : (call : Call conv) → decision (answer-of call .verdict) ≡ decide (lengths call)
   answered (convert c) = c .promise .answered .decided ∙ convert-skip c
@@ -110,7 +110,7 @@ module _ (conv : Converter) (opens : decide (opening-places conv) ≡ accepted) 
       let right = accepted-is _ e in
       let yes = convert-skip c ∙ right in
       record {
-        fits = decide-first (input-places conv (c .run)) _ right;
+        fits = decide-first (input-places rack conv (c .run)) _ right;
         sampled = ap read-s24le (c .promise .written ∙ exit-accepted _ _ _ yes) ∙ samples-back conv (c .run);
         clips = clips-at (c .run) _ (c .promise .answered .counted ∙ exit-accepted _ _ _ yes);
         counts = λ lent. c .promise .per-frame ∙ exit-accepted _ _ _ yes ∙ lent-list _ _ _ lent;
@@ -119,7 +119,7 @@ module _ (conv : Converter) (opens : decide (opening-places conv) ≡ accepted) 
       let right = accepted-is _ e in
       let yes = run-skip c ∙ right in
       record {
-        fits = decide-first (input-places conv (c .run)) _ right;
+        fits = decide-first (input-places rack conv (c .run)) _ right;
         sampled = c .promise .written ∙ exit-accepted _ _ _ yes;
         clips = clips-at (c .run) _ (c .promise .answered .counted ∙ exit-accepted _ _ _ yes);
         counts = λ lent. let z : _≡_ {A = ℕ} 0 1 = cc in absurd (omega arith);
@@ -145,7 +145,7 @@ module _ (conv : Converter) where
   unfolding frames-in flatMap
   bytes-length [] g = omega arith
   bytes-length (d ∷ ds) g =
-      omega (arith, length-append (run-of d .frames) (bytes-in ds), whole-frames conv (run-of d) (g .0 .fits), bytes-length ds (g .1))
+      omega (arith, length-append (run-of d .frames) (bytes-in ds), whole-frames rack conv (run-of d) (g .0 .fits), bytes-length ds (g .1))
 
   -- the calls give what the run has from frame a on
   record From (r : Run) (a : ℕ) (ds : List (Call conv)) : Type 0 where
@@ -153,7 +153,7 @@ module _ (conv : Converter) where
     clips : (c : ℕ) → c < 6 → add-up (map (λ call. clips-of call c) ds) ≡ cond (ltb c ch) (count (clipped conv r c) (a * per) (frames-in ds * per)) 0
     counts : Each (λ call. lends call ≡ true) ds → flatMap counts-of ds ≡ tabulate (frame-clips conv r) a (frames-in ds)
 
-  module _ (opens : decide (opening-places conv) ≡ accepted) (r : Run) (fits : decide (input-places conv r) ≡ accepted) where
+  module _ (opens : decide (held-places conv) ≡ accepted) (r : Run) (fits : decide (input-places rack conv r) ≡ accepted) where
     from : (ds : List (Call conv)) → Each Gives ds → (a : ℕ) (done : List ℕ) → r .frames ≡ done ++ bytes-in ds → length done ≡ a * frame-length ch
         → AllAgree conv (sequence ch r) a (map run-of ds) → From r a ds
     unfolding flatMap add-up frames-in tabulate total samples all-samples channel-samples channel-clips per-frame-clips
@@ -166,9 +166,9 @@ module _ (conv : Converter) where
         let m = frames-in ds in
         let cut : PieceOf conv r a n (run-of d) = record {
           some-channel = some-channel conv opens;
-          run-before = one-before conv r fits;
-          piece-before = one-before conv (run-of d) (g .0 .fits);
-          whole = whole-frames conv (run-of d) (g .0 .fits);
+          run-before = one-before rack conv r fits;
+          piece-before = one-before rack conv (run-of d) (g .0 .fits);
+          whole = whole-frames rack conv (run-of d) (g .0 .fits);
           done = done;
           rest = bytes-in ds;
           parts = e;
@@ -176,7 +176,7 @@ module _ (conv : Converter) where
           agree = agree .0;
         } in
         let more : From r (a + n) ds = from ds (g .1) (a + n) (done ++ run-of d .frames) (e ∙ sym (append-assoc done (run-of d .frames) (bytes-in ds)))
-        (omega (arith, length-append done (run-of d .frames), whole-frames conv (run-of d) (g .0 .fits))) (agree .1) in
+        (omega (arith, length-append done (run-of d .frames), whole-frames rack conv (run-of d) (g .0 .fits))) (agree .1) in
         let at-samples : (a + n) * per * ch ≡ a * per * ch + n * per * ch = omega arith in
         let all-samples : (n + m) * per * ch ≡ n * per * ch + m * per * ch = omega arith in
         let at-channel : (a + n) * per ≡ a * per + n * per = omega arith in

@@ -10,7 +10,7 @@ use Rattle.numbers.specs.Lists.{tabulate}
 use Rattle.reference.specs.Frames.{Run, frame-bytes, frame-count, frame, before-frame, after-frame, sequence, channel-byte}
 use Rattle.reference.specs.Stages.{reach}
 use Rattle.reference.specs.Output.{samples, channel-clips, per-frame-clips}
-use Rattle.reference.specs.Refusals.{accepted, Place, decide, decision, is-accepted, opening-places, input-places, byte-lengths, run-lengths}
+use Rattle.reference.specs.Refusals.{rack, accepted, Place, decide, decision, is-accepted, held-places, input-places, byte-lengths, run-lengths}
 use Rattle.reference.specs.Promises.{ConvertPromise, ConvertRunPromise, no-clips}
 use Rattle.reference.specs.declared.Converter.{Converter}
 use Rattle.reference.specs.declared.Converted.{Converted}
@@ -74,7 +74,7 @@ module _ {conv : Converter} where
 
   -- the places that the call tries from the run length on
   abbrev pub lengths : Call conv → List Place
-  lengths (convert c) = byte-lengths conv (c .run) (c .out) (c .lent) (c .counts)
+  lengths (convert c) = byte-lengths rack conv (c .run) (c .out) (c .lent) (c .counts)
   lengths (convert-run c) = run-lengths conv (c .run) (c .out)
 
   -- document 01's right lengths: the table's condition holds at none of them
@@ -123,10 +123,10 @@ pub record JoinTo {conv : Converter} (r : Run) (calls : List (Call conv)) : Type
 
 -- document 01's accepted converter and accepted run
 pub record AcceptedConverter (conv : Converter) : Type 0 where
-  pub opens : decide (opening-places conv) ≡ accepted
+  pub opens : decide (held-places conv) ≡ accepted
 
 pub record AcceptedRun (conv : Converter) (r : Run) : Type 0 where
-  pub fits : decide (input-places conv r) ≡ accepted
+  pub fits : decide (input-places rack conv r) ≡ accepted
 
 -- ---- what follows
 

@@ -10,13 +10,16 @@ pub struct Filled {
     pub failed: bool,
 }
 
-// One read into the slice from place n on; at least a byte, or nothing.
+// One read into the slice from place n on; at least a byte, or nothing. A read that fails is told on standard error.
 fn read_some(from: i32, bytes: &mut [u8], n: usize) -> Filled
     requires { ⌜ n < length (now bytes) ⌝ }
     ensures { λ r. ⌜ n + r .n ≤ length (now (bytes .entry)) ⌝ }
 {
     let part = &mut bytes[n..];
     let got = libc::read(from, part);
+    if got < 0 {
+        os::fail(b"read");
+    }
     Filled {
         n: io::count(got, part),
         failed: got < 0,

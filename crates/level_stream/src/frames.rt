@@ -1,24 +1,27 @@
 // Frame by frame, the frames read before and after being the neighbours.
 ghost use mathlib.Core.Path.{_≡_};
-ghost use mathlib.Core.Bool.{false};
+ghost use mathlib.Core.Bool.{true, false};
 ghost use Prim.Native.Nat.{_+_, _*_, _<_, _≤_};
 ghost use lib.Dec.{eqb};
 ghost use lib.ListN.{length};
+ghost use Rattle.reference.specs.Output.{samples-per-frame};
+ghost use Rattle.reference.specs.Refusals.{accepted, decide, held-places, convert-frame-places};
 ghost use Rattle.levels.specs.Levels.{FrameReported};
-ghost use Rattle.report_lines.specs.Text.{with-text};
-ghost use Rattle.level_input.specs.Moved.{moved-on};
-ghost use Rattle.level_stream.specs.Buffers as buffers;
-ghost use Rattle.level_stream.specs.Buffers.{at-hand, clips-at-hand};
+ghost use Rattle.report_lines.specs.Text.{Printed};
+ghost use Rattle.level_stream.specs.Report as whole;
+ghost use Rattle.level_stream.specs.Buffers.{at-hand, moment, Told, Turned, AllTold};
 use level_input::fill;
 use level_input::move_on;
 use levels::Reported;
 use reference::Converter;
 
-// Frames that are reported, their clips, bytes of the frame read last, and whether every read and write has succeeded.
+// Frames that are told, their clips, bytes that have come of the frame at hand, bytes of the text to pass on, and whether every read and
+// write has succeeded.
 struct State {
     frames: u64,
     clipped: u64,
     left: usize,
+    length: usize,
     going: bool,
 }
 
@@ -51,57 +54,64 @@ fn one_frame<'a>(
     )
 }
 
-// Writes the first n bytes.
+// Passes a text on to be written. A write that fails is told on standard error.
+pub fn written(to: i32, text: &[u8]) -> bool {
+    let done = io::write_all(to, text);
+    if !done {
+        os::fail(b"write");
+    }
+    done
+}
+
+// The first n bytes of a text.
 fn write_first(to: i32, text: &[u8], n: usize) -> bool
     requires { ⌜ n ≤ length (now text) ⌝ }
 {
-    io::write_all(to, &text[..n])
+    written(to, &text[..n])
 }
 
 // What is left to do after a read or a write that failed: nothing.
 fn stopped(s: State) -> State
-    ensures { λ r. ⌜ r ≡ record { frames = s .frames; clipped = s .clipped; left = s .left; going = false } ⌝ }
+    ensures { λ r. ⌜ r ≡ record { frames = s .frames; clipped = s .clipped; left = s .left; length = s .length; going = false } ⌝ }
 {
     State {
         frames: s.frames,
         clipped: s.clipped,
         left: s.left,
+        length: s.length,
         going: false,
     }
 }
 
-// Reports the frame at hand, now that the one after it is there or is known to be absent, and moves on.
+// Tells the frame at hand, now that the one after it is there or is known to be absent, and moves on.
 fn told(
     conv: Converter,
     s: State,
     next: usize,
     size: usize,
-    to: i32,
     three: &mut [u8],
     samples: &mut [i32],
     text: &mut [u8],
 ) -> State
     requires { ⌜ (length (now three) ≡ 3 * size) × (864 ≤ length (now text)) ⌝ }
     requires { ⌜ (s .frames < 100000000000000) × (s .clipped ≤ 28224 * s .frames) ⌝ }
-    ensures { λ r. ⌜ (r .frames ≡ s .frames + 1) × (r .clipped ≡ s .clipped + clips-at-hand conv (at-hand (s .frames) (eqb next size) size (now (three .entry))) (now (samples .entry))) × (r .left ≡ next) ⌝ }
-    ensures { λ r. ⌜ (now (three .exit) ≡ moved-on size (now (three .entry))) × (r .clipped ≤ 28224 * r .frames) ⌝ }
+    requires { ⌜ decide (convert-frame-places conv (at-hand (s .frames) (eqb next size) size (now three)) (now samples)) ≡ accepted ⌝ }
+    ensures { λ r. ⌜ Told conv size (moment (s .frames) (s .clipped) (s .left) (now (three .entry))) next (now (text .entry)) (moment (r .frames) (r .clipped) (r .left) (now (three .exit))) (now (text .exit)) (r .length) ⌝ }
+    ensures { λ r. ⌜ (r .clipped ≤ 28224 * r .frames) × (r .length ≤ 864) ⌝ }
 {
     let frames = s.frames;
     let r = one_frame(conv, frames, next == size, size, three, samples, text);
-    let going = write_first(to, text, r.length);
-    if !going {
-        os::fail(b"write");
-    }
     move_on(three, size);
     State {
         frames: frames + 1,
         clipped: s.clipped + r.clipped,
         left: next,
-        going,
+        length: r.length,
+        going: true,
     }
 }
 
-// Reads the frame after, and reports the one at hand.
+// Reads the frame after, tells the one at hand and passes its lines on.
 fn turn(
     conv: Converter,
     s: State,
@@ -112,31 +122,34 @@ fn turn(
     samples: &mut [i32],
     text: &mut [u8],
 ) -> State
-    requires { ⌜ (length (now three) ≡ 3 * size) × (864 ≤ length (now text)) ⌝ }
+    requires { ⌜ (length (now three) ≡ 3 * size) × (864 ≤ length (now text)) × (s .left ≡ size) ⌝ }
     requires { ⌜ (s .frames < 100000000000000) × (s .clipped ≤ 28224 * s .frames) ⌝ }
+    requires { ⌜ (decide (held-places conv) ≡ accepted) × (size ≡ 4704 * conv .channels) × (length (now samples) ≡ samples-per-frame (conv .rate) * conv .channels) ⌝ }
     ensures { λ r. ⌜ (r .frames ≤ s .frames + 1) × (r .clipped ≤ 28224 * r .frames) ⌝ }
+    ensures { λ r. ⌜ (r .going ≡ true → Turned conv (moment (s .frames) (s .clipped) (s .left) (now (three .entry))) (now (text .entry)) (moment (r .frames) (r .clipped) (r .left) (now (three .exit))) (now (text .exit)) (r .length)) ⌝ }
 {
     let end = 2 * size;
     let next = fill(from, &mut three[end..]);
     if next.failed {
-        os::fail(b"read");
         return stopped(s);
     }
-    told(conv, s, next.n, size, to, three, samples, text)
+    let r = told(conv, s, next.n, size, three, samples, text);
+    if write_first(to, text, r.length) {
+        return r;
+    }
+    stopped(r)
 }
 
-// The last line, or the refusal of bytes that are left over.
-fn ending(s: State, to: i32, text: &mut [u8])
+// The last line, or the refusal of bytes that are left over; the answer is its length.
+fn ending(s: State, text: &mut [u8]) -> usize
     requires { ⌜ 144 ≤ length (now text) ⌝ }
-    ensures { λ _. ⌜ now (text .exit) ≡ with-text (now (text .entry)) 0 (buffers.ending (s .left) (s .frames) (s .clipped)) ⌝ }
+    ensures { λ r. ⌜ Printed (whole.ending (s .left) (s .frames) (s .clipped)) (now (text .entry)) 0 (now (text .exit)) r ⌝ }
+    ensures { λ r. ⌜ r ≤ 144 ⌝ }
 {
     if s.left == 0 {
-        let n = report_lines::last_line(text, 0, s.frames, s.clipped);
-        write_first(to, text, n);
-        return;
+        return report_lines::last_line(text, 0, s.frames, s.clipped);
     }
-    let n = report_lines::refused_line(text, 0, 4);
-    write_first(to, text, n);
+    report_lines::refused_line(text, 0, 4)
 }
 
 // All frames, from the first one on.
@@ -150,6 +163,8 @@ fn turns(
     text: &mut [u8],
 ) -> State
     requires { ⌜ (length (now three) ≡ 3 * size) × (864 ≤ length (now text)) ⌝ }
+    requires { ⌜ (decide (held-places conv) ≡ accepted) × (size ≡ 4704 * conv .channels) × (length (now samples) ≡ samples-per-frame (conv .rate) * conv .channels) ⌝ }
+    ensures { λ r. ⌜ (r .going ≡ true → r .left < size → AllTold conv (moment (r .frames) (r .clipped) (r .left) (now (three .exit)))) ⌝ }
 {
     let end = 2 * size;
     let first = fill(from, &mut three[size..end]);
@@ -157,6 +172,7 @@ fn turns(
         frames: 0,
         clipped: 0,
         left: first.n,
+        length: 0,
         going: !first.failed,
     };
     // A loop has to end, and nothing says that an input does: so it counts down, from a number that no input uses up.
@@ -168,7 +184,7 @@ fn turns(
     s
 }
 
-// The same with buffers for one or two channels: three frames, a frame's samples, and its lines.
+// The whole report in buffers for one or two channels: three frames, a frame's samples, and its lines.
 fn in_buffers(
     conv: Converter,
     from: i32,
@@ -177,11 +193,12 @@ fn in_buffers(
     samples: &mut [i32],
     text: &mut [u8],
 )
-    requires { ⌜ (conv .channels ≤ 2) × (length (now three) ≡ 28224) × (length (now samples) ≡ 9408) × (length (now text) ≡ 864) ⌝ }
+    requires { ⌜ (decide (held-places conv) ≡ accepted) × (conv .channels ≤ 2) ⌝ }
+    requires { ⌜ (length (now three) ≡ 28224) × (length (now samples) ≡ 9408) × (length (now text) ≡ 864) ⌝ }
 {
     let ch = conv.channels as usize;
     let rate = conv.rate;
-    let size = 4704 * ch;
+    let size = reference::FRAME_BYTES * ch;
     let bytes = 3 * size;
     let items = scarletbook_pcm::samples_per_frame(rate) * ch;
     let s = turns(
@@ -193,14 +210,15 @@ fn in_buffers(
         &mut samples[..items],
         text,
     );
-    if s.going {
-        ending(s, to, text);
+    if s.going && s.left < size {
+        let n = ending(s, text);
+        write_first(to, text, n);
     }
 }
 
 // The report of the frames that a descriptor gives, one or two channels.
 pub fn report_frames(conv: Converter, from: i32, to: i32)
-    requires { ⌜ conv .channels ≤ 2 ⌝ }
+    requires { ⌜ (decide (held-places conv) ≡ accepted) × (conv .channels ≤ 2) ⌝ }
 {
     let mut three = [0u8; 28224];
     let mut samples = [0i32; 9408];

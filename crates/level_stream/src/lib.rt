@@ -3,7 +3,7 @@ ghost use Prim.Native.Nat.{_≤_};
 ghost use lib.ListN.{length};
 use reference::Verdict;
 use settings_line::FirstLine;
-use settings_line::Settings;
+use settings_line::LineSettings;
 
 mod frames;
 
@@ -13,7 +13,6 @@ pub fn report(line_from: i32, frames_from: i32, to: i32) {
     let mut line = [0u8; 23];
     let came = level_input::read_line(line_from, &mut line);
     if came.failed {
-        os::fail(b"read");
         return;
     }
     if came.whole {
@@ -24,7 +23,7 @@ pub fn report(line_from: i32, frames_from: i32, to: i32) {
 }
 
 fn refused_settings(to: i32) {
-    io::write_all(to, b"refused settings\n");
+    frames::written(to, b"refused settings\n");
 }
 
 // The first n bytes are the line.
@@ -38,7 +37,7 @@ fn settings(line: &[u8], n: usize, from: i32, to: i32)
     }
 }
 
-fn opened(s: Settings, from: i32, to: i32)
+fn opened(s: LineSettings, from: i32, to: i32)
     requires { ⌜ s .channels ≤ 2 ⌝ }
 {
     let o = levels::opened(s);

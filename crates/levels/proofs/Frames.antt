@@ -1,28 +1,29 @@
 -- What a converted frame tells is what the definition says of it.
 use mathlib.Core.Path.{_≡_, refl, _∙_}
-use Prim.Native.Nat.{ℕ, zero, suc, _+_, _*_, _/_, _≤_, _<_}
+use Prim.Native.Nat.{ℕ, _+_, _*_, _/_, _≤_, _<_}
 use native.Mathlib.Nat.{zero-add, zero-mul, add-zero, one-mul, mul-add-div-right, mul-add-mod-self-right, mod-eq-of-lt, div-eq-of-lt, mul-div-left}
 use native.Mathlib.Omega.{arith}
 use borrow.Author.Tests.{lt-ltb}
 use lib.Arith.{digits-lt}
 use lib.IntN.{ℤ, pos}
 use lib.ListN.{length, getD}
+use Rattle.numbers.specs.Extremes.{lesser, greater}
 use Rattle.numbers.specs.Lists.{total, count}
+use Rattle.numbers.proofs.Extremes.{picked-same}
 use Rattle.numbers.proofs.Lists.{getD-tabulate, length-tabulate, total-same}
 use Rattle.reference.specs.Frames.{Run, frame-count}
 use Rattle.reference.specs.Output.{samples-per-frame, unclamped, sample, clipped, item, channel-samples, all-samples, samples, channel-clips, stats, frame-clips}
 use Rattle.reference.specs.Scaling.{clips}
 use Rattle.reference.specs.declared.Converter.{Converter}
-use Rattle.reference.proofs.Frames.{some-samples}
+use Rattle.reference.proofs.Frames.{some-samples, frame-samples}
 use Rattle.gain.proofs.Tallies.{tally-clipped, tally-few}
-use Rattle.blocks.proofs.Sums.{frame-samples}
-use Rattle.levels.specs.Levels.{lesser, greater, extreme, level, level-of}
+use Rattle.levels.specs.Levels.{extreme, level, level-of}
 
 -- extremes of numbers that are the same
-pub extreme-same : (pick : ℤ → ℤ → ℤ) (f g : ℕ → ℤ) (a b m : ℕ) → 0 < m → ((k : ℕ) → k < m → f (a + k) ≡ g (b + k)) → (n : ℕ) → n ≤ m → extreme pick f a n ≡ extreme pick g b n
-unfolding extreme
-extreme-same pick f g a b m some same zero l = rw (add-zero a, add-zero b) at (same 0 some)
-extreme-same pick f g a b m some same (suc n) l = rw (extreme-same pick f g a b m some same n (omega arith), same n (omega arith)) refl
+pub extreme-same : (pick : ℤ → ℤ → ℤ) (f g : ℕ → ℤ) (a b n : ℕ) → 0 < n → ((k : ℕ) → k < n → f (a + k) ≡ g (b + k)) → extreme pick f a n ≡ extreme pick g b n
+extreme-same pick f g a b n some same =
+    let e : f a ≡ g b = rw (add-zero a, add-zero b) at (same 0 some) in
+    rw e (picked-same pick (g b) f g a b n same)
 
 module _ (conv : Converter) (r : Run) (some : 0 < conv .channels) (few : conv .channels ≤ 6) (one : frame-count (conv .channels) (r .frames) ≡ 1) where
   abbrev ch : ℕ
@@ -55,7 +56,7 @@ module _ (conv : Converter) (r : Run) (some : 0 < conv .channels) (few : conv .c
   unfolding level level-of
   level-is c l =
       let pick : (p : ℤ → ℤ → ℤ) → extreme p (λ n. getD (samples conv r) (n * ch + c) (pos 0)) 0 per ≡ extreme p (sample conv r c) (0 * per) per =
-      λ p. extreme-same p _ (sample conv r c) 0 (0 * per) per (some-samples (conv .rate)) (λ k h. rw (zero-mul per, zero-add k) (sample-at c l k h)) per (omega arith) in
+      λ p. extreme-same p (λ n. getD (samples conv r) (n * ch + c) (pos 0)) (sample conv r c) 0 (0 * per) per (some-samples (conv .rate)) (λ k h. rw (zero-mul per, zero-add k) (sample-at c l k h)) in
       rw (clips-at c l, each, pick lesser, pick greater) refl
 
   pub clips-are : total (λ c. getD (stats conv r .clipped) c 0) 0 ch ≡ frame-clips conv r 0

@@ -9,6 +9,7 @@ use borrow.Author.Tests.{lt-ltb, le-ltb}
 use lib.IntN.{ℤ}
 use lib.ListN.{length, take, drop, length-drop, replicate, length-replicate, take-append-drop}
 use lib.Seq.{length-take-le, take-append-le, drop-append-le}
+use Rattle.numbers.specs.Extremes.{lesser, greater}
 use Rattle.numbers.specs.Lists.{count}
 use Rattle.numbers.proofs.Lists.{tabulate-same, total-same, below-or, part-end}
 use Rattle.reference.specs.Frames.{Run, frame-length, frame-count, frame, idle, neighbour, before-frame, after-frame, sequence, channel-byte}
@@ -20,7 +21,7 @@ use Rattle.reference.proofs.Locality.{reach-small}
 use Rattle.joins.proofs.Pieces.{PieceOf, unclamped-same, piece-clips}
 use Rattle.report_lines.specs.Text.{joined}
 use Rattle.report_lines.specs.Lines.{level-line}
-use Rattle.levels.specs.Levels.{lesser, greater, extreme, level, frame-lines, whole-input, FrameOf}
+use Rattle.levels.specs.Levels.{extreme, level, frame-lines, whole-input, FrameOf}
 use Rattle.levels.proofs.Frames.{extreme-same}
 
 module _ (ch : ℕ) (input : List ℕ) where
@@ -155,7 +156,7 @@ module _ (conv : Converter) (input : List ℕ) (f : ℕ) (piece : Run) (here : F
   level-same c l =
       let pick : (p : ℤ → ℤ → ℤ) → extreme p (sample conv piece c) (0 * per) per ≡ extreme p (sample conv whole c) (f * per) per =
       λ p. extreme-same p (sample conv piece c) (sample conv whole c) (0 * per) (f * per) per (some-samples (conv .rate))
-      (λ k h. rw (zero-mul per, zero-add k) (ap clamp (unclamped-same conv whole f 1 piece piece-of c k l (omega arith)))) per (omega arith) in
+      (λ k h. rw (zero-mul per, zero-add k) (ap clamp (unclamped-same conv whole f 1 piece piece-of c k l (omega arith)))) in
       rw (pick lesser, pick greater, channel-same c l) refl
 
   pub lines-same : (number : ℕ) → frame-lines conv piece number 0 ≡ frame-lines conv whole number f

@@ -2,45 +2,39 @@
 use mathlib.Core.Path.{_≡_}
 use mathlib.Core.List.{List, []}
 use mathlib.Core.Bool.{false, cond}
-use Prim.Native.Nat.{ℕ, zero, suc, _+_, _-_, _*_, _/_, _<_}
+use Prim.Native.Nat.{ℕ, suc, _+_, _-_, _*_, _/_, _<_}
 use lib.Dec.{ltb}
 use lib.Ieee.{ofInt, binary64}
 use lib.IntN.{ℤ, pos}
 use lib.ListN.{length, getD, take}
-use lib.Signed.{ltZ}
+use Rattle.numbers.specs.Extremes.{lesser, greater, picked}
 use Rattle.numbers.specs.Lists.{tabulate, count}
 use Rattle.reference.specs.Frames.{Run, run, frame-length, frame-count, frame}
 use Rattle.reference.specs.Scaling.{db-to-linear}
 use Rattle.reference.specs.Output.{samples-per-frame, sample, clipped, samples, frame-clips}
 use Rattle.reference.specs.Refusals.{accepted, decide, decision, convert-frame-places}
 use Rattle.reference.specs.Promises.{by-decision}
+use Rattle.reference.specs.declared.Settings.{Settings}
 use Rattle.reference.specs.declared.Converter.{Converter}
 use Rattle.report_lines.specs.Text.{joined, Printed}
 use Rattle.report_lines.specs.Lines.{level-line}
 use Rattle.report_lines.specs.declared.Level.{Level}
-use Rattle.settings_line.specs.declared.Settings.{Settings}
+use Rattle.settings_line.specs.declared.LineSettings.{LineSettings}
 use Rattle.levels.specs.declared.Reported.{Reported}
 
 -- ---- settings
 
--- the converter of some settings: its gain record is that of the whole decibels
-unfoldable pub converter-of : Settings → Converter
-converter-of s =
+-- the settings that a line's stand for: their gain record is that of the whole decibels
+unfoldable pub read-settings : LineSettings → Settings
+read-settings s =
     let db = ofInt binary64 (s .db) in
     record { rate = s .rate; cutoff = s .cutoff; channels = s .channels; gain = record { db = db; linear = db-to-linear db } }
 
 -- ---- a channel of a frame
 
-unfoldable pub lesser : ℤ → ℤ → ℤ
-lesser x y = cond (ltZ y x) y x
-
-unfoldable pub greater : ℤ → ℤ → ℤ
-greater x y = cond (ltZ x y) y x
-
--- what is picked of f a, …, f (a + n - 1), one after the other: the least by `lesser`, the greatest by `greater`; of no numbers, f a
-unfoldable pub extreme : (ℤ → ℤ → ℤ) → (ℕ → ℤ) → ℕ → ℕ → ℤ
-extreme pick f a zero = f a
-extreme pick f a (suc n) = pick (extreme pick f a n) (f (a + n))
+-- what is picked of f a, …, f (a + n - 1); of no numbers, f a
+abbrev pub extreme : (ℤ → ℤ → ℤ) → (ℕ → ℤ) → ℕ → ℕ → ℤ
+extreme pick f a n = picked pick (f a) f a n
 
 -- document 01's over: 1 if the channel has a clip in the frame
 unfoldable pub over-of : ℕ → ℕ

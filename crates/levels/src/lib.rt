@@ -3,6 +3,7 @@ ghost use mathlib.Core.Path.{_≡_};
 ghost use Prim.Native.Nat.{ℕ, _+_, _*_, _/_, _<_, _≤_};
 ghost use lib.IntN.{pos};
 ghost use lib.ListN.{length, getD};
+ghost use Rattle.numbers.specs.Extremes as extremes;
 ghost use Rattle.numbers.specs.Lists.{tabulate, total};
 ghost use Rattle.reference.specs.Frames.{run};
 ghost use Rattle.report_lines.specs.Text.{joined, Printed};
@@ -16,9 +17,10 @@ use reference::Converter;
 use reference::Gain;
 use reference::Opened;
 use reference::PcmError;
+use reference::Settings;
 use reference::Verdict;
 use report_lines::Level;
-use settings_line::Settings;
+use settings_line::LineSettings;
 
 // What is told of a frame: how the call was decided, how long its lines are, and its clips over all channels.
 pub struct Reported {
@@ -27,16 +29,16 @@ pub struct Reported {
     pub clipped: u64,
 }
 
-// Opens the converter of some settings.
-pub fn opened(s: Settings) -> Opened
-    ensures { λ r. ⌜ OpeningPromise (levels.converter-of s) r ⌝ }
+// Opens the converter of a line's settings.
+pub fn opened(s: LineSettings) -> Opened
+    ensures { λ r. ⌜ OpeningPromise (levels.read-settings s) r ⌝ }
 {
     let rate = s.rate;
     let cutoff = s.cutoff;
     let db = std::num::nearest_i64_to_f64(s.db as i64);
     let linear = gain::db_to_linear(db);
     let gain = Gain { db, linear };
-    scarletbook_pcm::open(Converter {
+    scarletbook_pcm::open(Settings {
         rate,
         cutoff,
         channels: s.channels,
@@ -57,6 +59,11 @@ pub fn refusal_number(e: PcmError) -> u64
         PcmError::OutputLength(_, _) => 6,
         PcmError::OutputBytes(_, _) => 7,
         PcmError::FrameCounts(_, _) => 8,
+        PcmError::NotDsf => 9,
+        PcmError::DsfFormat => 10,
+        PcmError::DsfLength => 11,
+        PcmError::NotWav => 12,
+        PcmError::Schedule => 19,
     }
 }
 
@@ -66,13 +73,13 @@ struct Extremes {
 }
 
 fn lesser(a: i32, b: i32) -> i32
-    ensures { λ r. ⌜ r ≡ levels.lesser a b ⌝ }
+    ensures { λ r. ⌜ r ≡ extremes.lesser a b ⌝ }
 {
     if b < a { b } else { a }
 }
 
 fn greater(a: i32, b: i32) -> i32
-    ensures { λ r. ⌜ r ≡ levels.greater a b ⌝ }
+    ensures { λ r. ⌜ r ≡ extremes.greater a b ⌝ }
 {
     if a < b { b } else { a }
 }
@@ -80,8 +87,8 @@ fn greater(a: i32, b: i32) -> i32
 // Lowest and highest sample of channel c.
 fn extremes_of(samples: &[i32], ch: usize, c: usize) -> Extremes
     requires { ⌜ (c < ch) × (ch ≤ length (now samples)) ⌝ }
-    ensures { λ r. ⌜ r .low ≡ levels.extreme levels.lesser (λ n. getD (now (samples .entry)) (n * ch + c) (pos 0)) 0 (length (now (samples .entry)) / ch) ⌝ }
-    ensures { λ r. ⌜ r .high ≡ levels.extreme levels.greater (λ n. getD (now (samples .entry)) (n * ch + c) (pos 0)) 0 (length (now (samples .entry)) / ch) ⌝ }
+    ensures { λ r. ⌜ r .low ≡ levels.extreme extremes.lesser (λ n. getD (now (samples .entry)) (n * ch + c) (pos 0)) 0 (length (now (samples .entry)) / ch) ⌝ }
+    ensures { λ r. ⌜ r .high ≡ levels.extreme extremes.greater (λ n. getD (now (samples .entry)) (n * ch + c) (pos 0)) 0 (length (now (samples .entry)) / ch) ⌝ }
 {
     let n = samples.len() / ch;
     let mut low = samples[c];

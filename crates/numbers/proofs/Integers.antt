@@ -118,8 +118,5 @@ neg-mul x y =
     (omega
     (arith, mul-parts (negℤ x) y, mul-parts x y, pp-neg (x *ℤ y), nn-neg (x *ℤ y), ap (λ (k : ℕ). k * pp y) (pp-neg x), ap (λ (k : ℕ). k * pp y) (nn-neg x), ap (λ (k : ℕ). k * nn y) (pp-neg x), ap (λ (k : ℕ). k * nn y) (nn-neg x)))
 
-pub mul-neg : (x y : ℤ) → x *ℤ negℤ y ≡ negℤ (x *ℤ y)
-mul-neg x y = *ℤ-comm x (negℤ y) ∙ neg-mul y x ∙ ap negℤ (*ℤ-comm y x)
-
 -- sums sorted alike on both sides
 pub ruleset sums = (+ℤ-assoc, +ℤ-comm, +ℤ-left-comm, mul-add)

@@ -2,3 +2,4 @@ pub mod Integers
 pub mod Lists
 pub mod Sums
 pub mod Machine
+pub mod Extremes

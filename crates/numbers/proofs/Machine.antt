@@ -1,5 +1,5 @@
 -- One operation of an i64 on values that fit, over ℤ, by the sizes. `t z` is z, read back from its bits, as a local holds it.
-use mathlib.Core.Path.{_≡_, _∙_, ap, ap₂}
+use mathlib.Core.Path.{_≡_, _∙_, ap₂}
 use Prim.Native.Nat.{ℕ, _+_, _*_, _<_, _≤_, _^_}
 use native.Mathlib.Omega.{arith}
 use lib.IntN.{ℤ, natAbs, _+ℤ_, _*ℤ_}
@@ -21,26 +21,6 @@ module _ {a b : ℤ} (fa : SFits w64 a) (fb : SFits w64 b) where
 
   pub add-is : natAbs a + natAbs b < 2 ^ 63 → t (t a +ℤ t b) ≡ a +ℤ b
   add-is h = toZ-ofZ (add-fits h) ∙ ap₂ (λ (x y : ℤ). x +ℤ y) (toZ-ofZ fa) (toZ-ofZ fb)
-
-  pub mul-is : natAbs a * natAbs b < 2 ^ 63 → t (t a *ℤ t b) ≡ a *ℤ b
-  mul-is h = toZ-ofZ (mul-fits h) ∙ ap₂ (λ (x y : ℤ). x *ℤ y) (toZ-ofZ fa) (toZ-ofZ fb)
-
--- a sum and a product in one
-module _ {s h a : ℤ} (fs : SFits w64 s) (fh : SFits w64 h) (fa : SFits w64 a) (small : natAbs s + natAbs h * natAbs a < 2 ^ 63) where
-  pub mac-mul : SFits w64 (t h *ℤ t a)
-  mac-mul = mul-fits fh fa (omega arith)
-
-  back : t h *ℤ t a ≡ h *ℤ a
-  back = simp toZ-ofZ
-
-  size : natAbs s + natAbs (t h *ℤ t a) < 2 ^ 63
-  size = rw back (omega (arith, abs-mul h a))
-
-  pub mac-fits : SFits w64 (t s +ℤ t (t h *ℤ t a))
-  mac-fits = add-fits fs mac-mul size
-
-  pub mac-is : t (t s +ℤ t (t h *ℤ t a)) ≡ s +ℤ h *ℤ a
-  mac-is = add-is fs mac-mul size ∙ ap (λ (z : ℤ). s +ℤ z) back
 
 -- an i32 as an i64
 module _ (z : ℤ) (m : mag z < 2 ^ 31) where

@@ -1,3 +1,4 @@
 pub mod Sums
 pub mod Lists
 pub mod Parts
+pub mod Extremes

@@ -47,7 +47,7 @@ fn put(raw: &mut [u8], at: usize, v: i32)
     raw[at + 2] = byte(w, 65536);
 }
 
-// The same as `store`, three bytes a sample.
+// Samples n, n + 1, .. of channel c, three bytes each: sample n stands at byte 3 * (n * ch + c).
 pub fn store24(samples: &[i32], n: usize, ch: usize, c: usize, raw: &mut [u8])
     requires { ⌜ (c < ch) × (3 * ((n + length (now samples)) * ch) ≤ length (now raw)) ⌝ }
     ensures { λ _. ⌜ ((S : ℕ → ℕ → ℤ) → Held (pos 0) (S c) n (length (now (samples .entry))) (now (samples .entry)) → FillsBytes S ch n (n + length (now (samples .entry))) c (c + 1) (now (raw .entry)) (now (raw .exit))) ⌝ }

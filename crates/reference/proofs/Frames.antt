@@ -1,11 +1,11 @@
 -- The bytes of a channel in frames put end to end; and that no sample of a run reads before the frame before it.
 use mathlib.Core.Path.{_≡_, _∙_}
 use mathlib.Core.List.{List, _++_}
-use Prim.Native.Nat.{ℕ, suc, _+_, _-_, _*_, _<_}
+use Prim.Native.Nat.{ℕ, suc, _+_, _-_, _*_, _<_, _≤_}
 use native.Mathlib.Nat.{mul-le-mul-left}
 use native.Mathlib.Omega.{arith}
 use lib.Arith.{digits-lt}
-use lib.Dec.{lit<}
+use lib.Dec.{lit≤, lit<}
 use lib.ListN.{length, drop, List·getD-append}
 use lib.Seq.{getD-take, getD-drop, getD-append-add}
 use Rattle.reference.specs.Frames.{frame-length, frame, channel-byte}
@@ -40,6 +40,12 @@ unfolding samples-per-frame
 some-samples Hz88200 = lit< tt
 some-samples Hz176400 = lit< tt
 some-samples Hz352800 = lit< tt
+
+pub frame-samples : (rate : PcmRate) → samples-per-frame rate ≤ 4704
+unfolding samples-per-frame
+frame-samples Hz88200 = lit≤ tt
+frame-samples Hz176400 = lit≤ tt
+frame-samples Hz352800 = lit≤ tt
 
 -- γ is β with a frame of any bytes put in front: the samples from the first frame on are the same
 pub no-earlier-byte : (rate : PcmRate) (cutoff : Cutoff) (β γ : ℕ → ℕ) → ((p : ℕ) → γ (4704 + p) ≡ β p)

@@ -9,12 +9,13 @@ use lib.IntN.{ℤ}
 use lib.ListN.{getD}
 use lib.Ieee.{Float, nan}
 use Rattle.reference.specs.Frames.{Run}
-use Rattle.reference.specs.Refusals.{Datum, number, rate, cutoff, decibels, Decision, accepted, refused, error-decision, decision, is-accepted, Place}
-use Rattle.reference.specs.Promises.{by-decision, GainPromise, OpeningPromise, Answered, SamplesPromise, ConvertPromise}
+use Rattle.reference.specs.Refusals.{Datum, number, rate, cutoff, decibels, Decision, accepted, refused, error-decision, decision, is-accepted, Limit, Place}
+use Rattle.reference.specs.Promises.{by-decision, GainPromise, OpeningPromise, Answered, SamplesPromise, BytesPromise}
 use Rattle.reference.specs.declared.PcmRate.{PcmRate}
 use Rattle.reference.specs.declared.PcmRate.the-variants.{Hz88200}
 use Rattle.reference.specs.declared.Cutoff.{Cutoff}
 use Rattle.reference.specs.declared.Cutoff.the-variants.{Wide}
+use Rattle.reference.specs.declared.Settings.{Settings}
 use Rattle.reference.specs.declared.Converter.{Converter}
 use Rattle.reference.specs.declared.PcmError.{PcmError}
 use Rattle.reference.specs.declared.PcmError.the-variants as error
@@ -76,7 +77,12 @@ case-of n a b =
     (cond (eqb n 4) (error.InputLength (n-of a) (n-of b))
     (cond (eqb n 5) (error.Frames (n-of a))
     (cond (eqb n 6) (error.OutputLength (n-of a) (n-of b))
-    (cond (eqb n 7) (error.OutputBytes (n-of a) (n-of b)) (error.FrameCounts (n-of a) (n-of b))))))))
+    (cond (eqb n 7) (error.OutputBytes (n-of a) (n-of b))
+    (cond (eqb n 8) (error.FrameCounts (n-of a) (n-of b))
+    (cond (eqb n 9) error.NotDsf
+    (cond (eqb n 10) error.DsfFormat
+    (cond (eqb n 11) error.DsfLength
+    (cond (eqb n 12) error.NotWav error.Schedule)))))))))))
 
 error-of : Decision → PcmError
 error-of accepted = error.Frames 0
@@ -92,6 +98,11 @@ error-back (error.Frames n) = refl
 error-back (error.OutputLength n k) = refl
 error-back (error.OutputBytes n k) = refl
 error-back (error.FrameCounts n k) = refl
+error-back error.NotDsf = refl
+error-back error.DsfFormat = refl
+error-back error.DsfLength = refl
+error-back error.NotWav = refl
+error-back error.Schedule = refl
 
 error-exact : (a b : PcmError) → error-decision a ≡ error-decision b → a ≡ b
 error-exact a b e = sym (error-back a) ∙ ap error-of e ∙ error-back b
@@ -116,7 +127,7 @@ gain-exact db (from-db.Made g) b p q = p .made (sym (p .decided)) ∙ sym (q .ma
 gain-exact db (from-db.Refused e) (from-db.Made g) p q = apart e (p .decided ∙ sym (q .decided))
 gain-exact db (from-db.Refused e) (from-db.Refused f) p q = ap from-db.Refused (error-exact e f (p .decided ∙ sym (q .decided)))
 
-pub opening-exact : (settings : Converter) (a b : Opened) → OpeningPromise settings a → OpeningPromise settings b → a ≡ b
+pub opening-exact : (settings : Settings) (a b : Opened) → OpeningPromise settings a → OpeningPromise settings b → a ≡ b
 opening-exact settings a b p q =
     let v = decision-exact (a .verdict) (b .verdict) (p .decided ∙ sym (q .decided)) in
     let c = p .converter ∙ sym (q .converter) in
@@ -132,7 +143,7 @@ pub samples-exact : (places : List Place) (conv : Converter) (r : Run) (out o o'
     → SamplesPromise places conv r out o a → SamplesPromise places conv r out o' b → (a ≡ b) × (o ≡ o')
 samples-exact places conv r out o o' a b p q = (answered-exact places conv r a b (p .answered) (q .answered), p .written ∙ sym (q .written))
 
-pub convert-exact : (conv : Converter) (r : Run) (lent : Bool) (out counts o o' c c' : List ℕ) (a b : Converted)
-    → ConvertPromise conv r lent out counts o c a → ConvertPromise conv r lent out counts o' c' b → (a ≡ b) × (o ≡ o') × (c ≡ c')
-convert-exact conv r lent out counts o o' c c' a b p q =
+pub convert-exact : (limit : Limit) (conv : Converter) (r : Run) (lent : Bool) (out counts o o' c c' : List ℕ) (a b : Converted)
+    → BytesPromise limit conv r lent out counts o c a → BytesPromise limit conv r lent out counts o' c' b → (a ≡ b) × (o ≡ o') × (c ≡ c')
+convert-exact limit conv r lent out counts o o' c c' a b p q =
     (answered-exact _ conv r a b (p .answered) (q .answered), p .written ∙ sym (q .written), p .per-frame ∙ sym (q .per-frame))

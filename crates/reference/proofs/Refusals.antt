@@ -9,7 +9,7 @@ use borrow.Author.Tests.{ltb-false, leb-true, eqb-true, not-false}
 use lib.Dec.{leb}
 use lib.ListN.{length, length-replicate}
 use Rattle.reference.specs.Frames.{Run, idle, frame-length, frame-count, neighbour, before-frame}
-use Rattle.reference.specs.Refusals.{Datum, accepted, refused, error-decision, is-accepted, Place, decide, opening-places, run-length, one-frame, if-present, input-places}
+use Rattle.reference.specs.Refusals.{Datum, accepted, refused, error-decision, is-accepted, Place, decide, opening-places, held-places, run-length, Limit, one-frame, if-present, input-places}
 use Rattle.reference.specs.declared.Converter.{Converter}
 use Rattle.reference.specs.declared.PcmError.{PcmError}
 use Rattle.reference.specs.declared.PcmError.the-variants as error
@@ -88,6 +88,11 @@ error-refuses (error.Frames n) = refl
 error-refuses (error.OutputLength n k) = refl
 error-refuses (error.OutputBytes n k) = refl
 error-refuses (error.FrameCounts n k) = refl
+error-refuses error.NotDsf = refl
+error-refuses error.DsfFormat = refl
+error-refuses error.DsfLength = refl
+error-refuses error.NotWav = refl
+error-refuses error.Schedule = refl
 
 -- ---- what an accepted converter and an accepted run have
 
@@ -99,7 +104,7 @@ and-right : (a b : Bool) → a && b ≡ true → b ≡ true
 and-right true b e = e
 and-right false b e = let z : _≡_ {A = ℕ} 0 1 = cc in absurd (omega arith)
 
-module _ (conv : Converter) (opens : decide (opening-places conv) ≡ accepted) where
+module _ (conv : Converter) (opens : decide (held-places conv) ≡ accepted) where
   pub some-channel : 0 < conv .channels
   unfolding opening-places
   some-channel = leb-true 1 (conv .channels) (and-left (leb 1 (conv .channels)) (leb (conv .channels) 6) (not-false _ (pass _ _ opens .0)))
@@ -113,14 +118,14 @@ unfolding if-present one-frame neighbour
 neighbour-length ch true bytes ps e = eqb-true _ _ (not-false _ (pass _ _ e .0))
 neighbour-length ch false bytes ps e = length-replicate (frame-length ch) idle
 
-module _ (conv : Converter) (r : Run) (fits : decide (input-places conv r) ≡ accepted) where
+module _ (limit : Limit) (conv : Converter) (r : Run) (fits : decide (input-places limit conv r) ≡ accepted) where
   pub whole-frames : length (r .frames) ≡ frame-count (conv .channels) (r .frames) * frame-length (conv .channels)
   unfolding input-places run-length frame-count
   whole-frames =
       let h : length (r .frames) % frame-length (conv .channels) ≡ 0 = eqb-true _ _ (not-false _ (pass _ _ fits .0)) in
       omega (arith, div-add-mod' (length (r .frames)) (frame-length (conv .channels)))
 
-  pub few-frames : frame-count (conv .channels) (r .frames) ≤ 540000
+  pub few-frames : frame-count (conv .channels) (r .frames) ≤ limit .most
   unfolding input-places run-length
   few-frames = ltb-false _ _ (pass _ _ (pass _ _ fits .1) .0)
 

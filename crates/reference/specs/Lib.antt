@@ -3,6 +3,7 @@ pub mod Taps
 pub mod Frames
 pub mod Stages
 pub mod Scaling
+pub mod Settings
 pub mod Output
 pub mod Refusals
 pub mod Promises

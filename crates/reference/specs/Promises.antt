@@ -8,8 +8,10 @@ use lib.Ieee.{Float}
 use lib.ListN.{length, take, drop, replicate}
 use Rattle.reference.specs.Frames.{Run}
 use Rattle.reference.specs.Scaling.{db-to-linear}
+use Rattle.reference.specs.Settings.{converter-of}
 use Rattle.reference.specs.Output.{samples, stats, per-frame-clips, s24le}
-use Rattle.reference.specs.Refusals.{Decision, accepted, refused, Place, decide, decision, gain-decision, gain-places, opening-places, convert-run-places, convert-places, convert-frame-places}
+use Rattle.reference.specs.Refusals.{Limit, rack, Decision, accepted, refused, Place, decide, decision, gain-decision, gain-places, opening-places, convert-run-places, convert-places, convert-frame-places}
+use Rattle.reference.specs.declared.Settings.{Settings}
 use Rattle.reference.specs.declared.Converter.{Converter}
 use Rattle.reference.specs.declared.ConvertStats.{ConvertStats}
 use Rattle.reference.specs.declared.FromDb.{FromDb}
@@ -28,9 +30,9 @@ pub record GainPromise (db : Float) (answer : FromDb) : Type 0 where
   pub decided : gain-decision answer ≡ decide (gain-places db)
   pub made : decide (gain-places db) ≡ accepted → answer ≡ Made (record { db = db; linear = db-to-linear db })
 
-pub record OpeningPromise (settings : Converter) (answer : Opened) : Type 0 where
+pub record OpeningPromise (settings : Settings) (answer : Opened) : Type 0 where
   pub decided : decision (answer .verdict) ≡ decide (opening-places settings)
-  pub converter : answer .converter ≡ settings
+  pub converter : answer .converter ≡ converter-of settings
 
 -- ---- conversions: `out` and `counts` are the lent lists at entry, `out'` and `counts'` at exit
 
@@ -58,11 +60,14 @@ unfoldable pub if-lent : Bool → List ℕ → List ℕ → List ℕ
 if-lent true new old = new
 if-lent false new old = old
 
--- byte output
-pub record ConvertPromise (conv : Converter) (r : Run) (lent : Bool) (out counts out' counts' : List ℕ) (answer : Converted) : Type 0 where
-  pub answered : Answered (convert-places conv r out lent counts) conv r answer
-  pub written : out' ≡ by-decision (decide (convert-places conv r out lent counts)) (s24le (samples conv r)) out
-  pub per-frame : counts' ≡ by-decision (decide (convert-places conv r out lent counts)) (if-lent lent (per-frame-clips conv r) counts) counts
+-- byte output, at most so many frames
+pub record BytesPromise (limit : Limit) (conv : Converter) (r : Run) (lent : Bool) (out counts out' counts' : List ℕ) (answer : Converted) : Type 0 where
+  pub answered : Answered (convert-places limit conv r out lent counts) conv r answer
+  pub written : out' ≡ by-decision (decide (convert-places limit conv r out lent counts)) (s24le (samples conv r)) out
+  pub per-frame : counts' ≡ by-decision (decide (convert-places limit conv r out lent counts)) (if-lent lent (per-frame-clips conv r) counts) counts
+
+abbrev pub ConvertPromise : Converter → Run → Bool → List ℕ → List ℕ → List ℕ → List ℕ → Converted → Type 0
+ConvertPromise = BytesPromise rack
 
 -- ---- `pack_s24le`
 

@@ -8,11 +8,13 @@ use lib.ListN.{length}
 use lib.Ieee.{Float}
 use Rattle.reference.specs.Frames.{Run, frame-length, frame-count}
 use Rattle.reference.specs.Scaling.{allowed, right-gain}
+use Rattle.reference.specs.Settings.{held-settings}
 use Rattle.reference.specs.Output.{all-samples}
 use Rattle.reference.specs.declared.PcmRate.{PcmRate}
 use Rattle.reference.specs.declared.PcmRate.the-variants.{Hz88200, Hz176400, Hz352800}
 use Rattle.reference.specs.declared.Cutoff.{Cutoff}
 use Rattle.reference.specs.declared.Cutoff.the-variants.{Standard, Low, Wide}
+use Rattle.reference.specs.declared.Settings.{Settings}
 use Rattle.reference.specs.declared.Converter.{Converter}
 use Rattle.reference.specs.declared.PcmError.{PcmError}
 use Rattle.reference.specs.declared.PcmError.the-variants as error
@@ -54,6 +56,11 @@ error-decision (error.Frames n) = refused 5 (number n ∷ [])
 error-decision (error.OutputLength n expected) = refused 6 (number n ∷ number expected ∷ [])
 error-decision (error.OutputBytes n expected) = refused 7 (number n ∷ number expected ∷ [])
 error-decision (error.FrameCounts n expected) = refused 8 (number n ∷ number expected ∷ [])
+error-decision error.NotDsf = refused 9 []
+error-decision error.DsfFormat = refused 10 []
+error-decision error.DsfLength = refused 11 []
+error-decision error.NotWav = refused 12 []
+error-decision error.Schedule = refused 19 []
 
 abbrev pub decision : Verdict → Decision
 decision verdict.Accepted = accepted
@@ -97,29 +104,41 @@ unsupported Hz88200 Low = false
 unsupported Hz176400 c = false
 unsupported Hz352800 c = false
 
--- opening, and again in each conversion
-unfoldable pub opening-places : Converter → List Place
-opening-places conv =
-    place (not (leb 1 (conv .channels) && leb (conv .channels) 6)) 1 (number (conv .channels) ∷ [])
-    ∷ place (unsupported (conv .rate) (conv .cutoff)) 2 (rate (conv .rate) ∷ cutoff (conv .cutoff) ∷ [])
-    ∷ place (not (right-gain (conv .gain))) 3 (decibels (conv .gain .db) ∷ [])
+-- opening
+unfoldable pub opening-places : Settings → List Place
+opening-places s =
+    place (not (leb 1 (s .channels) && leb (s .channels) 6)) 1 (number (s .channels) ∷ [])
+    ∷ place (unsupported (s .rate) (s .cutoff)) 2 (rate (s .rate) ∷ cutoff (s .cutoff) ∷ [])
+    ∷ place (not (right-gain (s .gain))) 3 (decibels (s .gain .db) ∷ [])
     ∷ []
+
+-- and again in each conversion, on the converter as held
+abbrev pub held-places : Converter → List Place
+held-places conv = opening-places (held-settings conv)
 
 -- a slice that is to be one frame: `convert_frame`'s run, and each neighbour
 unfoldable pub one-frame : ℕ → List ℕ → Place
 one-frame channels bytes = place (not (eqb (length bytes) (frame-length channels))) 4 (number (length bytes) ∷ number 1 ∷ [])
 
+-- how many frames a call takes, and the number of the refusal of more, which carries the frames
+pub record Limit : Type 0 where
+  pub most : ℕ
+  pub refusal : ℕ
+
+abbrev pub rack : Limit
+rack = record { most = 540000; refusal = 5 }
+
 -- run length
-unfoldable pub run-length : ℕ → List ℕ → List Place
-run-length channels frames =
+unfoldable pub run-length : Limit → ℕ → List ℕ → List Place
+run-length limit channels frames =
     place (not (eqb (length frames % frame-length channels) 0)) 4 (number (length frames) ∷ number 0 ∷ [])
-    ∷ place (ltb 540000 (frame-count channels frames)) 5 (number (frame-count channels frames) ∷ [])
+    ∷ place (ltb (limit .most) (frame-count channels frames)) (limit .refusal) (number (frame-count channels frames) ∷ [])
     ∷ []
 
 -- run length, before, after
-unfoldable pub input-places : Converter → Run → List Place
-input-places conv r =
-    run-length (conv .channels) (r .frames)
+unfoldable pub input-places : Limit → Converter → Run → List Place
+input-places limit conv r =
+    run-length limit (conv .channels) (r .frames)
     ++ (if-present (r .has-before) (one-frame (conv .channels) (r .before))
     ++ if-present (r .has-after) (one-frame (conv .channels) (r .after)))
 
@@ -130,19 +149,19 @@ lent-length refusal n expected = place (not (eqb n expected)) refusal (number n 
 -- ---- what each conversion tries: from the run length on, and in all
 
 unfoldable pub run-lengths : Converter → Run → List ℤ → List Place
-run-lengths conv r out = input-places conv r ++ (lent-length 6 (length out) (all-samples conv r) ∷ [])
+run-lengths conv r out = input-places rack conv r ++ (lent-length 6 (length out) (all-samples conv r) ∷ [])
 
-unfoldable pub byte-lengths : Converter → Run → List ℕ → Bool → List ℕ → List Place
-byte-lengths conv r out lent counts =
-    input-places conv r
+unfoldable pub byte-lengths : Limit → Converter → Run → List ℕ → Bool → List ℕ → List Place
+byte-lengths limit conv r out lent counts =
+    input-places limit conv r
     ++ (lent-length 7 (length out) (3 * all-samples conv r)
     ∷ if-present lent (lent-length 8 (length counts) (frame-count (conv .channels) (r .frames))))
 
 unfoldable pub convert-run-places : Converter → Run → List ℤ → List Place
-convert-run-places conv r out = opening-places conv ++ run-lengths conv r out
+convert-run-places conv r out = held-places conv ++ run-lengths conv r out
 
-unfoldable pub convert-places : Converter → Run → List ℕ → Bool → List ℕ → List Place
-convert-places conv r out lent counts = opening-places conv ++ byte-lengths conv r out lent counts
+unfoldable pub convert-places : Limit → Converter → Run → List ℕ → Bool → List ℕ → List Place
+convert-places limit conv r out lent counts = held-places conv ++ byte-lengths limit conv r out lent counts
 
 unfoldable pub convert-frame-places : Converter → Run → List ℤ → List Place
-convert-frame-places conv r out = opening-places conv ++ (one-frame (conv .channels) (r .frames) ∷ run-lengths conv r out)
+convert-frame-places conv r out = held-places conv ++ (one-frame (conv .channels) (r .frames) ∷ run-lengths conv r out)

@@ -1,13 +1,35 @@
-// The records of document 01, and the rounding of its module 1. The definition of a conversion is in specs/.
+// The records and numbers of document 01, and the rounding of its module 1. The definition of a conversion is in specs/.
+ghost use mathlib.Core.Path.{_≡_};
+ghost use Prim.Native.Nat.{_≤_};
+ghost use Rattle.reference.specs.Output.{samples-per-frame};
+ghost use Rattle.reference.specs.Settings.{converter-of};
+
 mod round;
 
 pub use round::div_round23;
 pub use round::div_round24;
 
+// Bytes of one channel in a frame.
+pub const FRAME_BYTES: usize = 4704;
+
+// Frames of the longest run.
+pub const MOST_FRAMES: usize = 540000;
+
 pub enum PcmRate {
     Hz88200,
     Hz176400,
     Hz352800,
+}
+
+// Samples of one channel in a frame.
+pub fn samples_per_frame(rate: PcmRate) -> usize
+    ensures { λ r. ⌜ (r ≡ samples-per-frame rate) × (r ≤ 4704) ⌝ }
+{
+    match rate {
+        PcmRate::Hz88200 => FRAME_BYTES / 4,
+        PcmRate::Hz176400 => FRAME_BYTES / 2,
+        PcmRate::Hz352800 => FRAME_BYTES,
+    }
 }
 
 pub enum Cutoff {
@@ -22,11 +44,34 @@ pub struct Gain {
     pub linear: f64,
 }
 
+// What opening is given.
+pub struct Settings {
+    pub rate: PcmRate,
+    pub cutoff: Cutoff,
+    pub channels: u8,
+    pub gain: Gain,
+}
+
+// What opening gives, and each conversion is given.
 pub struct Converter {
     pub rate: PcmRate,
     pub cutoff: Cutoff,
     pub channels: u8,
     pub gain: Gain,
+}
+
+pub fn converter_of(settings: Settings) -> Converter
+    ensures { λ r. ⌜ r ≡ converter-of settings ⌝ }
+{
+    let rate = settings.rate;
+    let cutoff = settings.cutoff;
+    let gain = settings.gain;
+    Converter {
+        rate,
+        cutoff,
+        channels: settings.channels,
+        gain,
+    }
 }
 
 // Samples that the clamp changed, by channel; an unused channel has 0.
@@ -42,10 +87,18 @@ pub enum PcmError {
     // The length, and its kind: 0 not whole frames, 1 not one frame.
     InputLength(usize, u8),
     Frames(usize),
-    // The length, and the length expected; so in the two below.
+    // The length, and the length expected; so in the next two.
     OutputLength(usize, usize),
     OutputBytes(usize, usize),
     FrameCounts(usize, usize),
+    // Of a DSF file: not as the document lays it out, its frequency or sample count, its lengths.
+    NotDsf,
+    DsfFormat,
+    DsfLength,
+    // Not a file that the WAV reader takes, or none that it would.
+    NotWav,
+    // A number of a simulation of turns outside its range.
+    Schedule,
 }
 
 pub enum Verdict {
@@ -59,7 +112,7 @@ pub enum FromDb {
     Refused(PcmError),
 }
 
-// What opening answers: the settings given are the converter, also where they are refused.
+// What opening answers: the converter of the settings given, also where they are refused.
 pub struct Opened {
     pub verdict: Verdict,
     pub converter: Converter,

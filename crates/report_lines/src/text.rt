@@ -52,7 +52,7 @@ fn size(z: i32) -> u64
     }
 }
 
-// The same of a number that may be below 0.
+// z in decimal, with a minus sign if it is below 0.
 fn signed(out: &mut [u8], at: usize, z: i32) -> usize
     requires { ⌜ at + 11 ≤ length (now out) ⌝ }
     ensures { λ r. ⌜ Printed (texts.signed z) (now (out .entry)) at (now (out .exit)) r ⌝ }

@@ -25,7 +25,8 @@ use Rattle.gain.proofs.Tallies.{tally-none, tally-join, tally-fits, tally-clipp
 use Rattle.output.specs.Fills.{Drawn, Room}
 use Rattle.output.proofs.Boxes.{all-items, all-bytes}
 use Rattle.blocks.specs.Blocks.{Made}
-use Rattle.blocks.proofs.Sums.{made-drawn, frame-samples, none-drawn, no-columns, drawn-rows, drawn-cols}
+use Rattle.reference.proofs.Frames.{frame-samples}
+use Rattle.blocks.proofs.Sums.{made-drawn, none-drawn, no-columns, drawn-rows, drawn-cols}
 use Rattle.runs.specs.Loops.{channel-tally, Tallied, clips-below, stats-of, Ran}
 
 -- ---- the channels' tallies

@@ -135,7 +135,7 @@ pub fn every<'a>(
     ensures { λ r. ⌜ Ran packed conv (lent-run (now (before .entry)) (now (frames .entry)) (now (after .entry))) r (now (out .entry)) (now (out .exit)) (now (raw .entry)) (now (raw .exit)) (now (counts .entry)) (now (counts .exit)) ⌝ }
 {
     let rate = conv.rate;
-    let spf = blocks::samples_per_frame(rate);
+    let spf = reference::samples_per_frame(rate);
     let zero = gain::no_tally();
     let mut tallies = [zero; 6];
     let mut f: usize = 0;

@@ -8,7 +8,7 @@ use lib.IntN.{ℤ}
 use lib.ListN.{length}
 use Rattle.reference.specs.Frames.{Run, frame-count}
 use Rattle.reference.specs.Output.{all-samples, samples, stats, s24le, per-frame-clips}
-use Rattle.reference.specs.Refusals.{accepted, decision, is-accepted, Place, decide, if-present, lent-length, opening-places, input-places, run-lengths, byte-lengths, convert-run-places, convert-frame-places, convert-places}
+use Rattle.reference.specs.Refusals.{rack, accepted, decision, is-accepted, Place, decide, if-present, lent-length, held-places, input-places, run-lengths, byte-lengths, convert-run-places, convert-frame-places, convert-places}
 use Rattle.reference.specs.Promises.{no-clips, Answered, SamplesPromise, ConvertPromise, if-lent}
 use Rattle.reference.specs.declared.Converter.{Converter}
 use Rattle.reference.specs.declared.ConvertStats.{ConvertStats}
@@ -25,26 +25,26 @@ unfolding lent-length
 right-length refusal n expected ps e = eqb-true _ _ (not-false _ (pass _ _ e .0))
 
 module _ (conv : Converter) (r : Run) (out : List ℤ) where
-  items-fit : decide (opening-places conv) ≡ accepted → decide (run-lengths conv r out) ≡ accepted → AcceptedCall conv r × (length out ≡ all-samples conv r)
+  items-fit : decide (held-places conv) ≡ accepted → decide (run-lengths conv r out) ≡ accepted → AcceptedCall conv r × (length out ≡ all-samples conv r)
   unfolding run-lengths
   items-fit o e =
-      let h = both (input-places conv r) _ e in
+      let h = both (input-places rack conv r) _ e in
       (record { opens = o; fits = h .0 }, right-length 6 (length out) (all-samples conv r) [] (h .1))
 
   pub run-accepted : decide (convert-run-places conv r out) ≡ accepted → AcceptedCall conv r × (length out ≡ all-samples conv r)
   unfolding convert-run-places
-  run-accepted e = let h = both (opening-places conv) _ e in items-fit (h .0) (h .1)
+  run-accepted e = let h = both (held-places conv) _ e in items-fit (h .0) (h .1)
 
   pub frame-accepted : decide (convert-frame-places conv r out) ≡ accepted → AcceptedCall conv r × (length out ≡ all-samples conv r)
   unfolding convert-frame-places
-  frame-accepted e = let h = both (opening-places conv) _ e in items-fit (h .0) (pass _ _ (h .1) .1)
+  frame-accepted e = let h = both (held-places conv) _ e in items-fit (h .0) (pass _ _ (h .1) .1)
 
-pub bytes-accepted : (conv : Converter) (r : Run) (out : List ℕ) (lent : Bool) (counts : List ℕ) → decide (convert-places conv r out lent counts) ≡ accepted
+pub bytes-accepted : (conv : Converter) (r : Run) (out : List ℕ) (lent : Bool) (counts : List ℕ) → decide (convert-places rack conv r out lent counts) ≡ accepted
     → AcceptedCall conv r × (length out ≡ 3 * all-samples conv r) × (lent ≡ true → length counts ≡ frame-count (conv .channels) (r .frames))
 unfolding convert-places byte-lengths if-present
 bytes-accepted conv r out lent counts e =
-    let h = both (opening-places conv) _ e in
-    let k = both (input-places conv r) _ (h .1) in
+    let h = both (held-places conv) _ e in
+    let k = both (input-places rack conv r) _ (h .1) in
     (record { opens = h .0; fits = k .0 }, right-length 7 (length out) (3 * all-samples conv r) _ (k .1), λ t. counted lent t (pass _ _ (k .1) .1))
   where
     counted : (b : Bool) → b ≡ true → decide (if-present b (lent-length 8 (length counts) (frame-count (conv .channels) (r .frames)))) ≡ accepted → length counts ≡ frame-count (conv .channels) (r .frames)
@@ -68,9 +68,9 @@ module _ (places : List Place) (conv : Converter) (r : Run) (v : Verdict) (decid
     pub samples-refused : (out : List ℤ) → SamplesPromise places conv r out out (record { verdict = v; stats = told })
     samples-refused out = record { answered = unanswered; written = sym (exit-refused (decide places) (samples conv r) out down) }
 
-module _ (conv : Converter) (r : Run) (lent : Bool) (out counts : List ℕ) (v : Verdict) (decided : decision v ≡ decide (convert-places conv r out lent counts)) where
+module _ (conv : Converter) (r : Run) (lent : Bool) (out counts : List ℕ) (v : Verdict) (decided : decision v ≡ decide (convert-places rack conv r out lent counts)) where
   abbrev places : List Place
-  places = convert-places conv r out lent counts
+  places = convert-places rack conv r out lent counts
 
   pub convert-promise : decide places ≡ accepted → (told : ConvertStats) → told ≡ stats conv r → (out' counts' : List ℕ) → out' ≡ s24le (samples conv r)
       → counts' ≡ if-lent lent (per-frame-clips conv r) counts → ConvertPromise conv r lent out counts out' counts' (record { verdict = v; stats = told })

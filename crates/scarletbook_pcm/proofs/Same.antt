@@ -14,7 +14,7 @@ use Rattle.reference.specs.Frames.{Run, run, frame-length, frame-count, neighbo
 use Rattle.reference.specs.Stages.{y}
 use Rattle.reference.specs.Scaling.{scaled, clamp, clips, right-gain}
 use Rattle.reference.specs.Output.{samples-per-frame, unclamped, sample, clipped, item, channel-samples, all-samples, samples, channel-clips, stats, frame-clips, per-frame-clips, s24le}
-use Rattle.reference.specs.Refusals.{accepted, decide, Place, if-present, one-frame, run-length, opening-places, input-places, unsupported}
+use Rattle.reference.specs.Refusals.{rack, accepted, decide, Place, if-present, one-frame, run-length, opening-places, input-places, unsupported}
 use Rattle.reference.specs.declared.Converter.{Converter}
 use Rattle.reference.specs.declared.ConvertStats.{ConvertStats}
 use Rattle.reference.proofs.Refusals.{pass, some-channel, few-channels, whole-frames, few-frames}
@@ -82,8 +82,8 @@ module _ (conv : Converter) (hb : Bool) (b f : List ℕ) (ha : Bool) (a : List �
       record {
         some = some-channel conv (ok .opens);
         few = few-channels conv (ok .opens);
-        limit = few-frames conv (run hb b f ha a) (ok .fits);
-        whole = whole-frames conv (run hb b f ha a) (ok .fits);
+        limit = few-frames rack conv (run hb b f ha a) (ok .fits);
+        whole = whole-frames rack conv (run hb b f ha a) (ok .fits);
         first = passed (conv .channels) hb b _ neighbours .0;
         last = passed (conv .channels) ha a _ last-place .0;
       }

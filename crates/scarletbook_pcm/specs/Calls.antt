@@ -5,7 +5,7 @@ use mathlib.Core.Bool.{Bool, true, false}
 use Prim.Native.Nat.{ℕ}
 use denote.Ref.{now}
 use Rattle.reference.specs.Frames.{Run, run}
-use Rattle.reference.specs.Refusals.{accepted, decide, opening-places, input-places}
+use Rattle.reference.specs.Refusals.{rack, accepted, decide, held-places, input-places}
 use Rattle.reference.specs.declared.Converter.{Converter}
 use Rattle.scarletbook_pcm.specs.declared.record.Run.{Run as Record}
 
@@ -15,8 +15,8 @@ run-of d = run (d .«has_before») (now (d .before)) (now (d .frames)) (d .«has
 
 -- what its places before the output's lengths find: an accepted converter and an accepted run
 pub record AcceptedCall (conv : Converter) (r : Run) : Type 0 where
-  pub opens : decide (opening-places conv) ≡ accepted
-  pub fits : decide (input-places conv r) ≡ accepted
+  pub opens : decide (held-places conv) ≡ accepted
+  pub fits : decide (input-places rack conv r) ≡ accepted
 
 -- a neighbour's slice, or an empty one where it is absent
 unfoldable pub present : Bool → List ℕ → List ℕ

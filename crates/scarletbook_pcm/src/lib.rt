@@ -10,21 +10,25 @@ use reference::Converter;
 use reference::Cutoff;
 use reference::Opened;
 use reference::PcmRate;
+use reference::Settings;
 
 mod record;
 mod work;
 
-// The run record, and the calls over it; the functions `.._parts` below take its fields one by one.
+// The run record, and the calls over it; the functions `.._of` make it of its fields, and the functions `.._parts` below do without it.
 pub use record::Run;
 pub use record::convert;
 pub use record::convert_frame;
+pub use record::convert_frame_of;
+pub use record::convert_of;
 pub use record::convert_run;
+pub use record::convert_run_of;
 
 // Samples of one channel in a frame.
 pub fn samples_per_frame(rate: PcmRate) -> usize
     ensures { λ r. ⌜ r ≡ output.samples-per-frame rate ⌝ }
 {
-    blocks::samples_per_frame(rate)
+    reference::samples_per_frame(rate)
 }
 
 // Bytes of each channel before and after a stretch of frames that its samples may depend on.
@@ -52,14 +56,12 @@ pub fn context_bytes(conv: Converter) -> usize
     }
 }
 
-pub fn open(settings: Converter) -> Opened
+pub fn open(settings: Settings) -> Opened
     ensures { λ r. ⌜ OpeningPromise settings r ⌝ }
 {
     let verdict = checks::opening(settings);
-    Opened {
-        verdict,
-        converter: settings,
-    }
+    let converter = reference::converter_of(settings);
+    Opened { verdict, converter }
 }
 
 fn nothing_counted() -> ConvertStats
@@ -89,7 +91,7 @@ pub fn convert_run_parts<'a>(
     Converted { verdict, stats }
 }
 
-// The same of one frame.
+// 32-bit samples of exactly one frame. An absent neighbour's slice is neither read nor measured.
 pub fn convert_frame_parts<'a>(
     conv: Converter,
     has_before: bool,

@@ -1,4 +1,5 @@
 // The run record, and the calls over it: each takes it apart and calls the function with plain parameters.
+ghost use Rattle.reference.specs.Frames.{run};
 ghost use Rattle.reference.specs.Promises.{ConvertRunPromise, ConvertFramePromise, ConvertPromise};
 ghost use Rattle.scarletbook_pcm.specs.Calls.{run-of};
 use crate::convert_frame_parts;
@@ -60,6 +61,83 @@ pub fn convert<'a>(
         run.frames,
         run.has_after,
         run.after,
+        lent,
+        out,
+        counts,
+    )
+}
+
+// The record is made of plain parameters, and the call over it is made: for callers whose own parameters are plain.
+pub fn convert_run_of<'a>(
+    conv: Converter,
+    has_before: bool,
+    before: &'a [u8],
+    frames: &'a [u8],
+    has_after: bool,
+    after: &'a [u8],
+    out: &mut [i32],
+) -> Converted
+    ensures { λ r. ⌜ ConvertRunPromise conv (run «has_before» (now (before .entry)) (now (frames .entry)) «has_after» (now (after .entry))) (now (out .entry)) (now (out .exit)) r ⌝ }
+{
+    convert_run(
+        conv,
+        Run {
+            has_before,
+            before,
+            frames,
+            has_after,
+            after,
+        },
+        out,
+    )
+}
+
+pub fn convert_frame_of<'a>(
+    conv: Converter,
+    has_before: bool,
+    before: &'a [u8],
+    frames: &'a [u8],
+    has_after: bool,
+    after: &'a [u8],
+    out: &mut [i32],
+) -> Converted
+    ensures { λ r. ⌜ ConvertFramePromise conv (run «has_before» (now (before .entry)) (now (frames .entry)) «has_after» (now (after .entry))) (now (out .entry)) (now (out .exit)) r ⌝ }
+{
+    convert_frame(
+        conv,
+        Run {
+            has_before,
+            before,
+            frames,
+            has_after,
+            after,
+        },
+        out,
+    )
+}
+
+pub fn convert_of<'a>(
+    conv: Converter,
+    has_before: bool,
+    before: &'a [u8],
+    frames: &'a [u8],
+    has_after: bool,
+    after: &'a [u8],
+    lent: bool,
+    out: &mut [u8],
+    counts: &mut [u64],
+) -> Converted
+    ensures { λ r. ⌜ ConvertPromise conv (run «has_before» (now (before .entry)) (now (frames .entry)) «has_after» (now (after .entry))) lent (now (out .entry)) (now (counts .entry)) (now (out .exit)) (now (counts .exit)) r ⌝ }
+{
+    convert(
+        conv,
+        Run {
+            has_before,
+            before,
+            frames,
+            has_after,
+            after,
+        },
         lent,
         out,
         counts,

@@ -54,7 +54,7 @@ no-digit b never =
       takes-only = λ l. absurd (omega arith);
     }
 
--- the same after a number
+-- a number read from one more byte, after the one read before it
 module _ {t : List ℕ} {m b d : ℕ} (h : 0 < length t) (r : NumberRead t m) (f : NumberRead (b ∷ []) d) where
   parts : (n : ℕ) → n < 1000 → t ++ (b ∷ []) ≡ decimal n → (10 ≤ n) × (m ≡ n / 10) × (d ≡ n % 10)
   parts n l e =

@@ -16,12 +16,12 @@ use Rattle.reference.specs.declared.Cutoff.the-variants.{Standard, Low, Wide}
 use Rattle.report_lines.specs.Text.{text, joined, decimal, signed}
 use Rattle.settings_line.specs.Settings.{blank, rate-text, cutoff-text, settings-line, InRange, LineRead}
 use Rattle.settings_line.specs.Reading.{Skips, NumberRead, after-rate, after-cutoff, after-channels}
-use Rattle.settings_line.specs.declared.Settings.{Settings}
+use Rattle.settings_line.specs.declared.LineSettings.{LineSettings}
 use Rattle.settings_line.specs.declared.FirstLine.{FirstLine}
 use Rattle.settings_line.specs.declared.FirstLine.the-variants.{Set, Refused}
 use Rattle.report_lines.proofs.Numerals.{one-digit, first-digit}
 
-by-fields : (s : Settings) → settings-line s ≡ after-channels (s .rate) (s .cutoff) (s .channels) (signed (s .db))
+by-fields : (s : LineSettings) → settings-line s ≡ after-channels (s .rate) (s .cutoff) (s .channels) (signed (s .db))
 unfolding settings-line joined
 by-fields s = rw append-nil
 
@@ -58,18 +58,18 @@ unfolding channels-of
 channels-is n l h = rw (one-digit n (omega arith)) (omega arith)
 
 -- what is left of a line after each field
-past-rate : {rate : PcmRate} {line : List ℕ} (s : Settings) → after-rate rate line ≡ settings-line s
+past-rate : {rate : PcmRate} {line : List ℕ} (s : LineSettings) → after-rate rate line ≡ settings-line s
     → (rate ≡ s .rate) × (line ≡ cutoff-text (s .cutoff) ++ (blank ++ (decimal (s .channels) ++ (blank ++ signed (s .db)))))
 past-rate {rate} {line} s e = apart rate-text rate-of (rate-is rate line) (rate-is (s .rate) _) (e ∙ by-fields s)
 
-past-cutoff : {rate : PcmRate} {cutoff : Cutoff} {line : List ℕ} (s : Settings) → after-cutoff rate cutoff line ≡ settings-line s
+past-cutoff : {rate : PcmRate} {cutoff : Cutoff} {line : List ℕ} (s : LineSettings) → after-cutoff rate cutoff line ≡ settings-line s
     → (rate ≡ s .rate) × (cutoff ≡ s .cutoff) × (line ≡ decimal (s .channels) ++ (blank ++ signed (s .db)))
 past-cutoff {rate} {cutoff} {line} s e =
     let p = past-rate s e in
     let q = apart cutoff-text cutoff-of (cutoff-is cutoff line) (cutoff-is (s .cutoff) (decimal (s .channels) ++ (blank ++ signed (s .db)))) (p .1) in
     (p .0, q .0, q .1)
 
-past-channels : {rate : PcmRate} {cutoff : Cutoff} {n : ℕ} {line : List ℕ} (s : Settings) → InRange s → n ≤ 2 → after-channels rate cutoff n line ≡ settings-line s
+past-channels : {rate : PcmRate} {cutoff : Cutoff} {n : ℕ} {line : List ℕ} (s : LineSettings) → InRange s → n ≤ 2 → after-channels rate cutoff n line ≡ settings-line s
     → (rate ≡ s .rate) × (cutoff ≡ s .cutoff) × (n ≡ s .channels) × (line ≡ signed (s .db))
 past-channels {rate} {cutoff} {n} {line} s o h e =
     let p = past-cutoff s e in
@@ -84,7 +84,7 @@ pub same-line : {l m : List ℕ} {answer : FirstLine} → l ≡ m → LineRead m
 same-line e r = rw e r
 
 -- ---- a line that is refused, since its next field is none
-refused : {line : List ℕ} → ((s : Settings) → InRange s → line ≡ settings-line s → ⊥) → LineRead line Refused
+refused : {line : List ℕ} → ((s : LineSettings) → InRange s → line ≡ settings-line s → ⊥) → LineRead line Refused
 refused never =
     record {
       takes = λ s o e. absurd (never s o e);
@@ -138,22 +138,22 @@ plus-is {line} {m} r never (pos n) l e =
 plus-is r never (negsuc n) l e = absurd (never (decimal (suc n)) e)
 
 module _ (rate : PcmRate) (cutoff : Cutoff) (channels : ℕ) (line : List ℕ) (one : 1 ≤ channels) (two : channels ≤ 2) where
-  abbrev with-db : ℤ → Settings
+  abbrev with-db : ℤ → LineSettings
   with-db z = record { rate = rate; cutoff = cutoff; channels = channels; db = z }
 
   abbrev Reads : FirstLine → Type 0
   Reads = LineRead (after-channels rate cutoff channels line)
 
-  no-db : ((s : Settings) → InRange s → line ≡ signed (s .db) → ⊥) → Reads Refused
+  no-db : ((s : LineSettings) → InRange s → line ≡ signed (s .db) → ⊥) → Reads Refused
   no-db never = refused (λ s o e. never s o (past-channels s o two e .3))
 
-  set : (z : ℤ) → negsuc 119 ≤ℤ z → z ≤ℤ pos 24 → line ≡ signed z → ((s : Settings) → InRange s → line ≡ signed (s .db) → s .db ≡ z) → Reads (Set (with-db z))
+  set : (z : ℤ) → negsuc 119 ≤ℤ z → z ≤ℤ pos 24 → line ≡ signed z → ((s : LineSettings) → InRange s → line ≡ signed (s .db) → s .db ≡ z) → Reads (Set (with-db z))
   set z low high is alone =
       record {
         takes = λ s o e. let p = past-channels s o two e in rw (p .0, p .1, p .2, ← alone s o (p .3));
         takes-only = λ s e.
             let q : with-db z ≡ s = cc in
-            subst (λ (t : Settings). InRange t × (after-channels rate cutoff channels line ≡ settings-line t)) q
+            subst (λ (t : LineSettings). InRange t × (after-channels rate cutoff channels line ≡ settings-line t)) q
             (record { one = one; two = two; lowest = low; highest = high }, ap (after-channels rate cutoff channels) is ∙ sym (by-fields (with-db z)));
       }
 

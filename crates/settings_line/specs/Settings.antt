@@ -9,7 +9,7 @@ use Rattle.reference.specs.declared.PcmRate.the-variants.{Hz88200, Hz176400, Hz
 use Rattle.reference.specs.declared.Cutoff.{Cutoff}
 use Rattle.reference.specs.declared.Cutoff.the-variants.{Standard, Low, Wide}
 use Rattle.report_lines.specs.Text.{text, joined, decimal, signed}
-use Rattle.settings_line.specs.declared.Settings.{Settings}
+use Rattle.settings_line.specs.declared.LineSettings.{LineSettings}
 use Rattle.settings_line.specs.declared.FirstLine.{FirstLine}
 use Rattle.settings_line.specs.declared.FirstLine.the-variants.{Set}
 
@@ -27,12 +27,12 @@ abbrev pub blank : List ℕ
 blank = 32 ∷ []
 
 -- the line of some settings, without its newline: one blank between, no needless zeros, no -0
-unfoldable pub settings-line : Settings → List ℕ
+unfoldable pub settings-line : LineSettings → List ℕ
 settings-line s =
     joined (rate-text (s .rate) ∷ blank ∷ cutoff-text (s .cutoff) ∷ blank ∷ decimal (s .channels) ∷ blank ∷ signed (s .db) ∷ [])
 
 -- 1 or 2 channels, -120 to 24 whole decibels
-pub record InRange (s : Settings) : Type 0 where
+pub record InRange (s : LineSettings) : Type 0 where
   pub one : 1 ≤ s .channels
   pub two : s .channels ≤ 2
   pub lowest : negsuc 119 ≤ℤ s .db
@@ -40,5 +40,5 @@ pub record InRange (s : Settings) : Type 0 where
 
 -- what reading a line promises, in both directions: it takes the lines of settings in range, as those settings, and no other line
 pub record LineRead (line : List ℕ) (answer : FirstLine) : Type 0 where
-  pub takes : (s : Settings) → InRange s → line ≡ settings-line s → answer ≡ Set s
-  pub takes-only : (s : Settings) → answer ≡ Set s → InRange s × (line ≡ settings-line s)
+  pub takes : (s : LineSettings) → InRange s → line ≡ settings-line s → answer ≡ Set s
+  pub takes-only : (s : LineSettings) → answer ≡ Set s → InRange s × (line ≡ settings-line s)

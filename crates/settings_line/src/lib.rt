@@ -6,7 +6,7 @@ use reference::PcmRate;
 mod reading;
 
 // What the first line sets.
-pub struct Settings {
+pub struct LineSettings {
     pub rate: PcmRate,
     pub cutoff: Cutoff,
     pub channels: u8,
@@ -14,7 +14,7 @@ pub struct Settings {
 }
 
 pub enum FirstLine {
-    Set(Settings),
+    Set(LineSettings),
     Refused,
 }
 

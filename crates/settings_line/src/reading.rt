@@ -5,7 +5,7 @@ ghost use lib.ListN.{length};
 ghost use Rattle.settings_line.specs.Settings.{LineRead};
 ghost use Rattle.settings_line.specs.Reading.{Skips, NumberRead, after-rate, after-cutoff, after-channels};
 use crate::FirstLine;
-use crate::Settings;
+use crate::LineSettings;
 use reference::Cutoff;
 use reference::PcmRate;
 
@@ -88,7 +88,7 @@ fn decibels(rate: PcmRate, cutoff: Cutoff, channels: u8, line: &[u8]) -> FirstLi
             return FirstLine::Refused;
         }
         let db = 0 - m as i32;
-        return FirstLine::Set(Settings {
+        return FirstLine::Set(LineSettings {
             rate,
             cutoff,
             channels,
@@ -100,7 +100,7 @@ fn decibels(rate: PcmRate, cutoff: Cutoff, channels: u8, line: &[u8]) -> FirstLi
         return FirstLine::Refused;
     }
     let db = n as i32;
-    FirstLine::Set(Settings {
+    FirstLine::Set(LineSettings {
         rate,
         cutoff,
         channels,

@@ -1,4 +1,4 @@
-// The tap tables of tables.rs, and the byte tables that `lut` makes of the first two. A `const` array that is indexed is made anew at each
+// Tap tables of tables.rs, and the byte tables that `lut` makes of its first two. A `const` array that is indexed is made anew at each
 // use: a caller binds a table once, by these functions, and lends it.
 ghost use mathlib.Core.Path.{_≡_};
 ghost use Rattle.reference.specs.Taps.{S1, S1-WIDE, HB, F40, F30, F80};
@@ -6,20 +6,6 @@ ghost use Rattle.tables.specs.Tables.{ByteTables};
 
 mod bytes;
 mod taps;
-
-// First stage of Standard and Low.
-pub fn s1() -> [i32; 32]
-    ensures { λ r. ⌜ r ≡ S1 ⌝ }
-{
-    taps::S1
-}
-
-// First stage of Wide.
-pub fn s1_wide() -> [i32; 48]
-    ensures { λ r. ⌜ r ≡ S1-WIDE ⌝ }
-{
-    taps::S1_WIDE
-}
 
 // Half band.
 pub fn hb() -> [i32; 16]

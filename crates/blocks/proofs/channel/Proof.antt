@@ -5,7 +5,8 @@ use native.Mathlib.Omega.{arith}
 use borrow.Author.Needs.{needs}
 use Rattle.reference.specs.Output.{samples-per-frame}
 use Rattle.route_states.specs.Routes.{block-length}
-use Rattle.blocks.proofs.Sums.{Blocks, blocks-none, blocks-more, sized-kept, few-samples, frame-samples, even-frame, some-block, next-block, room-same, made-drawn, made-fits}
+use Rattle.reference.proofs.Frames.{frame-samples}
+use Rattle.blocks.proofs.Sums.{Blocks, blocks-none, blocks-more, sized-kept, few-samples, even-frame, some-block, next-block, room-same, made-drawn, made-fits}
 use Rattle.blocks.proofs.channel.Statement.{statement}
 use Rattle.blocks.proofs.channel.Tie as tie
 

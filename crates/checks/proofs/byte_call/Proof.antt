@@ -1,31 +1,31 @@
 -- `byte_call` meets its contract.
 use mathlib.Core.Path.{_∙_, sym}
 use borrow.Author.Needs.{needs}
-use Rattle.reference.specs.Refusals.{opening-places, convert-places}
+use Rattle.reference.specs.Refusals.{held-places, convert-places}
 use Rattle.reference.proofs.Refusals.{some-channel, few-channels}
 use Rattle.checks.proofs.Steps.{passed, stands, goes-on}
 use Rattle.checks.proofs.byte_call.Statement.{statement}
 use Rattle.checks.proofs.byte_call.Tie as tie
 
-opening-requires : tie.Need-opening-requires
-opening-requires c κs = search needs
+held-requires : tie.Need-held-requires
+held-requires c κs = search needs
 
 accepted-requires : tie.Need-accepted-requires
 accepted-requires c κs = search needs
 
 byte-lengths-requires : tie.Need-byte-lengths-requires
 byte-lengths-requires c κs = let s = c .before .before .before .before .before .before .before .before in
-    let e = passed (opening-places (s .args .conv)) (c .before .before .opening .ensures) (c .before .accepted .ensures) (c .if1 .taken) in
+    let e = passed (held-places (s .args .conv)) (c .before .before .held .ensures) (c .before .accepted .ensures) (c .if1 .taken) in
     (some-channel (s .args .conv) e, few-channels (s .args .conv) e)
 
 returns : tie.Need-returns
 unfolding convert-places
-returns c = let s = c .before .before .before .before .before .before .before .before .before in c .byte-lengths .ensures ∙ sym (goes-on (opening-places (s .args .conv)) (c .before .before .before .opening .ensures) (c .before .before .accepted .ensures) _ (c .before .if1 .taken))
+returns c = let s = c .before .before .before .before .before .before .before .before .before in c .byte-lengths .ensures ∙ sym (goes-on (held-places (s .args .conv)) (c .before .before .before .held .ensures) (c .before .before .accepted .ensures) _ (c .before .if1 .taken))
 
 returns-2 : tie.Need-returns-2
 unfolding convert-places
-returns-2 c = let s = c .before .before .before .before .before .before .before .before in stands (opening-places (s .args .conv)) (c .before .before .opening .ensures) (c .before .accepted .ensures) _ (c .if1 .left)
+returns-2 c = let s = c .before .before .before .before .before .before .before .before in stands (held-places (s .args .conv)) (c .before .before .held .ensures) (c .before .accepted .ensures) _ (c .if1 .left)
 
 pub byte-call-spec : {M : Type 1} → statement M
 byte-call-spec =
-    tie.close (tie.spec opening-requires accepted-requires byte-lengths-requires returns returns-2)
+    tie.close (tie.spec held-requires accepted-requires byte-lengths-requires returns returns-2)

@@ -6,7 +6,7 @@ use borrow.Author.Tests.{ne-eqb, eq-eqb, not-true, not-false}
 use borrow.Author.Needs.{needs}
 use denote.Ref.{now}
 use lib.ListN.{length}
-use Rattle.reference.specs.Refusals.{Place, decide, input-places, byte-lengths, lent-length, if-present}
+use Rattle.reference.specs.Refusals.{rack, Place, decide, input-places, byte-lengths, lent-length, if-present}
 use Rattle.reference.specs.Output.{channel-samples, all-samples}
 use Rattle.reference.specs.Frames.{Run, run, frame-count}
 use Rattle.reference.proofs.Refusals.{at-first, at-next, at-end, few-frames, present-holds, present-passes, absent-passes}
@@ -24,14 +24,14 @@ abbrev run-of : (s : tie.Start) → Run
 run-of s = run (s .args .has-before) (now (s .args .before)) (now (s .args .frames)) (s .args .has-after) (now (s .args .after))
 
 abbrev first : (s : tie.Start) → List Place
-first s = input-places (s .args .conv) (run-of s)
+first s = input-places rack (s .args .conv) (run-of s)
 
 returns : tie.Need-returns
 unfolding byte-lengths
 returns c = let s = c .before .before .before .before .before .before .before .before in stands (first s) (c .before .before .input .ensures) (c .before .accepted .ensures) _ (not-true _ (c .if1 .taken))
 
 all-samples-requires : tie.Need-all-samples-requires
-all-samples-requires c κs = let s = c .before .before .before .before .before .before .before .before in (s .pre, few-frames (s .args .conv) (run-of s) (passed (first s) (c .before .before .input .ensures) (c .before .accepted .ensures) (not-false _ (c .if1 .left))))
+all-samples-requires c κs = let s = c .before .before .before .before .before .before .before .before in (s .pre, few-frames rack (s .args .conv) (run-of s) (passed (first s) (c .before .before .input .ensures) (c .before .accepted .ensures) (not-false _ (c .if1 .left))))
 
 mul-expected : tie.Need-mul-expected
 mul-expected c = search needs
@@ -52,7 +52,7 @@ div-count c = search needs
 
 -- past the output's length
 so-far : (c : tie.Else2) → let a = c .before .before .before .before .before .before .before .before .before .before .args in
-    decide (byte-lengths (a .conv) (run-of (c .before .before .before .before .before .before .before .before .before .before)) (now (a .out)) (a .lent) (now (a .counts)))
+    decide (byte-lengths rack (a .conv) (run-of (c .before .before .before .before .before .before .before .before .before .before)) (now (a .out)) (a .lent) (now (a .counts)))
     ≡ decide (if-present (a .lent) (lent-length 8 (length (now (a .counts))) (frame-count (a .conv .channels) (now (a .frames)))) ++ [])
 unfolding byte-lengths lent-length all-samples channel-samples
 so-far c =

@@ -3,21 +3,21 @@ use mathlib.Core.List.{[], _∷_}
 use mathlib.Core.Path.{_∙_, sym}
 use borrow.Author.Needs.{needs}
 use denote.Ref.{now}
-use Rattle.reference.specs.Refusals.{opening-places, one-frame, convert-frame-places}
+use Rattle.reference.specs.Refusals.{held-places, one-frame, convert-frame-places}
 use Rattle.reference.proofs.Refusals.{some-channel, few-channels}
 use Rattle.checks.proofs.Steps.{passed, stands, goes-on}
 use Rattle.checks.proofs.frame_call.Statement.{statement}
 use Rattle.checks.proofs.frame_call.Tie as tie
 
-opening-requires : tie.Need-opening-requires
-opening-requires c κs = search needs
+held-requires : tie.Need-held-requires
+held-requires c κs = search needs
 
 accepted-requires : tie.Need-accepted-requires
 accepted-requires c κs = search needs
 
 one-requires : tie.Need-one-requires
 one-requires c κs = let s = c .before .before .before .before .before .before in
-    let e = passed (opening-places (s .args .conv)) (c .before .before .opening .ensures) (c .before .accepted .ensures) (c .if1 .taken) in
+    let e = passed (held-places (s .args .conv)) (c .before .before .held .ensures) (c .before .accepted .ensures) (c .if1 .taken) in
     (some-channel (s .args .conv) e, few-channels (s .args .conv) e)
 
 accepted-requires-2 : tie.Need-accepted-requires-2
@@ -25,31 +25,31 @@ accepted-requires-2 c κs = search needs
 
 item-lengths-requires : tie.Need-item-lengths-requires
 item-lengths-requires c κs = let s = c .before .before .before .before .before .before .before .before .before in
-    let e = passed (opening-places (s .args .conv)) (c .before .before .before .before .before .opening .ensures) (c .before .before .before .before .accepted .ensures) (c .before .before .before .if1 .taken) in
+    let e = passed (held-places (s .args .conv)) (c .before .before .before .before .before .held .ensures) (c .before .before .before .before .accepted .ensures) (c .before .before .before .if1 .taken) in
     (some-channel (s .args .conv) e, few-channels (s .args .conv) e)
 
 returns : tie.Need-returns
 unfolding convert-frame-places
 returns c = let s = c .before .before .before .before .before .before .before .before .before .before in
     c .item-lengths .ensures
-    ∙ sym (goes-on (opening-places (s .args .conv)) (c .before .before .before .before .before .before .opening .ensures) (c .before .before .before .before .before .accepted .ensures) _ (c .before .before .before .before .if1 .taken)
+    ∙ sym (goes-on (held-places (s .args .conv)) (c .before .before .before .before .before .before .held .ensures) (c .before .before .before .before .before .accepted .ensures) _ (c .before .before .before .before .if1 .taken)
     ∙ goes-on (one-frame (s .args .conv .channels) (now (s .args .frames)) ∷ []) (c .before .before .before .one .ensures) (c .before .before .accepted2 .ensures) _ (c .before .if2 .taken))
 
 returns-2 : tie.Need-returns-2
 unfolding convert-frame-places
 returns-2 c = let s = c .before .before .before .before .before .before .before .before .before in
     stands (one-frame (s .args .conv .channels) (now (s .args .frames)) ∷ []) (c .before .before .one .ensures) (c .before .accepted2 .ensures) _ (c .if2 .left)
-    ∙ sym (goes-on (opening-places (s .args .conv)) (c .before .before .before .before .before .opening .ensures) (c .before .before .before .before .accepted .ensures) _ (c .before .before .before .if1 .taken))
+    ∙ sym (goes-on (held-places (s .args .conv)) (c .before .before .before .before .before .held .ensures) (c .before .before .before .before .accepted .ensures) _ (c .before .before .before .if1 .taken))
 
 returns-3 : tie.Need-returns-3
 unfolding convert-frame-places
-returns-3 c = let s = c .before .before .before .before .before .before in stands (opening-places (s .args .conv)) (c .before .before .opening .ensures) (c .before .accepted .ensures) _ (c .if1 .left)
+returns-3 c = let s = c .before .before .before .before .before .before in stands (held-places (s .args .conv)) (c .before .before .held .ensures) (c .before .accepted .ensures) _ (c .if1 .left)
 
 pub frame-call-spec : {M : Type 1} → statement M
 frame-call-spec =
     tie.close
     (tie.spec
-    opening-requires
+    held-requires
     accepted-requires
     one-requires
     accepted-requires-2

@@ -5,7 +5,7 @@ use mathlib.Core.Bool.{not}
 use mathlib.Core.Path.{_≡_, ap, sym, _∙_}
 use borrow.Author.Tests.{ne-eqb, eq-eqb, lt-ltb, le-ltb}
 use borrow.Author.Needs.{needs}
-use Rattle.reference.specs.Refusals.{decide, input-places, run-length, one-frame, if-present}
+use Rattle.reference.specs.Refusals.{rack, decide, input-places, run-length, one-frame, if-present}
 use Rattle.reference.specs.Frames.{run, frame-count}
 use Rattle.reference.proofs.Refusals.{at-first, at-next, at-end, present-holds, present-passes, absent-passes}
 use Rattle.checks.proofs.input.Statement.{statement}
@@ -33,16 +33,10 @@ returns-2 : tie.Need-returns-2
 unfolding input-places run-length frame-count
 returns-2 c = sym (at-next _ _ (ap not (eq-eqb _ _ (c .before .if1 .left))) ∙ at-first _ _ (lt-ltb _ _ (c .if2 .taken)))
 
-returns-3 : tie.Need-returns-3
-unfolding input-places run-length frame-count one-frame
-returns-3 c = sym (at-next _ _ (ap not (eq-eqb _ _ (c .before .before .before .if1 .left)))
-    ∙ at-next _ _ (le-ltb _ _ (c .before .before .if2 .left))
-    ∙ present-holds _ _ _ (c .before .if3 .taken) (ap not (ne-eqb _ _ (c .if4 .taken))))
-
 -- past the run length and the frame before, by whichever branch
 so-far : (c : lts.Joined3 reads.Pre reads.Post) →
     let a = c .before .before .before .before .args in
-    decide (input-places (a .conv) (run (a .has-before) (a .before .now) (a .frames .now) (a .has-after) (a .after .now)))
+    decide (input-places rack (a .conv) (run (a .has-before) (a .before .now) (a .frames .now) (a .has-after) (a .after .now)))
     ≡ decide (if-present (a .has-after) (one-frame (a .conv .channels) (a .after .now)) ++ [])
 unfolding input-places run-length frame-count one-frame
 so-far c =
@@ -50,6 +44,12 @@ so-far c =
     ∙ at-next _ _ (le-ltb _ _ (c .before .if2 .left))
     ∙ ⊎-elim (λ t. present-passes _ _ _ (t .0 .taken) (ap not (eq-eqb _ _ (t .1 .left)))) (λ t. absent-passes _ _ _ (t .left)) (c .if3 .came)
     ∙ ap decide (sym (append-nil _))
+
+returns-3 : tie.Need-returns-3
+unfolding input-places run-length frame-count one-frame
+returns-3 c = sym (at-next _ _ (ap not (eq-eqb _ _ (c .before .before .before .if1 .left)))
+    ∙ at-next _ _ (le-ltb _ _ (c .before .before .if2 .left))
+    ∙ present-holds _ _ _ (c .before .if3 .taken) (ap not (ne-eqb _ _ (c .if4 .taken))))
 
 returns-4 : tie.Need-returns-4
 unfolding one-frame

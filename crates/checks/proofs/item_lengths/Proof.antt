@@ -5,7 +5,7 @@ use mathlib.Core.Path.{ap, sym, _∙_}
 use borrow.Author.Tests.{ne-eqb, eq-eqb}
 use borrow.Author.Needs.{needs}
 use denote.Ref.{now}
-use Rattle.reference.specs.Refusals.{Place, input-places, run-lengths, lent-length}
+use Rattle.reference.specs.Refusals.{rack, Place, input-places, run-lengths, lent-length}
 use Rattle.reference.specs.Output.{channel-samples, all-samples}
 use Rattle.reference.specs.Frames.{Run, run}
 use Rattle.reference.proofs.Refusals.{at-first, at-next, at-end, few-frames}
@@ -23,10 +23,10 @@ abbrev run-of : (s : tie.Start) → Run
 run-of s = run (s .args .has-before) (now (s .args .before)) (now (s .args .frames)) (s .args .has-after) (now (s .args .after))
 
 abbrev first : (s : tie.Start) → List Place
-first s = input-places (s .args .conv) (run-of s)
+first s = input-places rack (s .args .conv) (run-of s)
 
 all-samples-requires : tie.Need-all-samples-requires
-all-samples-requires c κs = let s = c .before .before .before .before .before .before in (s .pre, few-frames (s .args .conv) (run-of s) (passed (first s) (c .before .before .input .ensures) (c .before .accepted .ensures) (c .if1 .taken)))
+all-samples-requires c κs = let s = c .before .before .before .before .before .before in (s .pre, few-frames rack (s .args .conv) (run-of s) (passed (first s) (c .before .before .input .ensures) (c .before .accepted .ensures) (c .if1 .taken)))
 
 returns : tie.Need-returns
 unfolding run-lengths lent-length all-samples channel-samples

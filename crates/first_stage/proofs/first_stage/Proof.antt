@@ -9,7 +9,7 @@ use Rattle.numbers.specs.Lists.{Held}
 use Rattle.numbers.proofs.Lists.{held-none, held-more}
 use Rattle.numbers.proofs.Machine.{t, val}
 use Rattle.first_stage.specs.Windows.{window-sum}
-use Rattle.first_stage.proofs.Link.{not-later, all-held}
+use Rattle.first_stage.proofs.Windows.{not-later}
 use borrow.Author.Needs.{needs}
 use Rattle.first_stage.proofs.first_stage.Statement.{statement}
 use Rattle.first_stage.proofs.first_stage.Tie as tie
@@ -109,7 +109,7 @@ returns c =
     let k = l .loop .k in
     let sum = window-sum (now (s .tables)) (s .half) (now (s .bytes)) in
     let e : k + 1 ≡ length (now (s .out)) = omega arith in
-    all-held (s .half) (s .start) (s .step) (length (now (s .out))) (rw e at (held-more (l .loop .inv .2) (omega arith) (val _ _ (c .window3 .ok) (c .window3 .ensures ∙ ap sum (omega arith))))) (omega arith) (λ i. omega (arith, l .before .shared-slice-known .given i))
+    rw e at (held-more (l .loop .inv .2) (omega arith) (val _ _ (c .window3 .ok) (c .window3 .ensures ∙ ap sum (omega arith))))
 
 same-length-2 : tie.Need-same-length-2 Inv-loop μ-loop
 same-length-2 c = c .before .before .loop .inv .1
@@ -119,7 +119,7 @@ returns-2 c =
     let l = c .before .before in
     let s = l .before .before .args in
     let e : l .loop .k ≡ length (now (s .out)) = omega arith in
-    all-held (s .half) (s .start) (s .step) (length (now (s .out))) (rw e at (l .loop .inv .2)) (omega arith) (λ i. omega (arith, l .before .shared-slice-known .given i))
+    rw e at (l .loop .inv .2)
 
 pub first-stage-spec : {M : Type 1} → statement M
 first-stage-spec =

@@ -5,7 +5,7 @@ use Prim.Native.Nat.{_+_, _*_, _-_}
 use native.Mathlib.Omega.{arith}
 use lib.ListN.{take, drop}
 use Rattle.numbers.proofs.Machine.{val}
-use Rattle.first_stage.proofs.Link.{window-is}
+use Rattle.first_stage.proofs.Windows.{window-is}
 use borrow.Author.Needs.{needs}
 use Rattle.first_stage.proofs.window.Statement.{statement}
 use Rattle.first_stage.proofs.window.Tie as tie

@@ -1,6 +1,9 @@
 -- `opened` meets its contract.
+use mathlib.Core.Path.{sym, ap, _∙_}
 use borrow.Author.Needs.{needs}
-use Rattle.levels.specs.Levels.{converter-of}
+use Rattle.reference.specs.Refusals.{decision}
+use Rattle.reference.specs.Settings.{converter-of}
+use Rattle.levels.specs.Levels.{read-settings}
 use Rattle.level_stream.proofs.opened.Statement.{statement}
 use Rattle.level_stream.proofs.opened.Tie as tie
 
@@ -11,8 +14,9 @@ enum-told : tie.Need-enum-told
 enum-told c = search needs
 
 report-frames-requires : tie.Need-report-frames-requires
-unfolding converter-of
-report-frames-requires c κs = rw (c .before .before .before .opened .ensures .converter) (c .before .before .before .before .pre)
+unfolding converter-of read-settings
+report-frames-requires c κs = let o = c .before .before .before .opened .ensures in
+    rw (o .converter) (sym (o .decided) ∙ ap decision (c .enum-told .given .1), c .before .before .before .before .pre)
 
 enum-known-verdict : tie.Need-enum-known-verdict
 enum-known-verdict c = search needs

@@ -11,7 +11,8 @@ use lib.ListN.{length, getD}
 use mir.Syntax.{w32}
 use mir.Val.{SFits, toZ, ofZ}
 use mir.Facts.{toZ-ofZ}
-use Rattle.levels.specs.Levels.{lesser, greater, extreme}
+use Rattle.numbers.specs.Extremes.{lesser, greater, picked}
+use Rattle.levels.specs.Levels.{extreme}
 use Rattle.levels.proofs.extremes_of.Statement.{statement}
 use Rattle.levels.proofs.extremes_of.Tie as tie
 
@@ -25,7 +26,7 @@ start l ch c f = rw (zero-mul ch, zero-add c) (toZ-ofZ f)
 -- one sample more
 more : (pick : ℤ → ℤ → ℤ) (l : List ℤ) (ch c k : ℕ) {x r : ℤ} → SFits w32 (at l ch c k) → SFits w32 r → x ≡ extreme pick (at l ch c) 0 k → r ≡ pick x (toZ w32 (ofZ w32 (at l ch c k)))
     → toZ w32 (ofZ w32 r) ≡ extreme pick (at l ch c) 0 (k + 1)
-unfolding extreme
+unfolding picked
 more pick l ch c k f g before picked =
     let e : k + 1 ≡ suc k = omega arith in
     toZ-ofZ g ∙ picked ∙ rw (before, toZ-ofZ f, e, zero-add k) refl
@@ -52,7 +53,7 @@ shared-slice-copy-out-high : tie.Need-shared-slice-copy-out-high Inv-loop μ-loo
 shared-slice-copy-out-high c = search needs
 
 loop-holds : tie.Need-loop-holds Inv-loop μ-loop
-unfolding extreme
+unfolding picked
 loop-holds c = let a = c .before .before .args in
     let e = start (denote.Ref.now (a .samples)) (a .ch) (a .c) (record { sfits = c .high .given }) in (omega arith, e, e)
 

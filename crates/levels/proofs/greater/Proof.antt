@@ -1,6 +1,6 @@
 -- `greater` meets its contract.
 use mir.Facts.{toZ-ofZ}
-use Rattle.levels.specs.Levels.{greater}
+use Rattle.numbers.specs.Extremes.{greater}
 use Rattle.levels.proofs.greater.Statement.{statement}
 use Rattle.levels.proofs.greater.Tie as tie
 

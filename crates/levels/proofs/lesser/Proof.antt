@@ -1,6 +1,6 @@
 -- `lesser` meets its contract.
 use mir.Facts.{toZ-ofZ}
-use Rattle.levels.specs.Levels.{lesser}
+use Rattle.numbers.specs.Extremes.{lesser}
 use Rattle.levels.proofs.lesser.Statement.{statement}
 use Rattle.levels.proofs.lesser.Tie as tie
 

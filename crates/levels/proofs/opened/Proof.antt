@@ -1,7 +1,7 @@
 -- `opened` meets its contract.
 use borrow.Author.Needs.{needs}
 use Rattle.numbers.proofs.Machine.{wide-fits, wide-is}
-use Rattle.levels.specs.Levels.{converter-of}
+use Rattle.levels.specs.Levels.{read-settings}
 use Rattle.levels.proofs.opened.Statement.{statement}
 use Rattle.levels.proofs.opened.Tie as tie
 
@@ -18,7 +18,7 @@ open-requires : tie.Need-open-requires
 open-requires c κs = search needs
 
 returns : tie.Need-returns
-unfolding converter-of
+unfolding read-settings
 returns c = let s = c .before .before .before .before .before in
     rw (c .before .db-to-linear .ensures, c .before .before .nearest-i64-to-f64 .ensures, wide-is (s .args .s .db) (c .before .before .before .struct-told .given .1 .1 .1 .0 .1)) at (c .«open» .ensures)
 

@@ -7,7 +7,8 @@ use Rattle.reference.specs.Output.{samples-per-frame}
 use Rattle.channel_bytes.specs.Lent.{lent-run}
 use Rattle.gain.specs.Tallies.{none}
 use Rattle.blocks.specs.Blocks.{Sized}
-use Rattle.blocks.proofs.Sums.{made-few, sized-kept, few-samples, frame-samples, room-same}
+use Rattle.reference.proofs.Frames.{frame-samples}
+use Rattle.blocks.proofs.Sums.{made-few, sized-kept, few-samples, room-same}
 use Rattle.runs.proofs.Sums.{Columns, columns-none, columns-more, columns-few, columns-all, tallied-fits, tallied-all}
 use Rattle.runs.proofs.frame.Statement.{statement}
 use Rattle.runs.proofs.frame.Tie as tie

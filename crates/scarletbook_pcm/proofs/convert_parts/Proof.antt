@@ -3,7 +3,7 @@ use mathlib.Core.List.{List}
 use mathlib.Core.Path.{_∙_}
 use borrow.Author.Needs.{needs}
 use denote.Ref.{now}
-use Rattle.reference.specs.Refusals.{Place, convert-places}
+use Rattle.reference.specs.Refusals.{rack, Place, convert-places}
 use Rattle.reference.specs.Output.{per-frame-clips}
 use Rattle.reference.specs.Frames.{Run, run}
 use Rattle.checks.proofs.Steps.{passed, turned-down}
@@ -21,7 +21,7 @@ abbrev run-of : (s : tie.Start) → Run
 run-of s = run (s .args .has-before) (now (s .args .before)) (now (s .args .frames)) (s .args .has-after) (now (s .args .after))
 
 abbrev places : (s : tie.Start) → List Place
-places s = convert-places (s .args .conv) (run-of s) (now (s .args .out)) (s .args .lent) (now (s .args .counts))
+places s = convert-places rack (s .args .conv) (run-of s) (now (s .args .out)) (s .args .lent) (now (s .args .counts))
 
 bytes-and-counts-requires : tie.Need-bytes-and-counts-requires
 bytes-and-counts-requires c κs = let s = c .before .before .before .before .before .before .before .before .before .before .before .before .before in

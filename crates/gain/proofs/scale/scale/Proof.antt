@@ -1,20 +1,21 @@
 -- `scale` meets its contract.
-use mathlib.Core.Path.{_≡_}
+use mathlib.Core.Path.{_≡_, ap₂, _∙_}
 use native.Mathlib.Nat.{le-trans, le-of-lt}
 use borrow.Author.Needs.{needs}
 use lib.IntN.{ℤ}
 use lib.Dec.{T, lit≤}
-use lib.Ieee.{Float, ofBits, mul, binary64, inFloat, inSigned, toSigned, ofInt}
+use lib.Ieee.{Float, ofBits, mul, binary64, inFloat, inSigned, toSigned, ofInt, ne}
 use lib.Ieee.Fits.{ofInt-fits}
 use lib.Ieee.Back.{float-back-signed}
 use mir.Syntax.{w32, w64}
-use mir.Val.{toZ, ofZ}
+use mir.Val.{toZ, ofZ, boolByte}
 use mir.ValLaws.{toZ-ofZ}
 use Rattle.floats.specs.Whole.{whole-of, below-51}
 use Rattle.floats.proofs.Middle.{cast-is, nearest-is}
 use Rattle.floats.proofs.Eighth.{an-eighth}
 use Rattle.floats.proofs.Wholes.{in-float}
 use Rattle.reference.specs.Scaling.{scaled, clamp}
+use Rattle.gain.specs.declared.Tally.{Tally}
 use Rattle.gain.proofs.Scaling.{in-reach, scaled-is, clamp-fits, clamp-back, clamp-told}
 use Rattle.gain.proofs.scale.scale.Statement.{statement}
 use Rattle.gain.proofs.scale.scale.Tie as tie
@@ -64,18 +65,20 @@ clip-requires c κs = is-whole c
 s-is : (c : tie.After-clip) → c .clip .result ≡ ofInt binary64 (clamp (Z (c .before .before .before)))
 s-is c = rw (z-is (c .before), z-back (c .before .before .before) .1) at (c .clip .ensures)
 
-float-to-int-t8 : tie.Need-float-to-int-t8
-float-to-int-t8 c = rw (s-is (c .before)) (clamp-back _ .0)
+float-to-int-sample : tie.Need-float-to-int-sample
+float-to-int-sample c = rw (s-is (c .before)) (clamp-back _ .0)
 
-cast-t10 : tie.Need-cast-t10
-cast-t10 c = search needs
+cast-clipped : tie.Need-cast-clipped
+cast-clipped c = search needs
 
 returns : tie.Need-returns
 returns c =
     let start = c .before .before .before .before in
     let z = Z start in
-    rw (s-is (c .before), z-is (c .before .before))
-    (record { is-sample = rw (clamp-back z .1) (toZ-ofZ w32 (clamp z) (clamp-fits z)); is-told = clamp-told z (z-exact start) })
+    record {
+      is-sample = rw (s-is (c .before), clamp-back z .1) (toZ-ofZ w32 (clamp z) (clamp-fits z));
+      is-told = ap₂ {C = Tally} (λ (s r : Float). record { clipped = boolByte (ne s r) }) (s-is (c .before)) (z-is (c .before .before)) ∙ clamp-told z (z-exact start);
+    }
 
 pub scale-spec : {M : Type 1} → statement M
-scale-spec = tie.close (tie.spec int-to-float-x nearest-even-requires clip-requires float-to-int-t8 cast-t10 returns)
+scale-spec = tie.close (tie.spec int-to-float-x nearest-even-requires clip-requires float-to-int-sample cast-clipped returns)

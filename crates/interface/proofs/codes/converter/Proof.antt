@@ -1,31 +1,18 @@
 -- `converter` meets its contract.
+use mathlib.Core.Path.{ap, _∙_}
 use borrow.Author.Needs.{needs}
-use Rattle.interface.specs.Settings.{converter-of}
+use Rattle.reference.specs.Settings.{converter-of}
 use Rattle.interface.proofs.codes.converter.Statement.{statement}
 use Rattle.interface.proofs.codes.converter.Tie as tie
 
-rate-of-requires : tie.Need-rate-of-requires
-rate-of-requires c κs = search needs
+settings-requires : tie.Need-settings-requires
+settings-requires c κs = search needs
 
-cutoff-of-requires : tie.Need-cutoff-of-requires
-cutoff-of-requires c κs = search needs
-
-shared-slice-read-t9 : tie.Need-shared-slice-read-t9
-shared-slice-read-t9 c = search needs
-
-shared-slice-read-t11 : tie.Need-shared-slice-read-t11
-shared-slice-read-t11 c = search needs
+converter-of-requires : tie.Need-converter-of-requires
+converter-of-requires c κs = search needs
 
 returns : tie.Need-returns
-unfolding converter-of
-returns c = rw (c .before .before .before .rate-of .ensures, c .before .before .cutoff-of .ensures)
+returns c = c .converter-of .ensures ∙ ap converter-of (c .before .settings .ensures)
 
 pub converter-spec : {M : Type 1} → statement M
-converter-spec =
-    tie.close
-    (tie.spec
-    rate-of-requires
-    cutoff-of-requires
-    shared-slice-read-t9
-    shared-slice-read-t11
-    returns)
+converter-spec = tie.close (tie.spec settings-requires converter-of-requires returns)

@@ -61,6 +61,36 @@ enum-known-e-8 c = search needs
 numbers-requires-7 : tie.Need-numbers-requires-7
 numbers-requires-7 c κs = search needs
 
+enum-told : tie.Need-enum-told
+enum-told c = search needs
+
+numbers-requires-8 : tie.Need-numbers-requires-8
+numbers-requires-8 c κs = search needs
+
+enum-told-2 : tie.Need-enum-told-2
+enum-told-2 c = search needs
+
+numbers-requires-9 : tie.Need-numbers-requires-9
+numbers-requires-9 c κs = search needs
+
+enum-told-3 : tie.Need-enum-told-3
+enum-told-3 c = search needs
+
+numbers-requires-10 : tie.Need-numbers-requires-10
+numbers-requires-10 c κs = search needs
+
+enum-told-4 : tie.Need-enum-told-4
+enum-told-4 c = search needs
+
+numbers-requires-11 : tie.Need-numbers-requires-11
+numbers-requires-11 c κs = search needs
+
+enum-told-5 : tie.Need-enum-told-5
+enum-told-5 c = search needs
+
+numbers-requires-12 : tie.Need-numbers-requires-12
+numbers-requires-12 c κs = search needs
+
 returns : tie.Need-returns
 returns c = rw (c .before .before .e .given .1) (c .numbers .ensures)
 
@@ -85,6 +115,21 @@ returns-7 c = rw (c .before .before .e7 .given .1) (c .numbers6 .ensures)
 returns-8 : tie.Need-returns-8
 returns-8 c = rw (c .before .before .e8 .given .1) (c .numbers7 .ensures)
 
+returns-9 : tie.Need-returns-9
+returns-9 c = rw (c .before .enum-told .given .1) (c .numbers8 .ensures)
+
+returns-10 : tie.Need-returns-10
+returns-10 c = rw (c .before .enum-told2 .given .1) (c .numbers9 .ensures)
+
+returns-11 : tie.Need-returns-11
+returns-11 c = rw (c .before .enum-told3 .given .1) (c .numbers10 .ensures)
+
+returns-12 : tie.Need-returns-12
+returns-12 c = rw (c .before .enum-told4 .given .1) (c .numbers11 .ensures)
+
+returns-13 : tie.Need-returns-13
+returns-13 c = rw (c .before .enum-told5 .given .1) (c .numbers12 .ensures)
+
 pub of-error-spec : {M : Type 1} → statement M
 of-error-spec =
     tie.close
@@ -108,6 +153,16 @@ of-error-spec =
     numbers-requires-6
     enum-known-e-8
     numbers-requires-7
+    enum-told
+    numbers-requires-8
+    enum-told-2
+    numbers-requires-9
+    enum-told-3
+    numbers-requires-10
+    enum-told-4
+    numbers-requires-11
+    enum-told-5
+    numbers-requires-12
     returns
     returns-2
     returns-3
@@ -115,4 +170,9 @@ of-error-spec =
     returns-5
     returns-6
     returns-7
-    returns-8)
+    returns-8
+    returns-9
+    returns-10
+    returns-11
+    returns-12
+    returns-13)

@@ -1,5 +1,5 @@
 -- `in_buffers` meets its contract.
-use mathlib.Core.Path.{sym}
+use mathlib.Core.Path.{refl, sym}
 use Prim.Native.Nat.{_*_, _≤_}
 use native.Mathlib.Nat.{mul-le-mul}
 use native.Mathlib.Omega.{arith}
@@ -8,7 +8,7 @@ use denote.Ref.{now}
 use lib.ListN.{length}
 use lib.Seq.{length-take-le}
 use Rattle.reference.specs.Output.{samples-per-frame}
-use Rattle.blocks.proofs.Sums.{frame-samples}
+use Rattle.reference.proofs.Frames.{frame-samples}
 use Rattle.level_stream.proofs.frames.in_buffers.Statement.{statement}
 use Rattle.level_stream.proofs.frames.in_buffers.Tie as tie
 
@@ -17,7 +17,7 @@ bytes-fit : (s : tie.Start) → 3 * (4704 * s .args .conv .channels) ≤ length 
 bytes-fit s = omega arith
 
 items-fit : (s : tie.Start) → samples-per-frame (s .args .conv .rate) * s .args .conv .channels ≤ length (now (s .args .samples))
-items-fit s = omega (arith, mul-le-mul (frame-samples (s .args .conv .rate)) (s .pre .0))
+items-fit s = omega (arith, mul-le-mul (frame-samples (s .args .conv .rate)) (s .pre .0 .1))
 
 cast-ch : tie.Need-cast-ch
 cast-ch c = search needs
@@ -47,10 +47,13 @@ slice-aggregate-turns-2 : tie.Need-slice-aggregate-turns-2
 slice-aggregate-turns-2 c = sym (length-take-le _ (now (c .before .before .before .before .before .before .args .samples)) (rw (c .before .before .samples-per-frame .ensures) (items-fit (c .before .before .before .before .before .before))))
 
 turns-requires : tie.Need-turns-requires
-turns-requires c κs = let s = c .before .before .before .before .before .before .before in (length-take-le _ (now (s .args .three)) (bytes-fit s), omega arith)
+turns-requires c κs = let s = c .before .before .before .before .before .before .before in ((length-take-le _ (now (s .args .three)) (bytes-fit s), omega arith), (s .pre .0 .0, refl, rw (c .before .before .before .samples-per-frame .ensures) (length-take-le _ (now (s .args .samples)) (items-fit s))))
 
 ending-requires : tie.Need-ending-requires
 ending-requires c κs = search needs
+
+write-first-requires : tie.Need-write-first-requires
+write-first-requires c κs = search needs
 
 same-length : tie.Need-same-length
 same-length c = search needs
@@ -91,6 +94,7 @@ in-buffers-spec =
     slice-aggregate-turns-2
     turns-requires
     ending-requires
+    write-first-requires
     same-length
     same-length-2
     same-length-3

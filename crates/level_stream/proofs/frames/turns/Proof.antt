@@ -1,13 +1,21 @@
 -- `turns` meets its contract.
-use mathlib.Core.Path.{_≡_}
+use mathlib.Core.Path.{_≡_, refl}
+use mathlib.Core.Bool.{true}
+use mathlib.Core.List.{[], _∷_}
 use Prim.Native.Nat.{_+_, _*_, _≤_}
+use native.Mathlib.Omega.{arith}
 use borrow.Author.Needs.{needs}
+use borrow.Author.Tests.{eqb-true}
 use lib.ListN.{length}
+use Rattle.level_stream.specs.Buffers.{moment, Led}
+use Rattle.level_stream.proofs.Whole.{led-more, all-told}
 use Rattle.level_stream.proofs.frames.turns.Statement.{statement}
 use Rattle.level_stream.proofs.frames.turns.Tie as tie
 
 abbrev Inv-loop : tie.InvT-loop
-Inv-loop conv size from to three₀ samples₀ text₀ end s₀ more₀ three samples text s more = (length three ≡ length three₀) × (length text ≡ length text₀) × (length samples ≡ length samples₀) × (s .frames + more ≤ 100000000000000) × (s .clipped ≤ 28224 * s .frames)
+Inv-loop conv size from to three₀ samples₀ text₀ end s₀ more₀ three samples text s more =
+    (length three ≡ length three₀) × (length text ≡ length text₀) × (length samples ≡ length samples₀) × (s .frames + more ≤ 100000000000000) × (s .clipped ≤ 28224 * s .frames)
+    × (s .going ≡ true → Led conv (moment (s .frames) (s .clipped) (s .left) three))
 
 abbrev μ-loop : tie.MeasureT-loop
 μ-loop conv size from to three₀ samples₀ text₀ end s₀ more₀ three samples text s more = more
@@ -28,10 +36,10 @@ fill-requires : tie.Need-fill-requires Inv-loop μ-loop
 fill-requires c κs = search needs
 
 loop-holds : tie.Need-loop-holds Inv-loop μ-loop
-loop-holds c = search needs
+loop-holds c = (search needs, search needs, search needs, omega arith, omega arith, λ _. record { turns = []; led = record { came = omega arith; room = omega arith; frames = refl; clipped = refl } })
 
 turn-requires : tie.Need-turn-requires Inv-loop μ-loop
-turn-requires c κs = search needs
+turn-requires c κs = ((omega arith, omega arith, omega (arith, eqb-true)), ((omega arith, omega arith), (search needs, search needs, search needs)))
 
 sub-more : tie.Need-sub-more Inv-loop μ-loop
 sub-more c = search needs
@@ -40,7 +48,9 @@ loop-less : tie.Need-loop-less Inv-loop μ-loop
 loop-less c = search needs
 
 loop-again : tie.Need-loop-again Inv-loop μ-loop
-loop-again c = search needs
+loop-again c = let t = c .before .before .before .before .before .turn in
+    let l = c .before .before .before .before .before .before .before .before .before .before .before .before .before .loop in
+    (search needs, search needs, search needs, omega arith, omega arith, λ g. led-more (l .inv .5 (c .before .before .before .before .before .before .before .before .before .before .before .if1 .taken)) (t .ensures .1 g))
 
 same-length : tie.Need-same-length Inv-loop μ-loop
 same-length c = search needs
@@ -52,7 +62,7 @@ same-length-3 : tie.Need-same-length-3 Inv-loop μ-loop
 same-length-3 c = search needs
 
 returns : tie.Need-returns Inv-loop μ-loop
-returns c = search needs
+returns c = let s = c .before .before .before .before .before .before .before .before .before .before .before .before in λ g few. all-told (s .args .conv) (s .args .size) _ (s .pre .1 .0) (s .pre .1 .1) (c .before .before .before .before .loop .inv .5 g) few
 
 same-length-4 : tie.Need-same-length-4 Inv-loop μ-loop
 same-length-4 c = search needs
@@ -64,7 +74,7 @@ same-length-6 : tie.Need-same-length-6 Inv-loop μ-loop
 same-length-6 c = search needs
 
 returns-2 : tie.Need-returns-2 Inv-loop μ-loop
-returns-2 c = search needs
+returns-2 c = let s = c .before .before .before .before .before .before .before .before .before .before in λ g few. all-told (s .args .conv) (s .args .size) _ (s .pre .1 .0) (s .pre .1 .1) (c .before .before .loop .inv .5 g) few
 
 same-length-7 : tie.Need-same-length-7 Inv-loop μ-loop
 same-length-7 c = search needs
@@ -76,7 +86,7 @@ same-length-9 : tie.Need-same-length-9 Inv-loop μ-loop
 same-length-9 c = search needs
 
 returns-3 : tie.Need-returns-3 Inv-loop μ-loop
-returns-3 c = search needs
+returns-3 c = let s = c .before .before .before .before .before .before .before .before .before in λ g few. all-told (s .args .conv) (s .args .size) _ (s .pre .1 .0) (s .pre .1 .1) (c .before .loop .inv .5 g) few
 
 pub turns-spec : {M : Type 1} → statement M
 turns-spec =

@@ -1,0 +1,16 @@
+-- The lesser and the greater of two whole numbers, and the least and the greatest of many.
+use mathlib.Core.Bool.{cond}
+use Prim.Native.Nat.{ℕ, zero, suc, _+_}
+use lib.IntN.{ℤ}
+use lib.Signed.{ltZ}
+
+unfoldable pub lesser : ℤ → ℤ → ℤ
+lesser x y = cond (ltZ y x) y x
+
+unfoldable pub greater : ℤ → ℤ → ℤ
+greater x y = cond (ltZ x y) y x
+
+-- what is picked of `start`, f a, …, f (a + n - 1), one after the other: the least by `lesser`, the greatest by `greater`
+unfoldable pub picked : (ℤ → ℤ → ℤ) → ℤ → (ℕ → ℤ) → ℕ → ℕ → ℤ
+picked pick start f a zero = start
+picked pick start f a (suc n) = pick (picked pick start f a n) (f (a + n))

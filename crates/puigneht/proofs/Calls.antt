@@ -1,0 +1,51 @@
+-- A call by what it found of its arguments.
+use mathlib.Core.Path.{_≡_, refl, sym, _∙_}
+use mathlib.Core.Bool.{Bool, true, false, true≢false, _&&_}
+use Prim.Native.Nat.{ℕ}
+use borrow.Author.Tests.{eqb-true}
+use mathlib.Core.List.{List}
+use lib.Dec.{eqb}
+use lib.Ieee.{Float}
+use lib.ListN.{length}
+use Rattle.interface.specs.Codes.{known-rate, known-cutoff, known-flag}
+use Rattle.interface.specs.Settings.{CSettings, known-settings}
+use Rattle.interface.specs.Told.{room}
+use Rattle.puigneht.specs.Calls.{Input, Results, Call, open-understood, conversion-understood}
+
+pub both-true : (a b : Bool) → (a && b) ≡ true → (a ≡ true) × (b ≡ true)
+both-true true b h = (refl, h)
+both-true false b h = absurd (true≢false (sym h))
+
+module _ {u : Bool} {Kept Done : Type 0} where
+  pub turned-away : u ≡ false → Kept → Call u 255 Kept Done
+  turned-away e k = record { unclear = λ _. (refl, k); done = λ h. absurd (true≢false (sym h ∙ e)) }
+
+  pub worked : {answer : ℕ} → u ≡ true → Done → Call u answer Kept Done
+  worked e d = record { unclear = λ h. absurd (true≢false (sym e ∙ h)); done = λ _. d }
+
+pub two-floats : (rate cutoff floats : ℕ) → known-settings rate cutoff floats ≡ true → floats ≡ 2
+two-floats r c n h = eqb-true n 2 (both-true (known-cutoff c) (eqb n 2) (both-true (known-rate r) (known-cutoff c && eqb n 2) h .1) .1)
+
+pub room-is : (numbers decibels : ℕ) → room numbers decibels ≡ true → (numbers ≡ 2) × (decibels ≡ 1)
+room-is n d h =
+    let t = both-true (eqb n 2) (eqb d 1) h in
+    (eqb-true n 2 (t .0), eqb-true d 1 (t .1))
+
+-- the lengths of an understood call's gain and result lists, of which the first is to have n numbers
+pub record Lengths (gain : List Float) (n : ℕ) (first numbers : List ℕ) (decibels : List Float) : Type 0 where
+  pub floats : length gain ≡ 2
+  pub firsts : length first ≡ n
+  pub told : (length numbers ≡ 2) × (length decibels ≡ 1)
+
+pub open-lengths : (s : CSettings) (opened numbers : List ℕ) (decibels : List Float) → open-understood s opened numbers decibels ≡ true → Lengths (s .gain) 2 opened numbers decibels
+open-lengths s opened numbers decibels h =
+    let settings = both-true (known-settings (s .rate) (s .cutoff) (length (s .gain))) _ h in
+    let lists = both-true (eqb (length opened) 2) _ (settings .1) in
+    record { floats = two-floats _ _ _ (settings .0); firsts = eqb-true _ _ (lists .0); told = room-is _ _ (lists .1) }
+
+pub lengths : (s : CSettings) (i : Input) (old : Results) → conversion-understood s i old ≡ true → Lengths (s .gain) 6 (old .clipped) (old .numbers) (old .decibels)
+lengths s i old h =
+    let settings = both-true (known-settings (s .rate) (s .cutoff) (length (s .gain))) _ h in
+    let flags = both-true (known-flag (i .has-after)) _ (both-true (known-flag (i .has-before)) _ (settings .1) .1) in
+    let lists = both-true (eqb (length (old .clipped)) 6) _ (flags .1) in
+    record { floats = two-floats _ _ _ (settings .0); firsts = eqb-true _ _ (lists .0); told = room-is _ _ (lists .1) }

@@ -1,0 +1,97 @@
+-- `puigneht_open` meets its contract.
+use mathlib.Core.Path.{_≡_, refl, sym, ap, ap₂, _∙_}
+use mathlib.Core.Bool.{Bool, true, false, _&&_}
+use lib.Dec.{eqb}
+use lib.ListN.{length}
+use denote.Ref.{now}
+use borrow.Author.Needs.{needs}
+use Rattle.interface.specs.Settings.{CSettings, c-settings}
+use Rattle.puigneht.specs.Calls.{open-understood}
+use Rattle.puigneht.proofs.Calls.{Lengths, open-lengths, turned-away, worked}
+use Rattle.puigneht.proofs.puigneht_open.Statement.{statement}
+use Rattle.puigneht.proofs.puigneht_open.Tie as tie
+
+abbrev the-settings : tie.Start → CSettings
+the-settings s = c-settings (s .args .rate) (s .args .cutoff) (s .args .channels) (now (s .args .gain))
+
+abbrev asked : tie.Start → Bool
+asked s = open-understood (the-settings s) (now (s .args .opened)) (now (s .args .«data»)) (now (s .args .decibels))
+
+-- the entry, from the place of the test
+abbrev start : tie.After-both2 → tie.Start
+start c = c .before .before .before .before .before .before .before .before
+
+-- what the test finds
+found : (c : tie.After-both2) → c .both2 .result ≡ asked (start c)
+found c =
+    let fits = c .before .both .ensures ∙ ap (λ r. eqb (length (now (start c .args .opened))) 2 && r) (c .before .before .room .ensures) in
+    c .both2 .ensures ∙ ap₂ _&&_ (c .before .before .before .known-settings .ensures) fits
+
+known : (c : tie.Then1) → asked (start (c .before)) ≡ true
+known c = sym (found (c .before)) ∙ c .if1 .taken
+
+fit : (c : tie.Then1) → let s = start (c .before) in Lengths (now (s .args .gain)) 2 (now (s .args .opened)) (now (s .args .«data»)) (now (s .args .decibels))
+fit c =
+    let s = start (c .before) in
+    open-lengths (the-settings s) (now (s .args .opened)) (now (s .args .«data»)) (now (s .args .decibels)) (known c)
+
+known-settings-requires : tie.Need-known-settings-requires
+known-settings-requires c κs = search needs
+
+room-requires : tie.Need-room-requires
+room-requires c κs = search needs
+
+both-requires : tie.Need-both-requires
+both-requires c κs = search needs
+
+both-requires-2 : tie.Need-both-requires-2
+both-requires-2 c κs = search needs
+
+settings-requires : tie.Need-settings-requires
+settings-requires c κs = fit c .floats
+
+open-requires : tie.Need-open-requires
+open-requires c κs = search needs
+
+tell-opening-requires : tie.Need-tell-opening-requires
+tell-opening-requires c κs =
+    let l = fit (c .before .before .before .before .before) in
+    (l .firsts, l .told)
+
+same-length : tie.Need-same-length
+same-length c = search needs
+
+same-length-2 : tie.Need-same-length-2
+same-length-2 c = search needs
+
+same-length-3 : tie.Need-same-length-3
+same-length-3 c = search needs
+
+returns : tie.Need-returns
+returns c =
+    let told = c .before .before .before .before .before .before .tell-opening .ensures in
+    let made = c .before .before .before .before .before .before .before .before .before .before .«open» in
+    let promise = rw (c .before .before .before .before .before .before .before .before .before .before .before .settings .ensures) at (made .ensures) in
+    worked (known (c .before .before .before .before .before .before .before .before .before .before .before .before)) (record { made = made .result; promise = promise; told = told .0; written = rw (promise .converter) at (told .1) })
+
+returns-2 : tie.Need-returns-2
+returns-2 c =
+    let h : asked (start (c .before)) ≡ false = sym (found (c .before)) ∙ c .if1 .left in
+    turned-away h (refl, refl, refl)
+
+pub puigneht-open-spec : {M : Type 1} → statement M
+puigneht-open-spec =
+    tie.close
+    (tie.spec
+    known-settings-requires
+    room-requires
+    both-requires
+    both-requires-2
+    settings-requires
+    open-requires
+    tell-opening-requires
+    same-length
+    same-length-2
+    same-length-3
+    returns
+    returns-2)

@@ -1,0 +1,74 @@
+-- `tell_opening` meets its contract.
+use mathlib.Core.Path.{refl}
+use Rattle.reference.specs.Promises.{by-decision}
+use Rattle.reference.proofs.Refusals.{error-refuses}
+use Rattle.reference.proofs.Promises.{exit-refused}
+use Rattle.puigneht.specs.Calls.{opened-numbers}
+use borrow.Author.Needs.{needs}
+use Rattle.puigneht.proofs.tell_opening.Statement.{statement}
+use Rattle.puigneht.proofs.tell_opening.Tie as tie
+
+enum-told : tie.Need-enum-told
+enum-told c = search needs
+
+samples-per-frame-requires : tie.Need-samples-per-frame-requires
+samples-per-frame-requires c κs = search needs
+
+context-bytes-requires : tie.Need-context-bytes-requires
+context-bytes-requires c κs = search needs
+
+put-two-requires : tie.Need-put-two-requires
+put-two-requires c κs = search needs
+
+tell-requires : tie.Need-tell-requires
+tell-requires c κs = search needs
+
+enum-told-2 : tie.Need-enum-told-2
+enum-told-2 c = search needs
+
+tell-requires-2 : tie.Need-tell-requires-2
+tell-requires-2 c κs = search needs
+
+same-length : tie.Need-same-length
+same-length c = search needs
+
+same-length-2 : tie.Need-same-length-2
+same-length-2 c = search needs
+
+same-length-3 : tie.Need-same-length-3
+same-length-3 c = search needs
+
+returns : tie.Need-returns
+unfolding by-decision opened-numbers
+returns c =
+    (c .before .before .before .before .tell .ensures, rw (c .before .before .before .before .before .before .before .before .before .before .before .before .before .before .enum-told .given .1, ← c .before .before .before .before .before .before .before .before .before .before .before .before .samples-per-frame .ensures, ← c .before .before .before .before .before .before .before .before .before .before .before .context-bytes .ensures) (c .before .before .before .before .before .before .before .before .before .put-two .ensures))
+
+same-length-4 : tie.Need-same-length-4
+same-length-4 c = search needs
+
+same-length-5 : tie.Need-same-length-5
+same-length-5 c = search needs
+
+returns-2 : tie.Need-returns-2
+returns-2 c =
+    let refused = c .before .before .before .before .before .before .before .enum-told2 .given in
+    (c .before .before .before .before .tell2 .ensures, rw (refused .1, exit-refused _ _ _ (error-refuses (refused .0 .0))) refl)
+
+pub tell-opening-spec : {M : Type 1} → statement M
+tell-opening-spec =
+    tie.close
+    (tie.spec
+    enum-told
+    samples-per-frame-requires
+    context-bytes-requires
+    put-two-requires
+    tell-requires
+    enum-told-2
+    tell-requires-2
+    same-length
+    same-length-2
+    same-length-3
+    returns
+    same-length-4
+    same-length-5
+    returns-2)

@@ -1,0 +1,126 @@
+-- What each call of the C interface promises: its answer, and what every lent list holds when it returns. A primed list is one at exit.
+use mathlib.Core.Path.{_≡_}
+use mathlib.Core.List.{List, [], _∷_}
+use mathlib.Core.Bool.{Bool, true, false, _&&_}
+use Prim.Native.Nat.{ℕ}
+use lib.Dec.{eqb}
+use lib.IntN.{ℤ}
+use lib.Ieee.{Float}
+use lib.ListN.{length}
+use Rattle.reference.specs.Frames.{Run, run}
+use Rattle.reference.specs.Stages.{reach}
+use Rattle.reference.specs.Settings.{converter-of}
+use Rattle.reference.specs.Output.{samples-per-frame}
+use Rattle.reference.specs.Refusals.{decision, gain-decision}
+use Rattle.reference.specs.Promises.{by-decision, GainPromise, OpeningPromise, ConvertRunPromise, ConvertFramePromise, ConvertPromise}
+use Rattle.reference.specs.declared.Settings.{Settings}
+use Rattle.reference.specs.declared.Converter.{Converter}
+use Rattle.reference.specs.declared.FromDb.{FromDb}
+use Rattle.reference.specs.declared.Opened.{Opened}
+use Rattle.reference.specs.declared.Converted.{Converted}
+use Rattle.interface.specs.Codes.{known-flag, flag}
+use Rattle.interface.specs.Settings.{CSettings, known-settings, settings-of}
+use Rattle.interface.specs.Told.{room, room-for-all, Told, ToldWhole, gain-floats}
+
+-- ---- arguments
+
+-- a run whose neighbours are there by a flag
+pub record Input : Type 0 where
+  pub has-before : ℕ
+  pub before : List ℕ
+  pub frames : List ℕ
+  pub has-after : ℕ
+  pub after : List ℕ
+
+abbrev pub input : ℕ → List ℕ → List ℕ → ℕ → List ℕ → Input
+input hb b f ha a = record { has-before = hb; before = b; frames = f; has-after = ha; after = a }
+
+abbrev pub run-of : Input → Run
+run-of i = run (flag (i .has-before)) (i .before) (i .frames) (flag (i .has-after)) (i .after)
+
+-- ---- results
+
+-- lists lent for what a conversion tells beside its output
+pub record Results : Type 0 where
+  pub clipped : List ℕ
+  pub numbers : List ℕ
+  pub decibels : List Float
+
+abbrev pub results : List ℕ → List ℕ → List Float → Results
+results c n d = record { clipped = c; numbers = n; decibels = d }
+
+-- ---- calls
+
+-- a call whose arguments are understood is done; any other answers 255 and keeps every lent list
+pub record Call (understood : Bool) (answer : ℕ) (Kept Done : Type 0) : Type 0 where
+  pub unclear : understood ≡ false → (answer ≡ 255) × Kept
+  pub done : understood ≡ true → Done
+
+-- the gain call's answer keeps its promise, and is told
+pub record GainDone (db : Float) (gain gain' decibels' : List Float) (answer : ℕ) : Type 0 where
+  pub made : FromDb
+  pub promise : GainPromise db made
+  pub told : Told (gain-decision made) answer decibels'
+  pub written : gain' ≡ gain-floats made gain
+
+abbrev pub gain-understood : List Float → List Float → Bool
+gain-understood gain decibels = eqb (length gain) 2 && eqb (length decibels) 1
+
+abbrev pub GainCall : Float → List Float → List Float → List Float → List Float → ℕ → Type 0
+GainCall db gain gain' decibels decibels' answer =
+    Call (gain-understood gain decibels) answer
+    ((gain' ≡ gain) × (decibels' ≡ decibels))
+    (GainDone db gain gain' decibels' answer)
+
+-- samples of one channel in a frame, and the reach
+unfoldable pub opened-numbers : Converter → List ℕ
+opened-numbers conv = samples-per-frame (conv .rate) ∷ reach (conv .rate) (conv .cutoff) ∷ []
+
+-- so for opening
+pub record OpenDone (settings : Settings) (opened opened' numbers' : List ℕ) (decibels' : List Float) (answer : ℕ) : Type 0 where
+  pub made : Opened
+  pub promise : OpeningPromise settings made
+  pub told : ToldWhole (decision (made .verdict)) answer numbers' decibels'
+  pub written : opened' ≡ by-decision (decision (made .verdict)) (opened-numbers (converter-of settings)) opened
+
+abbrev pub open-understood : CSettings → List ℕ → List ℕ → List Float → Bool
+open-understood s opened numbers decibels =
+    known-settings (s .rate) (s .cutoff) (length (s .gain)) && (eqb (length opened) 2 && room (length numbers) (length decibels))
+
+abbrev pub OpenCall : CSettings → List ℕ → List ℕ → List ℕ → List ℕ → List Float → List Float → ℕ → Type 0
+OpenCall s opened opened' numbers numbers' decibels decibels' answer =
+    Call (open-understood s opened numbers decibels) answer
+    ((opened' ≡ opened) × (numbers' ≡ numbers) × (decibels' ≡ decibels))
+    (OpenDone (settings-of s) opened opened' numbers' decibels' answer)
+
+-- and for a conversion, whose clip counts are written besides if it was accepted
+pub record ConversionDone (Promise : Converted → Type 0) (old new : Results) (answer : ℕ) : Type 0 where
+  pub made : Converted
+  pub promise : Promise made
+  pub told : ToldWhole (decision (made .verdict)) answer (new .numbers) (new .decibels)
+  pub counted : new .clipped ≡ by-decision (decision (made .verdict)) (made .stats .clipped) (old .clipped)
+
+abbrev pub conversion-understood : CSettings → Input → Results → Bool
+conversion-understood s i old =
+    known-settings (s .rate) (s .cutoff) (length (s .gain))
+    && (known-flag (i .has-before) && (known-flag (i .has-after) && room-for-all (length (old .clipped)) (length (old .numbers)) (length (old .decibels))))
+
+-- a call for 32-bit samples
+abbrev pub SamplesCall : (Converter → Run → List ℤ → List ℤ → Converted → Type 0) → CSettings → Input → List ℤ → List ℤ → Results → Results → ℕ → Type 0
+SamplesCall Promise s i out out' old new answer =
+    Call (conversion-understood s i old) answer
+    ((out' ≡ out) × (new ≡ old))
+    (ConversionDone (Promise (converter-of (settings-of s)) (run-of i) out out') old new answer)
+
+abbrev pub ConvertRunCall : CSettings → Input → List ℤ → List ℤ → Results → Results → ℕ → Type 0
+ConvertRunCall = SamplesCall ConvertRunPromise
+
+abbrev pub ConvertFrameCall : CSettings → Input → List ℤ → List ℤ → Results → Results → ℕ → Type 0
+ConvertFrameCall = SamplesCall ConvertFramePromise
+
+-- a call for bytes
+abbrev pub ConvertCall : CSettings → Input → ℕ → List ℕ → List ℕ → List ℕ → List ℕ → Results → Results → ℕ → Type 0
+ConvertCall s i lent out out' counts counts' old new answer =
+    Call (known-flag lent && conversion-understood s i old) answer
+    ((out' ≡ out) × (counts' ≡ counts) × (new ≡ old))
+    (ConversionDone (ConvertPromise (converter-of (settings-of s)) (run-of i) (flag lent) out counts out' counts') old new answer)

@@ -1,0 +1,221 @@
+// The converter's calls for C and Rust. None asks anything of its arguments: where they are not understood, a call answers 255 and writes nothing.
+ghost use mathlib.Core.Path.{_≡_};
+ghost use lib.ListN.{length};
+ghost use Rattle.reference.specs.Refusals.{decision};
+ghost use Rattle.reference.specs.Promises.{by-decision, PackPromise};
+ghost use Rattle.interface.specs.Settings.{c-settings};
+ghost use Rattle.interface.specs.Told.{ToldWhole};
+ghost use Rattle.puigneht.specs.Calls.{input, results, opened-numbers, GainCall, OpenCall, ConvertRunCall, ConvertFrameCall, ConvertCall};
+use interface::both;
+use interface::converter;
+use interface::known_flag;
+use interface::known_settings;
+use interface::put_two;
+use interface::room;
+use interface::settings;
+use interface::tell;
+use interface::tell_conversion;
+use interface::tell_gain;
+use interface::understood;
+use reference::Opened;
+use reference::Verdict;
+
+// The gain record of some decibels.
+#[no_mangle]
+pub extern "C" fn puigneht_gain(db: f64, gain: &mut [f64], decibels: &mut [f64]) -> u8
+    ensures { λ r. ⌜ GainCall db (now (gain .entry)) (now (gain .exit)) (now (decibels .entry)) (now (decibels .exit)) r ⌝ }
+{
+    if both(gain.len() == 2, decibels.len() == 1) {
+        let made = gain::from_db(db);
+        return tell_gain(made, gain, decibels);
+    }
+    255
+}
+
+// An opening's decision is told, and its numbers are written if it was accepted.
+fn tell_opening(made: Opened, opened: &mut [u64], data: &mut [u64], decibels: &mut [f64]) -> u8
+    requires { ⌜ length (now opened) ≡ 2 ⌝ }
+    requires { ⌜ (length (now «data») ≡ 2) × (length (now decibels) ≡ 1) ⌝ }
+    ensures { λ r. ⌜ ToldWhole (decision (made .verdict)) r (now («data» .exit)) (now (decibels .exit)) ⌝ }
+    ensures { λ _. ⌜ now (opened .exit) ≡ by-decision (decision (made .verdict)) (opened-numbers (made .converter)) (now (opened .entry)) ⌝ }
+{
+    let verdict = made.verdict;
+    match verdict {
+        Verdict::Accepted => {
+            let conv = made.converter;
+            let rate = conv.rate;
+            let per_frame = scarletbook_pcm::samples_per_frame(rate);
+            let reach = scarletbook_pcm::context_bytes(conv);
+            put_two(opened, per_frame as u64, reach as u64);
+            tell(verdict, data, decibels)
+        }
+        Verdict::Refused(_) => tell(verdict, data, decibels),
+    }
+}
+
+// Samples per frame and reach of an accepted converter.
+#[no_mangle]
+pub extern "C" fn puigneht_open(
+    rate: u32,
+    cutoff: u8,
+    channels: u8,
+    gain: &[f64],
+    opened: &mut [u64],
+    data: &mut [u64],
+    decibels: &mut [f64],
+) -> u8
+    ensures { λ r. ⌜ OpenCall (c-settings rate cutoff channels (now (gain .entry))) (now (opened .entry)) (now (opened .exit)) (now («data» .entry)) (now («data» .exit)) (now (decibels .entry)) (now (decibels .exit)) r ⌝ }
+{
+    let known = known_settings(rate, cutoff, gain.len());
+    let fits = both(opened.len() == 2, room(data.len(), decibels.len()));
+    if both(known, fits) {
+        let made = scarletbook_pcm::open(settings(rate, cutoff, channels, gain));
+        return tell_opening(made, opened, data, decibels);
+    }
+    255
+}
+
+// 32-bit samples of a run.
+#[no_mangle]
+pub extern "C" fn puigneht_convert_run<'a>(
+    rate: u32,
+    cutoff: u8,
+    channels: u8,
+    gain: &[f64],
+    has_before: u8,
+    before: &'a [u8],
+    frames: &'a [u8],
+    has_after: u8,
+    after: &'a [u8],
+    out: &mut [i32],
+    clipped: &mut [u64],
+    data: &mut [u64],
+    decibels: &mut [f64],
+) -> u8
+    ensures { λ r. ⌜ ConvertRunCall (c-settings rate cutoff channels (now (gain .entry))) (input «has_before» (now (before .entry)) (now (frames .entry)) «has_after» (now (after .entry))) (now (out .entry)) (now (out .exit)) (results (now (clipped .entry)) (now («data» .entry)) (now (decibels .entry))) (results (now (clipped .exit)) (now («data» .exit)) (now (decibels .exit))) r ⌝ }
+{
+    if understood(
+        rate,
+        cutoff,
+        gain.len(),
+        has_before,
+        has_after,
+        clipped.len(),
+        data.len(),
+        decibels.len(),
+    ) {
+        let conv = converter(rate, cutoff, channels, gain);
+        let made = scarletbook_pcm::convert_run_parts(
+            conv,
+            has_before == 1,
+            before,
+            frames,
+            has_after == 1,
+            after,
+            out,
+        );
+        return tell_conversion(made, clipped, data, decibels);
+    }
+    255
+}
+
+// 32-bit samples of exactly one frame.
+#[no_mangle]
+pub extern "C" fn puigneht_convert_frame<'a>(
+    rate: u32,
+    cutoff: u8,
+    channels: u8,
+    gain: &[f64],
+    has_before: u8,
+    before: &'a [u8],
+    frames: &'a [u8],
+    has_after: u8,
+    after: &'a [u8],
+    out: &mut [i32],
+    clipped: &mut [u64],
+    data: &mut [u64],
+    decibels: &mut [f64],
+) -> u8
+    ensures { λ r. ⌜ ConvertFrameCall (c-settings rate cutoff channels (now (gain .entry))) (input «has_before» (now (before .entry)) (now (frames .entry)) «has_after» (now (after .entry))) (now (out .entry)) (now (out .exit)) (results (now (clipped .entry)) (now («data» .entry)) (now (decibels .entry))) (results (now (clipped .exit)) (now («data» .exit)) (now (decibels .exit))) r ⌝ }
+{
+    if understood(
+        rate,
+        cutoff,
+        gain.len(),
+        has_before,
+        has_after,
+        clipped.len(),
+        data.len(),
+        decibels.len(),
+    ) {
+        let conv = converter(rate, cutoff, channels, gain);
+        let made = scarletbook_pcm::convert_frame_parts(
+            conv,
+            has_before == 1,
+            before,
+            frames,
+            has_after == 1,
+            after,
+            out,
+        );
+        return tell_conversion(made, clipped, data, decibels);
+    }
+    255
+}
+
+// Samples of a run, three bytes each, and the clips of each frame if `counts` is lent.
+#[no_mangle]
+pub extern "C" fn puigneht_convert<'a>(
+    rate: u32,
+    cutoff: u8,
+    channels: u8,
+    gain: &[f64],
+    has_before: u8,
+    before: &'a [u8],
+    frames: &'a [u8],
+    has_after: u8,
+    after: &'a [u8],
+    lent: u8,
+    out: &mut [u8],
+    counts: &mut [u64],
+    clipped: &mut [u64],
+    data: &mut [u64],
+    decibels: &mut [f64],
+) -> u8
+    ensures { λ r. ⌜ ConvertCall (c-settings rate cutoff channels (now (gain .entry))) (input «has_before» (now (before .entry)) (now (frames .entry)) «has_after» (now (after .entry))) lent (now (out .entry)) (now (out .exit)) (now (counts .entry)) (now (counts .exit)) (results (now (clipped .entry)) (now («data» .entry)) (now (decibels .entry))) (results (now (clipped .exit)) (now («data» .exit)) (now (decibels .exit))) r ⌝ }
+{
+    let known = understood(
+        rate,
+        cutoff,
+        gain.len(),
+        has_before,
+        has_after,
+        clipped.len(),
+        data.len(),
+        decibels.len(),
+    );
+    if both(known_flag(lent), known) {
+        let conv = converter(rate, cutoff, channels, gain);
+        let made = scarletbook_pcm::convert_parts(
+            conv,
+            has_before == 1,
+            before,
+            frames,
+            has_after == 1,
+            after,
+            lent == 1,
+            out,
+            counts,
+        );
+        return tell_conversion(made, clipped, data, decibels);
+    }
+    255
+}
+
+// 32-bit samples as three bytes each, as many as there are bytes for.
+#[no_mangle]
+pub extern "C" fn puigneht_pack_s24le(samples: &[i32], bytes: &mut [u8])
+    ensures { λ _. ⌜ PackPromise (now (samples .entry)) (now (bytes .entry)) (now (bytes .exit)) ⌝ }
+{
+    scarletbook_pcm::pack_s24le(samples, bytes)
+}

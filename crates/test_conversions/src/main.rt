@@ -1,0 +1,13 @@
+// The conversions beside what the original gives (data/, written by compare/answers.sh), the figures of document 01 and its table of refusals.
+mod call;
+mod document;
+mod input;
+mod refusals;
+mod replay;
+mod row;
+
+fn main() {
+    replay::beside_rust();
+    document::figures();
+    refusals::refusals();
+}

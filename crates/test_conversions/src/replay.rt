@@ -1,0 +1,276 @@
+// Each line of data/conversions, converted by every call over the run record. A line: route, channels, decibels as bits, frames, neighbours (1
+// before, 2 after), pattern, seed; two digests of the samples, two of the bytes, the clips of six channels and of two frames.
+ghost use Prim.Native.Nat.{_≤_};
+use crate::call;
+use crate::input;
+use crate::input::Digest;
+use crate::row;
+use crate::row::times;
+use reference::Converted;
+use reference::Converter;
+use test_support::at;
+use test_support::one;
+
+// A row's converter, and whether it has neighbours.
+fn converter(row: &[u64]) -> Converter {
+    let gain = call::made(at(row, 2));
+    call::converter(at(row, 0), at(row, 1), gain)
+}
+
+fn has_before(row: &[u64]) -> bool {
+    at(row, 4) % 2 == 1
+}
+
+fn has_after(row: &[u64]) -> bool {
+    at(row, 4) / 2 == 1
+}
+
+// Whether a digest stands in the row from i on.
+fn same(d: Digest, row: &[u64], i: usize) -> bool {
+    if i > 100 {
+        return false;
+    }
+    d.first == at(row, i) && d.second == at(row, i + 1)
+}
+
+fn clips_right(done: Converted, row: &[u64], c: usize) -> bool {
+    test_support::clips(done, c) == at(row, 11 + c % 6)
+}
+
+// Whether a call is accepted with the row's clips.
+fn counted(done: Converted, row: &[u64]) -> bool {
+    test_support::accepted(done)
+        && clips_right(done, row, 0)
+        && clips_right(done, row, 1)
+        && clips_right(done, row, 2)
+        && clips_right(done, row, 3)
+        && clips_right(done, row, 4)
+        && clips_right(done, row, 5)
+}
+
+// Whether the counts of each frame are the row's.
+fn counts_right(counts: &[u64], row: &[u64]) -> bool {
+    at(counts, 0) == at(row, 17) && at(counts, 1) == at(row, 18)
+}
+
+fn samples_right<'a>(
+    row: &[u64],
+    before: &'a [u8],
+    frames: &'a [u8],
+    after: &'a [u8],
+    out: &mut [i32],
+) -> bool {
+    let done = scarletbook_pcm::convert_run_of(
+        converter(row),
+        has_before(row),
+        before,
+        frames,
+        has_after(row),
+        after,
+        out,
+    );
+    counted(done, row) && same(input::of_samples(out), row, 7)
+}
+
+fn frame_right<'a>(
+    row: &[u64],
+    before: &'a [u8],
+    frames: &'a [u8],
+    after: &'a [u8],
+    out: &mut [i32],
+) -> bool {
+    let done = scarletbook_pcm::convert_frame_of(
+        converter(row),
+        has_before(row),
+        before,
+        frames,
+        has_after(row),
+        after,
+        out,
+    );
+    counted(done, row) && same(input::of_samples(out), row, 7)
+}
+
+// With the counts of each frame if they are lent; else they are kept.
+fn bytes_right<'a>(
+    row: &[u64],
+    before: &'a [u8],
+    frames: &'a [u8],
+    after: &'a [u8],
+    lent: bool,
+    out: &mut [u8],
+    counts: &mut [u64],
+) -> bool {
+    let done = scarletbook_pcm::convert_of(
+        converter(row),
+        has_before(row),
+        before,
+        frames,
+        has_after(row),
+        after,
+        lent,
+        out,
+        counts,
+    );
+    let kept = if lent {
+        counts_right(counts, row)
+    } else {
+        row::kept(counts)
+    };
+    kept && counted(done, row) && same(input::of_bytes(out), row, 9)
+}
+
+// One call of a row whose bytes and lengths are right.
+fn right<'a>(
+    question: u8,
+    row: &[u64],
+    before: &'a [u8],
+    frames: &'a [u8],
+    after: &'a [u8],
+    out: &mut [i32],
+    raw: &mut [u8],
+    counts: &mut [u64],
+) -> bool {
+    match question {
+        0 => samples_right(row, before, frames, after, out),
+        1 => frame_right(row, before, frames, after, out),
+        2 => bytes_right(row, before, frames, after, true, raw, counts),
+        _ => bytes_right(row, before, frames, after, false, raw, counts),
+    }
+}
+
+// Bytes by the row's pattern and its seed or one after it.
+fn fill(row: &[u64], past: u64, bytes: &mut [u8]) {
+    let period = 4 * (at(row, 1) % 7) as usize;
+    let seed = at(row, 6) % 0x1_0000_0000 + past % 3;
+    input::fill(at(row, 5), seed, period, bytes);
+}
+
+// Makes the row's bytes, and asks.
+fn answer(
+    question: u8,
+    row: &[u64],
+    before: &mut [u8],
+    frames: &mut [u8],
+    after: &mut [u8],
+    out: &mut [i32],
+    raw: &mut [u8],
+    counts: &mut [u64],
+) -> bool {
+    fill(row, 0, frames);
+    fill(row, 1, before);
+    fill(row, 2, after);
+    right(question, row, before, frames, after, out, raw, counts)
+}
+
+// How many rows a question is put to, and how many are right.
+struct Score {
+    all: u64,
+    yes: u64,
+}
+
+// `convert_frame` is asked for one frame.
+fn asked(question: u8, row: &[u64]) -> bool {
+    if question == 1 {
+        return at(row, 3) == 1;
+    }
+    true
+}
+
+// The samples of a row's run over all channels.
+fn samples(row: &[u64]) -> u64 {
+    times(
+        times(call::samples_per_frame(at(row, 0)), at(row, 1)),
+        at(row, 3),
+    )
+}
+
+// Takes as much room as the row wants.
+fn parts_right(
+    question: u8,
+    row: &[u64],
+    before: &mut [u8],
+    frames: &mut [u8],
+    after: &mut [u8],
+    out: &mut [i32],
+    raw: &mut [u8],
+    counts: &mut [u64],
+) -> bool {
+    let size = times(4704, at(row, 1));
+    let b = test_support::of_bytes(size, before);
+    let f = test_support::of_bytes(times(size, at(row, 3)), frames);
+    let a = test_support::of_bytes(size, after);
+    let o = test_support::of_samples(samples(row), out);
+    let r = test_support::of_bytes(times(3, samples(row)), raw);
+    let c = test_support::of_numbers(at(row, 3), counts);
+    answer(
+        question,
+        row,
+        &mut before[..b],
+        &mut frames[..f],
+        &mut after[..a],
+        &mut out[..o],
+        &mut raw[..r],
+        &mut counts[..c],
+    )
+}
+
+// One row, with room for two frames of six channels.
+fn row_right(question: u8, row: &[u64]) -> bool {
+    let mut before = [0u8; 28224];
+    let mut frames = [0u8; 56448];
+    let mut after = [0u8; 28224];
+    let mut out = [0i32; 56448];
+    let mut raw = [0u8; 169344];
+    let mut counts = [7u64; 2];
+    parts_right(
+        question,
+        row,
+        &mut before,
+        &mut frames,
+        &mut after,
+        &mut out,
+        &mut raw,
+        &mut counts,
+    )
+}
+
+fn tried(question: u8, row: &[u64]) -> Score
+    ensures { λ r. ⌜ (r .all ≤ 1) × (r .yes ≤ 1) ⌝ }
+{
+    if asked(question, row) {
+        return Score {
+            all: 1,
+            yes: one(row_right(question, row)),
+        };
+    }
+    Score { all: 0, yes: 0 }
+}
+
+fn count(question: u8, rows: &[u64]) -> Score {
+    let mut all = 0u64;
+    let mut yes = 0u64;
+    let mut i = 0usize;
+    while i < rows.len() / 19 {
+        let s = tried(question, &rows[i * 19..i * 19 + 19]);
+        all += s.all;
+        yes += s.yes;
+        i += 1;
+    }
+    Score { all, yes }
+}
+
+fn print(name: &[u8], c: Score) {
+    test_support::right(name, c.all, c.yes);
+}
+
+pub fn beside_rust() {
+    let mut bytes = [0u8; 65536];
+    let mut rows = [0u64; 2508];
+    test_support::read(b"conversions", 2508, &mut bytes);
+    test_support::column(&bytes, 0, 1, &mut rows);
+    print(b"samples ", count(0, &rows));
+    print(b"samples of one frame ", count(1, &rows));
+    print(b"bytes and counts ", count(2, &rows));
+    print(b"bytes ", count(3, &rows));
+}

@@ -1,0 +1,55 @@
+-- `bytes` meets its contract.
+use native.Mathlib.Omega.{arith}
+use borrow.Author.Needs.{needs}
+use Prim.Native.Nat.{_-_, _≤_}
+use Rattle.test_cuts.proofs.compare.bytes.Statement.{statement}
+use Rattle.test_cuts.proofs.compare.bytes.Tie as tie
+
+abbrev Inv-loop : tie.InvT-loop
+Inv-loop n part whole from yes₀ i₀ yes' i = (yes' ≤ i) × (i ≤ n)
+
+abbrev μ-loop : tie.MeasureT-loop
+μ-loop n part whole from yes₀ i₀ yes' i = n - i
+
+loop-holds : tie.Need-loop-holds Inv-loop μ-loop
+loop-holds c = search needs
+
+place-requires : tie.Need-place-requires Inv-loop μ-loop
+place-requires c κs = search needs
+
+bytes-same-requires : tie.Need-bytes-same-requires Inv-loop μ-loop
+bytes-same-requires c κs = search needs
+
+one-requires : tie.Need-one-requires Inv-loop μ-loop
+one-requires c κs = search needs
+
+add-yes : tie.Need-add-yes Inv-loop μ-loop
+add-yes c = omega arith
+
+add-i : tie.Need-add-i Inv-loop μ-loop
+add-i c = omega arith
+
+loop-less : tie.Need-loop-less Inv-loop μ-loop
+loop-less c = omega arith
+
+loop-again : tie.Need-loop-again Inv-loop μ-loop
+loop-again c = search needs
+
+returns : tie.Need-returns Inv-loop μ-loop
+returns c = search needs
+
+pub bytes-spec : {M : Type 1} → statement M
+bytes-spec =
+    tie.close
+    (tie.spec
+    Inv-loop
+    μ-loop
+    loop-holds
+    place-requires
+    bytes-same-requires
+    one-requires
+    add-yes
+    add-i
+    loop-less
+    loop-again
+    returns)

@@ -1,0 +1,93 @@
+/* One-bit (DSD64) frames to 24-bit PCM: the calls of the static library libpuigneht.a (`rt staticlib puigneht`).
+ *
+ * A list is a pointer and its number of items; NULL with 0 items is an empty list. A list that is written must not
+ * overlap another list of the call. A list may start at any address: no alignment is needed, of doubles and 64-bit
+ * numbers neither. No call keeps a pointer, allocates memory or has a state: calls may run in several threads at once.
+ *
+ * A conversion needs 68 kB of stack, another call less than 1 kB (bench/header measures it and tries the addresses).
+ * The rounding mode of floating point must be to nearest, as a program starts with: under another one the factors and
+ * samples are others, and a gain made before is refused.
+ *
+ * Numbers: `rate` is 88200, 176400 or 352800; `cutoff` is 0 Standard, 1 Low or 2 Wide; a flag is 0 or 1.
+ * `gain` has 2 items, as puigneht_gain wrote them: decibels and factor. At 0 dB, 100 % modulation of the one-bit signal
+ * is full scale: bytes of 0x00 give -8388608, and bytes of 0xFF one more than the largest sample, so they are clipped.
+ *
+ * A call answers PUIGNEHT_ACCEPTED, the number of a refusal, or PUIGNEHT_NOT_UNDERSTOOD where a rate, cutoff or
+ * flag is unknown or a list of fixed length has another length: then nothing is written. A refused call writes `data`
+ * and `decibels` and nothing else: every other list keeps its contents.
+ *
+ * `data` (2 items) and `decibels` (1 item) are the refusal's data; what a refusal lacks, and both of an accepted call,
+ * are 0. The decibels come back as the caller gave them, a NaN with its bits. */
+#ifndef PUIGNEHT_H
+#define PUIGNEHT_H
+
+#include <stddef.h>
+#include <stdint.h>
+
+#ifdef __cplusplus
+extern "C" {
+#endif
+
+enum {
+    PUIGNEHT_ACCEPTED = 0,
+    PUIGNEHT_CHANNELS = 1,      /* data: channels, which are not 1 to 6 */
+    PUIGNEHT_UNSUPPORTED = 2,   /* data: rate, cutoff: Wide at 88200 */
+    PUIGNEHT_GAIN = 3,          /* decibels: not -120 to 24, or with a factor that is not theirs */
+    PUIGNEHT_INPUT_LENGTH = 4,  /* data: bytes, kind: 0 not whole frames, 1 not one frame */
+    PUIGNEHT_FRAMES = 5,        /* data: frames, more than 540000 */
+    PUIGNEHT_OUTPUT_LENGTH = 6, /* data: items of `out`, items needed */
+    PUIGNEHT_OUTPUT_BYTES = 7,  /* data: bytes of `out`, bytes needed */
+    PUIGNEHT_FRAME_COUNTS = 8,  /* data: items of `counts`, items needed */
+    PUIGNEHT_NOT_UNDERSTOOD = 255
+};
+
+enum { PUIGNEHT_STANDARD = 0, PUIGNEHT_LOW = 1, PUIGNEHT_WIDE = 2 };
+
+/* Bytes of one channel in a frame; the channels' bytes take turns. */
+enum { PUIGNEHT_FRAME_BYTES = 4704 };
+
+/* The gain of `db` decibels, -120 to 24. Writes `gain` (2 items) if accepted. */
+uint8_t puigneht_gain(double db, double *gain, size_t gain_len, double *decibels, size_t decibels_len);
+
+/* Whether a converter has these settings. Writes `opened` (2 items) if accepted: samples of a channel in a frame, and
+ * how many bytes of each channel before and after a run its samples may depend on. */
+uint8_t puigneht_open(uint32_t rate, uint8_t cutoff, uint8_t channels, const double *gain, size_t gain_len,
+                      uint64_t *opened, size_t opened_len, uint64_t *data, size_t data_len, double *decibels,
+                      size_t decibels_len);
+
+/* 32-bit samples of a run of whole frames, the channels in turn. `before` and `after` are the frames next to the run;
+ * where the flag is 0 there is none, and the list is not read. `out` has a sample for each sample of the run.
+ * Writes `clipped` (6 items) if accepted: the clipped samples of each channel. */
+uint8_t puigneht_convert_run(uint32_t rate, uint8_t cutoff, uint8_t channels, const double *gain, size_t gain_len,
+                             uint8_t has_before, const uint8_t *before, size_t before_len, const uint8_t *frames,
+                             size_t frames_len, uint8_t has_after, const uint8_t *after, size_t after_len,
+                             int32_t *out, size_t out_len, uint64_t *clipped, size_t clipped_len, uint64_t *data,
+                             size_t data_len, double *decibels, size_t decibels_len);
+
+/* 32-bit samples of exactly one frame, with the arguments of puigneht_convert_run. */
+uint8_t puigneht_convert_frame(uint32_t rate, uint8_t cutoff, uint8_t channels, const double *gain,
+                               size_t gain_len, uint8_t has_before, const uint8_t *before, size_t before_len,
+                               const uint8_t *frames, size_t frames_len, uint8_t has_after, const uint8_t *after,
+                               size_t after_len, int32_t *out, size_t out_len, uint64_t *clipped,
+                               size_t clipped_len, uint64_t *data, size_t data_len, double *decibels,
+                               size_t decibels_len);
+
+/* Samples of a run of whole frames, packed in three bytes each, least first: `out` has three bytes for each sample of
+ * the run. If `lent` is 1, `counts` has an item for each frame, its clipped samples over all channels; if 0 it is not
+ * read or written. The other arguments are those of puigneht_convert_run. */
+uint8_t puigneht_convert(uint32_t rate, uint8_t cutoff, uint8_t channels, const double *gain, size_t gain_len,
+                         uint8_t has_before, const uint8_t *before, size_t before_len, const uint8_t *frames,
+                         size_t frames_len, uint8_t has_after, const uint8_t *after, size_t after_len,
+                         uint8_t lent, uint8_t *out, size_t out_len, uint64_t *counts, size_t counts_len,
+                         uint64_t *clipped, size_t clipped_len, uint64_t *data, size_t data_len, double *decibels,
+                         size_t decibels_len);
+
+/* 32-bit samples as three bytes each, their low 24 bits, least first: as many as there are bytes for. Later bytes are
+ * kept. */
+void puigneht_pack_s24le(const int32_t *samples, size_t samples_len, uint8_t *bytes, size_t bytes_len);
+
+#ifdef __cplusplus
+}
+#endif
+
+#endif
