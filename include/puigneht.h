@@ -34,10 +34,13 @@ enum {
     PUIGNEHT_UNSUPPORTED = 2,   /* data: rate, cutoff: Wide at 88200 */
     PUIGNEHT_GAIN = 3,          /* decibels: not -120 to 24, or with a factor that is not theirs */
     PUIGNEHT_INPUT_LENGTH = 4,  /* data: bytes, kind: 0 not whole frames, 1 not one frame */
-    PUIGNEHT_FRAMES = 5,        /* data: frames, more than 540000 */
+    PUIGNEHT_FRAMES = 5,        /* data: frames, more than 540000; or the number of a frame that a file does not have */
     PUIGNEHT_OUTPUT_LENGTH = 6, /* data: items of `out`, items needed */
     PUIGNEHT_OUTPUT_BYTES = 7,  /* data: bytes of `out`, bytes needed */
     PUIGNEHT_FRAME_COUNTS = 8,  /* data: items of `counts`, items needed */
+    PUIGNEHT_NOT_DSF = 9,       /* a file under 92 bytes, or a field against Sony's document */
+    PUIGNEHT_DSF_FORMAT = 10,   /* a frequency other than 2822400, or a sample count not a multiple of 8 */
+    PUIGNEHT_DSF_LENGTH = 11,   /* a stated length, or a data chunk, that is not the file's; a window without the frame */
     PUIGNEHT_NOT_UNDERSTOOD = 255
 };
 
@@ -85,6 +88,32 @@ uint8_t puigneht_convert(uint32_t rate, uint8_t cutoff, uint8_t channels, const 
 /* 32-bit samples as three bytes each, their low 24 bits, least first: as many as there are bytes for. Later bytes are
  * kept. */
 void puigneht_pack_s24le(const int32_t *samples, size_t samples_len, uint8_t *bytes, size_t bytes_len);
+
+/* ---- DSF files. `data` has 2 items, as above. */
+
+/* What a file holds. Writes `header` (5 items) if accepted: channel type, channels, bits per sample (1: lowest bit first,
+ * 8: highest), samples of a channel, frames (the last perhaps short). Refused 9, 10, 11. */
+uint8_t puigneht_dsf_read(const uint8_t *file, size_t file_len, uint64_t *header, size_t header_len, uint64_t *data,
+                          size_t data_len);
+
+/* The same from the file's first 92 bytes (or more) and its length; fewer than 92 bytes are refused 9. */
+uint8_t puigneht_dsf_read_header(const uint8_t *head, size_t head_len, uint64_t length, uint64_t *header,
+                                 size_t header_len, uint64_t *data, size_t data_len);
+
+/* What to read of the data for a frame, so that a file need not be held whole. Writes `window` (2 items): where the stretch
+ * begins and ends, from byte 92 of the file on; 0 and 0 where there is no such frame, or more than 6 channels. */
+uint8_t puigneht_dsf_window(uint64_t channels, uint64_t samples, uint64_t frame, uint64_t *window, size_t window_len);
+
+/* Frame number `frame` (from 0) in the layout of the conversions, out of a window of the data that begins at `start`: at
+ * least the stretch that puigneht_dsf_window tells. A last frame is filled with 0x69. `out` has 4704 bytes a channel.
+ * Refused 9, 10, 11; then 5; then 11 where the window does not hold the frame; then 7. */
+uint8_t puigneht_dsf_window_frame(const uint8_t *head, size_t head_len, uint64_t length, uint64_t frame,
+                                  const uint8_t *window, size_t window_len, uint64_t start, uint8_t *out,
+                                  size_t out_len, uint64_t *data, size_t data_len);
+
+/* The same out of the whole file. Refused 9, 10, 11; then 5; then 7. */
+uint8_t puigneht_dsf_frame(const uint8_t *file, size_t file_len, uint64_t frame, uint8_t *out, size_t out_len,
+                           uint64_t *data, size_t data_len);
 
 #ifdef __cplusplus
 }

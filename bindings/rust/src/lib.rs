@@ -2,6 +2,7 @@
 //!
 //! A frame has [`FRAME_BYTES`] bytes of each channel, the channels in turn. A refused call writes nothing.
 
+pub mod dsf;
 mod raw;
 
 /// Bytes of one channel in a frame.
@@ -59,7 +60,7 @@ pub enum Error {
     Gain(f64),
     /// Bytes, and 0 if they are not whole frames, 1 if they are not one frame.
     InputLength(usize, u8),
-    /// More than 540,000 frames.
+    /// More than 540,000 frames; or the number of a frame that a DSF file does not have.
     Frames(usize),
     /// The length of the output in samples, and the length needed.
     OutputLength(usize, usize),
@@ -67,6 +68,12 @@ pub enum Error {
     OutputBytes(usize, usize),
     /// The length of the list of counts, and the length needed.
     FrameCounts(usize, usize),
+    /// A file under 92 bytes, or a field against Sony's DSF document.
+    NotDsf,
+    /// A frequency other than 2,822,400 Hz, or a sample count not a multiple of 8.
+    DsfFormat,
+    /// A stated length, or a data chunk, that is not the file's; or a window that does not hold the frame.
+    DsfLength,
 }
 
 impl std::fmt::Display for Error {
@@ -163,6 +170,9 @@ impl Told {
             6 => Error::OutputLength(a as usize, b as usize),
             7 => Error::OutputBytes(a as usize, b as usize),
             8 => Error::FrameCounts(a as usize, b as usize),
+            9 => Error::NotDsf,
+            10 => Error::DsfFormat,
+            11 => Error::DsfLength,
             _ => unreachable!("answer {answer}"),
         })
     }

@@ -98,6 +98,57 @@ extern "C" {
         decibels_len: usize,
     ) -> u8;
 
+    pub fn puigneht_dsf_read(
+        file: *const u8,
+        file_len: usize,
+        header: *mut u64,
+        header_len: usize,
+        data: *mut u64,
+        data_len: usize,
+    ) -> u8;
+
+    pub fn puigneht_dsf_read_header(
+        head: *const u8,
+        head_len: usize,
+        length: u64,
+        header: *mut u64,
+        header_len: usize,
+        data: *mut u64,
+        data_len: usize,
+    ) -> u8;
+
+    pub fn puigneht_dsf_window(
+        channels: u64,
+        samples: u64,
+        frame: u64,
+        window: *mut u64,
+        window_len: usize,
+    ) -> u8;
+
+    pub fn puigneht_dsf_window_frame(
+        head: *const u8,
+        head_len: usize,
+        length: u64,
+        frame: u64,
+        window: *const u8,
+        window_len: usize,
+        start: u64,
+        out: *mut u8,
+        out_len: usize,
+        data: *mut u64,
+        data_len: usize,
+    ) -> u8;
+
+    pub fn puigneht_dsf_frame(
+        file: *const u8,
+        file_len: usize,
+        frame: u64,
+        out: *mut u8,
+        out_len: usize,
+        data: *mut u64,
+        data_len: usize,
+    ) -> u8;
+
     pub fn puigneht_pack_s24le(
         samples: *const i32,
         samples_len: usize,

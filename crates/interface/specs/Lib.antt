@@ -1,3 +1,4 @@
 pub mod Codes
 pub mod Settings
 pub mod Told
+pub mod Files

@@ -6,6 +6,7 @@ ghost use Rattle.interface.specs.Settings.{known-settings};
 ghost use Rattle.interface.specs.Told.{room-for-all};
 
 mod codes;
+mod files;
 mod results;
 
 pub use codes::both;
@@ -13,6 +14,8 @@ pub use codes::converter;
 pub use codes::known_flag;
 pub use codes::known_settings;
 pub use codes::settings;
+pub use files::tell_data;
+pub use files::tell_header;
 pub use results::put_two;
 pub use results::room;
 use results::room_for_all;

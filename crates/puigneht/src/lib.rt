@@ -6,6 +6,14 @@ ghost use Rattle.reference.specs.Promises.{by-decision, PackPromise};
 ghost use Rattle.interface.specs.Settings.{c-settings};
 ghost use Rattle.interface.specs.Told.{ToldWhole};
 ghost use Rattle.puigneht.specs.Calls.{input, results, opened-numbers, GainCall, OpenCall, ConvertRunCall, ConvertFrameCall, ConvertCall};
+
+mod files;
+
+pub use files::puigneht_dsf_frame;
+pub use files::puigneht_dsf_read;
+pub use files::puigneht_dsf_read_header;
+pub use files::puigneht_dsf_window;
+pub use files::puigneht_dsf_window_frame;
 use interface::both;
 use interface::converter;
 use interface::known_flag;

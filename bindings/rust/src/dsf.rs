@@ -1,0 +1,125 @@
+//! DSF files, in Sony's layout: a file's frames in the layout of the conversions.
+//!
+//! A file that is in memory is read by [`read`] and [`frame`]. Of any other, its first [`HEADER_BYTES`] bytes and its length
+//! are enough for [`read_header`], and the stretch that [`window`] names for [`window_frame`].
+
+use crate::{raw, Error, Told};
+
+/// Bytes before the data.
+pub const HEADER_BYTES: usize = 92;
+
+/// What a file holds.
+#[derive(Clone, Copy, Debug, Default, PartialEq, Eq)]
+pub struct Header {
+    pub channel_type: u64,
+    pub channels: u64,
+    /// 1: lowest bit first, 8: highest.
+    pub bits_per_sample: u64,
+    /// Of one channel.
+    pub samples: u64,
+    /// The last is perhaps short.
+    pub frames: u64,
+}
+
+fn header(numbers: [u64; 5]) -> Header {
+    let [channel_type, channels, bits_per_sample, samples, frames] = numbers;
+    Header {
+        channel_type,
+        channels,
+        bits_per_sample,
+        samples,
+        frames,
+    }
+}
+
+/// What a file holds.
+pub fn read(file: &[u8]) -> Result<Header, Error> {
+    let mut numbers = [0; 5];
+    let mut told = Told::default();
+    // SAFETY: each pointer and length is that of a live slice, and no written one overlaps another.
+    let answer = unsafe {
+        raw::puigneht_dsf_read(
+            file.as_ptr(),
+            file.len(),
+            numbers.as_mut_ptr(),
+            5,
+            told.data.as_mut_ptr(),
+            2,
+        )
+    };
+    told.result(answer, header(numbers))
+}
+
+/// What a file holds, from its first [`HEADER_BYTES`] bytes (or more) and its length.
+pub fn read_header(head: &[u8], length: u64) -> Result<Header, Error> {
+    let mut numbers = [0; 5];
+    let mut told = Told::default();
+    // SAFETY: each pointer and length is that of a live slice, and no written one overlaps another.
+    let answer = unsafe {
+        raw::puigneht_dsf_read_header(
+            head.as_ptr(),
+            head.len(),
+            length,
+            numbers.as_mut_ptr(),
+            5,
+            told.data.as_mut_ptr(),
+            2,
+        )
+    };
+    told.result(answer, header(numbers))
+}
+
+/// What to read for a frame: a stretch of the data, which begins [`HEADER_BYTES`] bytes into the file.
+pub fn window(channels: u64, samples: u64, frame: u64) -> std::ops::Range<u64> {
+    let mut found = [0; 2];
+    // SAFETY: the pointer and length are those of a live array.
+    unsafe { raw::puigneht_dsf_window(channels, samples, frame, found.as_mut_ptr(), 2) };
+    found[0]..found[1]
+}
+
+/// Frame number `frame` out of a window of the data that begins at `start`.
+pub fn window_frame(
+    head: &[u8],
+    length: u64,
+    frame: u64,
+    window: &[u8],
+    start: u64,
+    out: &mut [u8],
+) -> Result<(), Error> {
+    let mut told = Told::default();
+    // SAFETY: each pointer and length is that of a live slice, and no written one overlaps another.
+    let answer = unsafe {
+        raw::puigneht_dsf_window_frame(
+            head.as_ptr(),
+            head.len(),
+            length,
+            frame,
+            window.as_ptr(),
+            window.len(),
+            start,
+            out.as_mut_ptr(),
+            out.len(),
+            told.data.as_mut_ptr(),
+            2,
+        )
+    };
+    told.result(answer, ())
+}
+
+/// Frame number `frame` of a file.
+pub fn frame(file: &[u8], frame: u64, out: &mut [u8]) -> Result<(), Error> {
+    let mut told = Told::default();
+    // SAFETY: each pointer and length is that of a live slice, and no written one overlaps another.
+    let answer = unsafe {
+        raw::puigneht_dsf_frame(
+            file.as_ptr(),
+            file.len(),
+            frame,
+            out.as_mut_ptr(),
+            out.len(),
+            told.data.as_mut_ptr(),
+            2,
+        )
+    };
+    told.result(answer, ())
+}

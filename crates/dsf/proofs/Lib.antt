@@ -1,0 +1,5 @@
+pub mod Alike
+pub mod Numbers
+pub mod Accepted
+pub mod Tests
+pub mod Head

@@ -1,0 +1,35 @@
+-- `numbers` meets its contract.
+use mathlib.Core.Path.{ap}
+use Prim.Native.Nat.{ℕ}
+use borrow.Author.Needs.{needs}
+use Rattle.dsf.specs.Dsf.{channel-type, channels, bits-per-sample, samples, frames, frames-in}
+use Rattle.dsf.specs.Reading.{file-header}
+use Rattle.dsf.proofs.header.numbers.Statement.{statement}
+use Rattle.dsf.proofs.header.numbers.Tie as tie
+
+number-requires : tie.Need-number-requires
+number-requires c κs = search needs
+
+number-requires-2 : tie.Need-number-requires-2
+number-requires-2 c κs = search needs
+
+number-requires-3 : tie.Need-number-requires-3
+number-requires-3 c κs = search needs
+
+number-requires-4 : tie.Need-number-requires-4
+number-requires-4 c κs = search needs
+
+add-frames : tie.Need-add-frames
+add-frames c = search needs
+
+returns : tie.Need-returns
+unfolding file-header channel-type channels bits-per-sample samples frames frames-in
+returns c =
+    let kind = c .before .before .before .number .ensures in
+    let count = c .before .before .number2 .ensures in
+    let bits = c .before .number3 .ensures in
+    let size = c .number4 .ensures in
+    λ i. record { «channel_type» = kind i; channels = count i; «bits_per_sample» = bits i; samples = size i; frames = ap frames-in size i }
+
+pub numbers-spec : {M : Type 1} → statement M
+numbers-spec = tie.close (tie.spec number-requires number-requires-2 number-requires-3 number-requires-4 add-frames returns)

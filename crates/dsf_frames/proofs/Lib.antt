@@ -1,0 +1,5 @@
+pub mod Turned
+pub mod Blocks
+pub mod Windows
+pub mod Asked
+pub mod Samples

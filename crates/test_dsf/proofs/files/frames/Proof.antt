@@ -1,0 +1,49 @@
+-- `frames` is safe and ends.
+use native.Mathlib.Omega.{arith}
+use borrow.Author.Needs.{needs}
+use mathlib.Core.Path.{_≡_}
+use Prim.Native.Nat.{_-_, _≤_}
+use lib.ListN.{length}
+use Rattle.test_dsf.proofs.files.frames.Statement.{statement}
+use Rattle.test_dsf.proofs.files.frames.Tie as tie
+
+abbrev Inv-loop : tie.InvT-loop
+Inv-loop fd asked file out₀ sum₀ k₀ out sum k = (k ≤ asked) × (length out ≡ length out₀)
+
+abbrev μ-loop : tie.MeasureT-loop
+μ-loop fd asked file out₀ sum₀ k₀ out sum k = asked - k
+
+loop-holds : tie.Need-loop-holds Inv-loop μ-loop
+loop-holds c = search needs
+
+frame-requires : tie.Need-frame-requires Inv-loop μ-loop
+frame-requires c κs = search needs
+
+add-k : tie.Need-add-k Inv-loop μ-loop
+add-k c = omega arith
+
+loop-less : tie.Need-loop-less Inv-loop μ-loop
+loop-less c = omega arith
+
+loop-again : tie.Need-loop-again Inv-loop μ-loop
+loop-again c = search needs
+
+same-length : tie.Need-same-length Inv-loop μ-loop
+same-length c = search needs
+
+returns : tie.Need-returns Inv-loop μ-loop
+returns c = search needs
+
+pub frames-spec : {M : Type 1} → statement M
+frames-spec =
+    tie.close
+    (tie.spec
+    Inv-loop
+    μ-loop
+    loop-holds
+    frame-requires
+    add-k
+    loop-less
+    loop-again
+    same-length
+    returns)
