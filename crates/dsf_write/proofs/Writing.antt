@@ -13,7 +13,7 @@ use borrow.Author.Tests.{le-leb, lt-leb, lt-ltb, le-ltb, eq-eqb, ne-eqb, eqb-tru
 use Rattle.numbers.specs.Lists.{tabulate, Wrote}
 use Rattle.numbers.proofs.Lists.{below-or, is-tabulate}
 use Rattle.reference.specs.Frames.{frame-count, frame-length}
-use Rattle.reference.specs.Refusals.{Decision, accepted, refused, place, decide, is-accepted, number, run-length, lent-length}
+use Rattle.reference.specs.Refusals.{Decision, accepted, refused, place, decide, is-accepted, number, rack, run-length, lent-length}
 use Rattle.reference.proofs.Refusals.{at-first, at-next, at-end, pass, decide-skip, decide-stop}
 use Rattle.report_lines.specs.Text.{text}
 use Rattle.dsf.specs.Dsf.{bytes, pair, blocks, data-bytes, turned, our-byte}
@@ -174,7 +174,7 @@ module _ (n b : ℕ) where
       all-right l = sym (at-next _ _ (rw (le-leb 1 n one, le-leb n 6 six)) ∙ at-next _ _ (ap not (eq-eqb _ _ whole)) ∙ at-next _ _ (le-ltb 540000 (b / (4704 * n)) l) ∙ at-end)
 
 -- channels and frames are turned down as in a conversion
-pub as-conversion : (n : ℕ) (fr : List ℕ) → length-places n (length fr) ≡ place (not (leb 1 n && leb n 6)) 1 (number n ∷ []) ∷ run-length n fr
+pub as-conversion : (n : ℕ) (fr : List ℕ) → length-places n (length fr) ≡ place (not (leb 1 n && leb n 6)) 1 (number n ∷ []) ∷ run-length rack n fr
 unfolding length-places run-length frame-count
 as-conversion n fr = refl
 
