@@ -1,5 +1,5 @@
-/* DSF files: a frame taken out of a file beside its conversion, by channels, and by the frame's number. bench/dsf builds and runs it. Each figure
- * is the best of the rounds (argument, 200 by default), which take all figures in turn. */
+/* DSF files: a frame taken out of a file beside its conversion, by channels, and by the frame's number; the writer beside the reader. bench/dsf
+ * builds and runs it. Each figure is the best of the rounds (argument, 200 by default), which take all figures in turn. */
 #define _GNU_SOURCE
 #include <stdio.h>
 #include <stdlib.h>
@@ -82,6 +82,16 @@ static double reading(const struct file *f, uint8_t *out) {
     return now() - start;
 }
 
+/* Seconds for the file of the frames that were read; it is the file that they were read from. */
+static double writing(const struct file *f, const uint8_t *frames, uint8_t *again) {
+    uint64_t data[2];
+    double start = now();
+    must(puigneht_dsf_write(f->channels, frames, f->frames * frame_size(f), again, f->length, data, 2));
+    double seconds = now() - start;
+    if (memcmp(again, f->bytes, f->length)) exit(1);
+    return seconds;
+}
+
 static double converting(const uint8_t *frames, size_t n, int32_t *out, size_t items) {
     double gain[2], decibels[1];
     uint64_t clipped[6], data[2];
@@ -102,29 +112,31 @@ static double one_frame(const struct file *f, uint64_t k, uint8_t *out) {
 int main(int argc, char **argv) {
     int rounds = argc > 1 ? atoi(argv[1]) : 200;
     struct file low[7], high[7], long_file = random_file(2, LONG, 1);
-    uint8_t *out = room((size_t)FRAMES * 6 * PUIGNEHT_FRAME_BYTES);
+    uint8_t *out = room((size_t)FRAMES * 6 * PUIGNEHT_FRAME_BYTES), *again;
     int32_t *samples = room(FRAMES * 2352 * sizeof *samples);
-    double low_best[7], high_best[7], convert_best = 1e9, place_best[PLACES];
+    double low_best[7], high_best[7], write_best[7], convert_best = 1e9, place_best[PLACES];
     for (uint8_t c = 1; c <= 6; c++) {
         low[c] = random_file(c, FRAMES, 1);
         high[c] = random_file(c, FRAMES, 8);
-        low_best[c] = high_best[c] = 1e9;
+        low_best[c] = high_best[c] = write_best[c] = 1e9;
     }
+    again = room(low[6].length);
     for (int k = 0; k < PLACES; k++) place_best[k] = 1e9;
     for (int round = 0; round < rounds; round++) {
         for (int c = 1; c <= 6; c++) {
             least(&high_best[c], reading(&high[c], out));
             least(&low_best[c], reading(&low[c], out));
+            least(&write_best[c], writing(&low[c], out, again));
             if (c == 2 && round % 10 == 0) least(&convert_best, converting(out, FRAMES * frame_size(&low[c]), samples, FRAMES * 2352));
         }
         for (int k = 0; k < PLACES; k++) least(&place_best[k], one_frame(&long_file, places[k], out));
     }
     printf("A stereo frame: taken out %.2f us, converted %.2f us (88200 standard): %.3f\n\n", 1e6 * low_best[2] / FRAMES, 1e6 * convert_best / FRAMES,
            low_best[2] / convert_best);
-    printf("| Channels | Lowest bit first, ns a byte | Highest first |\n|---|---|---|\n");
+    printf("| Channels | Lowest bit first, ns a byte | Highest first | Written | Written / read |\n|---|---|---|---|---|\n");
     for (int c = 1; c <= 6; c++) {
         double bytes = 1e-9 * FRAMES * c * PUIGNEHT_FRAME_BYTES;
-        printf("| %d | %.3f | %.3f |\n", c, low_best[c] / bytes, high_best[c] / bytes);
+        printf("| %d | %.3f | %.3f | %.3f | %.2f |\n", c, low_best[c] / bytes, high_best[c] / bytes, write_best[c] / bytes, write_best[c] / low_best[c]);
     }
     printf("\n| Frame |");
     for (int k = 0; k < PLACES; k++) printf(" %llu |", (unsigned long long)places[k]);

@@ -115,6 +115,15 @@ uint8_t puigneht_dsf_window_frame(const uint8_t *head, size_t head_len, uint64_t
 uint8_t puigneht_dsf_frame(const uint8_t *file, size_t file_len, uint64_t frame, uint8_t *out, size_t out_len,
                            uint64_t *data, size_t data_len);
 
+/* The DSF file of whole frames: lowest bit first, channel type 1, 2, 3, 4, 6 or 7, no metadata, zero bytes to the end of the
+ * last blocks. `out` has the length that puigneht_dsf_length tells. Refused 1; 4 (kind 0); 5; then 7. */
+uint8_t puigneht_dsf_write(uint8_t channels, const uint8_t *frames, size_t frames_len, uint8_t *out, size_t out_len,
+                           uint64_t *data, size_t data_len);
+
+/* The length of that file for `bytes` bytes of frames. Writes `size` (1 item) if accepted. Refused 1, 4, 5. */
+uint8_t puigneht_dsf_length(uint8_t channels, size_t bytes, uint64_t *size, size_t size_len, uint64_t *data,
+                            size_t data_len);
+
 #ifdef __cplusplus
 }
 #endif

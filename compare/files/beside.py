@@ -8,6 +8,7 @@ import subprocess
 import sys
 
 from layout import BLOCK, CHANNELS, FIELDS, FRAME, IDLE, PLACES, frame, header, needed, opened, read, unpacked, write
+from writing import TYPES, written
 
 HIGH = 2**64 - 1
 ANSWER = struct.Struct("<B5Q")
@@ -72,6 +73,19 @@ def reads(calls, work, rng, n):
     return n, equal
 
 
+def writes(calls, work, rng):
+    """Files that our writer wrote, of 1 to 6 channels, beside ffmpeg and beside the script's."""
+    asked = [(channels, frames) for channels in TYPES for frames in (1, 2, 3, 7, 8)]
+    equal = 0
+    for channels, frames in asked:
+        given = rng.randbytes(FRAME * channels * frames)
+        got = call(calls, ["write", str(channels)], given)
+        their_channels, bits, payload = ffmpeg(work, got[1:])
+        same = got[0] == 0 and got[1:] == written(channels, given)
+        equal += same and (their_channels, bits, len(payload[0])) == (channels, 1, FRAME * frames) and as_frames(bits, payload) == given
+    return len(asked), equal
+
+
 VALUES = (0, 1, 2, 4, 5, 6, 7, 8, 12, 28, 52, 92, 4096, 4104, 2822400, 5644800, 2**31, 2**32 - 1)
 
 
@@ -117,9 +131,11 @@ def heads(calls, rng, n):
 def main(calls, work, seed=1, files=40, headers=10**6):
     rng = random.Random(int(seed))
     read_files, read_equal = reads(calls, work, rng, int(files))
+    wrote, wrote_equal = writes(calls, work, rng)
     all_heads, heads_equal, accepted = heads(calls, rng, int(headers))
-    print("files beside ffmpeg %d equal %d, damaged headers %d equal %d (accepted %d)" % (read_files, read_equal, all_heads, heads_equal, accepted))
-    return 0 if (read_equal, heads_equal) == (read_files, all_heads) else 1
+    print("files beside ffmpeg %d equal %d, written files beside ffmpeg %d equal %d, damaged headers %d equal %d (accepted %d)"
+          % (read_files, read_equal, wrote, wrote_equal, all_heads, heads_equal, accepted))
+    return 0 if (read_equal, wrote_equal, heads_equal) == (read_files, wrote, all_heads) else 1
 
 
 if __name__ == "__main__":

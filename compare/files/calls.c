@@ -1,6 +1,7 @@
 /* The library's calls for DSF files, over standard input and output: compare/files/beside.py asks.
  *   calls headers        records of 92 bytes and a length; each is answered by the verdict and five numbers
- *   calls read           a file; its verdict, five numbers, and all its frames */
+ *   calls read           a file; its verdict, five numbers, and all its frames
+ *   calls write CHANNELS frames; the verdict, and the file */
 #include <stdio.h>
 #include <stdlib.h>
 #include <string.h>
@@ -42,9 +43,21 @@ static void read_file(void) {
     }
 }
 
+static void write_file(uint8_t channels) {
+    size_t n;
+    uint8_t *frames = all(&n);
+    uint64_t length[1] = {0}, data[2];
+    if (puigneht_dsf_length(channels, n, length, 1, data, 2) != PUIGNEHT_ACCEPTED) exit(1);
+    uint8_t *file = malloc(length[0]);
+    uint8_t verdict = puigneht_dsf_write(channels, frames, n, file, length[0], data, 2);
+    fwrite(&verdict, 1, 1, stdout);
+    fwrite(file, 1, length[0], stdout);
+}
+
 int main(int argc, char **argv) {
     if (argc > 1 && !strcmp(argv[1], "headers")) headers();
     else if (argc > 1 && !strcmp(argv[1], "read")) read_file();
+    else if (argc > 2 && !strcmp(argv[1], "write")) write_file((uint8_t)atoi(argv[2]));
     else return 2;
     return 0;
 }

@@ -123,3 +123,39 @@ pub fn frame(file: &[u8], frame: u64, out: &mut [u8]) -> Result<(), Error> {
     };
     told.result(answer, ())
 }
+
+/// The length of the file of `bytes` bytes of whole frames.
+pub fn file_length(channels: u8, bytes: usize) -> Result<usize, Error> {
+    let mut size = [0; 1];
+    let mut told = Told::default();
+    // SAFETY: each pointer and length is that of a live array, and the arrays are apart.
+    let answer = unsafe {
+        raw::puigneht_dsf_length(
+            channels,
+            bytes,
+            size.as_mut_ptr(),
+            1,
+            told.data.as_mut_ptr(),
+            2,
+        )
+    };
+    told.result(answer, size[0] as usize)
+}
+
+/// The DSF file of whole frames, into a slice of its length ([`file_length`]).
+pub fn write(channels: u8, frames: &[u8], out: &mut [u8]) -> Result<(), Error> {
+    let mut told = Told::default();
+    // SAFETY: each pointer and length is that of a live slice, and no written one overlaps another.
+    let answer = unsafe {
+        raw::puigneht_dsf_write(
+            channels,
+            frames.as_ptr(),
+            frames.len(),
+            out.as_mut_ptr(),
+            out.len(),
+            told.data.as_mut_ptr(),
+            2,
+        )
+    };
+    told.result(answer, ())
+}

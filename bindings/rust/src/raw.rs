@@ -149,6 +149,25 @@ extern "C" {
         data_len: usize,
     ) -> u8;
 
+    pub fn puigneht_dsf_write(
+        channels: u8,
+        frames: *const u8,
+        frames_len: usize,
+        out: *mut u8,
+        out_len: usize,
+        data: *mut u64,
+        data_len: usize,
+    ) -> u8;
+
+    pub fn puigneht_dsf_length(
+        channels: u8,
+        bytes: usize,
+        size: *mut u64,
+        size_len: usize,
+        data: *mut u64,
+        data_len: usize,
+    ) -> u8;
+
     pub fn puigneht_pack_s24le(
         samples: *const i32,
         samples_len: usize,

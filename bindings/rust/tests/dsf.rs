@@ -1,6 +1,8 @@
 //! DSF files through the library, against files that these tests lay out by themselves.
 
-use puigneht::dsf::{frame, read, read_header, window, window_frame, Header, HEADER_BYTES};
+use puigneht::dsf::{
+    file_length, frame, read, read_header, window, window_frame, write, Header, HEADER_BYTES,
+};
 use puigneht::{Error, FRAME_BYTES};
 
 // A byte of a channel's samples, the earliest in the highest bit.
@@ -149,4 +151,50 @@ fn refusals_in_turn() {
     let mut huge = good;
     field(&mut huge, 64, 8, u64::MAX - 7);
     assert_eq!(read(&huge), Err(Error::DsfLength));
+}
+
+// Written files are those of Sony's layout, byte for byte, and are read back.
+#[test]
+fn files_written() {
+    for (kind, channels) in TYPES {
+        if kind == 5 {
+            continue;
+        }
+        for count in [0, 1, 2, 3] {
+            let bytes = count * FRAME_BYTES;
+            let frames: Vec<u8> = (0..count).flat_map(|f| wanted(channels, bytes, f)).collect();
+            let mut by_hand = file(kind, channels, 1, bytes, 0);
+            for j in HEADER_BYTES..by_hand.len() {
+                let at = j - HEADER_BYTES;
+                if at / 4096 / channels * 4096 + at % 4096 >= bytes {
+                    by_hand[j] = 0;
+                }
+            }
+            let length = file_length(channels as u8, frames.len()).unwrap();
+            assert_eq!(length, by_hand.len());
+            let mut out = vec![7; length];
+            write(channels as u8, &frames, &mut out).unwrap();
+            assert!(out == by_hand);
+            let mut back = vec![0; FRAME_BYTES * channels];
+            for f in 0..count {
+                frame(&out, f as u64, &mut back).unwrap();
+                assert!(back == frames[f * back.len()..][..back.len()]);
+            }
+        }
+    }
+}
+
+#[test]
+fn writing_refused_in_turn() {
+    let mut out = [3; 10];
+    assert_eq!(write(7, &[0; 5], &mut out), Err(Error::Channels(7)));
+    assert_eq!(write(1, &[0; 5], &mut out), Err(Error::InputLength(5, 0)));
+    assert_eq!(write(1, &[], &mut out), Err(Error::OutputBytes(10, 92)));
+    assert_eq!(file_length(0, 0), Err(Error::Channels(0)));
+    assert_eq!(file_length(1, 5), Err(Error::InputLength(5, 0)));
+    assert_eq!(
+        file_length(1, 540001 * FRAME_BYTES),
+        Err(Error::Frames(540001))
+    );
+    assert_eq!(out, [3; 10]);
 }

@@ -3,3 +3,4 @@ pub mod Numbers
 pub mod Accepted
 pub mod Tests
 pub mod Head
+pub mod Headers

@@ -1,2 +1,3 @@
 pub mod Dsf
 pub mod Reading
+pub mod Headers

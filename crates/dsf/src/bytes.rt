@@ -3,7 +3,7 @@ ghost use mathlib.Core.Path.{_≡_};
 ghost use mathlib.Core.Bool.{_&&_, _||_};
 ghost use Prim.Native.Nat.{_%_, _≤_, _<_};
 ghost use lib.ListN.{getD};
-ghost use Rattle.dsf.specs.Dsf.{number-at};
+ghost use Rattle.dsf.specs.Dsf.{number-at, bytes};
 
 pub fn both(a: bool, b: bool) -> bool
     ensures { λ r. ⌜ r ≡ (a && b) ⌝ }
@@ -59,4 +59,27 @@ pub fn number(file: &[u8], start: usize, size: usize) -> u64
         n = n * 256 + byte(file, start + i);
     }
     n
+}
+
+// A number as eight bytes, lowest first.
+pub fn eight(n: u64) -> [u8; 8]
+    ensures { λ r. ⌜ r ≡ bytes 8 n ⌝ }
+{
+    let b = n / 256;
+    let c = b / 256;
+    let d = c / 256;
+    let e = d / 256;
+    let f = e / 256;
+    let g = f / 256;
+    let h = g / 256;
+    [
+        low(n),
+        low(b),
+        low(c),
+        low(d),
+        low(e),
+        low(f),
+        low(g),
+        low(h),
+    ]
 }

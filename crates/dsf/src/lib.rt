@@ -3,7 +3,9 @@ mod bytes;
 mod fields;
 mod header;
 
+pub use bytes::eight;
 pub use bytes::low;
+pub use fields::data_bytes;
 pub use header::read;
 pub use header::read_header;
 use reference::Verdict;

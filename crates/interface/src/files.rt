@@ -1,5 +1,6 @@
 // What a call about a DSF file tells.
 ghost use mathlib.Core.Path.{_≡_};
+ghost use mathlib.Core.List.{[], _∷_};
 ghost use lib.ListN.{length};
 ghost use Rattle.reference.specs.Refusals.{decision};
 ghost use Rattle.reference.specs.Promises.{by-decision};
@@ -46,5 +47,20 @@ pub fn tell_header(opened: DsfOpened, header: &mut [u64], data: &mut [u64]) -> u
             tell_data(verdict, data)
         }
         Verdict::Refused(_) => tell_data(verdict, data),
+    }
+}
+
+// A number that goes with acceptance, or the refusal, which keeps the list of the number.
+pub fn tell_number(v: Verdict, n: u64, list: &mut [u64], data: &mut [u64]) -> u8
+    requires { ⌜ (length (now list) ≡ 1) × (length (now «data») ≡ 2) ⌝ }
+    ensures { λ r. ⌜ ToldData (decision v) r (now («data» .exit)) ⌝ }
+    ensures { λ _. ⌜ now (list .exit) ≡ by-decision (decision v) (n ∷ []) (now (list .entry)) ⌝ }
+{
+    match v {
+        Verdict::Accepted => {
+            list[0] = n;
+            tell_data(v, data)
+        }
+        Verdict::Refused(_) => tell_data(v, data),
     }
 }

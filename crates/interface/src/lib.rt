@@ -16,6 +16,7 @@ pub use codes::known_settings;
 pub use codes::settings;
 pub use files::tell_data;
 pub use files::tell_header;
+pub use files::tell_number;
 pub use results::put_two;
 pub use results::room;
 use results::room_for_all;

@@ -10,6 +10,7 @@ use Rattle.reference.specs.Promises.{by-decision}
 use Rattle.dsf.specs.Dsf.{file-places, frame-places, file-frame}
 use Rattle.dsf.specs.Reading.{file-header, header-places}
 use Rattle.dsf_frames.specs.Reading.{frame-window, window-places, window-frame}
+use Rattle.dsf_write.specs.Written.{written, file-length, length-places, write-places}
 use Rattle.interface.specs.Files.{ToldData, header-numbers}
 use Rattle.puigneht.specs.Calls.{Call}
 
@@ -52,3 +53,18 @@ abbrev pub DsfWindowCall : ℕ → ℕ → ℕ → List ℕ → List ℕ → ℕ
 DsfWindowCall channels samples f window window' answer =
     Call (eqb (length window) 2) answer (window' ≡ window)
     ((answer ≡ 0) × (window' ≡ frame-window channels samples f .start ∷ frame-window channels samples f .end ∷ []))
+
+-- ---- a file written: FrameDone of the file in the frame's place
+abbrev pub DsfWriteCall : ℕ → List ℕ → List ℕ → List ℕ → List ℕ → List ℕ → ℕ → Type 0
+DsfWriteCall channels frames out = FrameCall (write-places channels frames (length out)) (written channels frames) out
+
+-- its length for so many bytes of frames: the list of one number is kept on a refusal
+pub record LengthDone (channels n : ℕ) (size size' numbers' : List ℕ) (answer : ℕ) : Type 0 where
+  pub told : ToldData (decide (length-places channels n)) answer numbers'
+  pub needed : size' ≡ by-decision (decide (length-places channels n)) (file-length channels n ∷ []) size
+
+abbrev pub DsfLengthCall : ℕ → ℕ → List ℕ → List ℕ → List ℕ → List ℕ → ℕ → Type 0
+DsfLengthCall channels n size size' numbers numbers' answer =
+    Call (eqb (length size) 1 && eqb (length numbers) 2) answer
+    ((size' ≡ size) × (numbers' ≡ numbers))
+    (LengthDone channels n size size' numbers' answer)

@@ -1,9 +1,10 @@
 // Calls about DSF files. Where a list of fixed length has another, a call answers 255 and writes nothing.
-ghost use Rattle.puigneht.specs.Files.{DsfReadCall, DsfReadHeaderCall, DsfWindowCall, DsfWindowFrameCall, DsfFrameCall};
+ghost use Rattle.puigneht.specs.Files.{DsfReadCall, DsfReadHeaderCall, DsfWindowCall, DsfWindowFrameCall, DsfFrameCall, DsfWriteCall, DsfLengthCall};
 use interface::both;
 use interface::put_two;
 use interface::tell_data;
 use interface::tell_header;
+use interface::tell_number;
 
 // What a file holds.
 #[no_mangle]
@@ -85,6 +86,41 @@ pub extern "C" fn puigneht_dsf_frame(
     if data.len() == 2 {
         let verdict = dsf_frames::frame(file, frame, out);
         return tell_data(verdict, data);
+    }
+    255
+}
+
+// The file of some frames.
+#[no_mangle]
+pub extern "C" fn puigneht_dsf_write(
+    channels: u8,
+    frames: &[u8],
+    out: &mut [u8],
+    data: &mut [u64],
+) -> u8
+    ensures { λ r. ⌜ DsfWriteCall channels (now (frames .entry)) (now (out .entry)) (now (out .exit)) (now («data» .entry)) (now («data» .exit)) r ⌝ }
+{
+    if data.len() == 2 {
+        let verdict = dsf_write::write(channels, frames, out);
+        return tell_data(verdict, data);
+    }
+    255
+}
+
+// The length of the file of so many bytes of frames.
+#[no_mangle]
+pub extern "C" fn puigneht_dsf_length(
+    channels: u8,
+    bytes: usize,
+    size: &mut [u64],
+    data: &mut [u64],
+) -> u8
+    ensures { λ r. ⌜ DsfLengthCall channels bytes (now (size .entry)) (now (size .exit)) (now («data» .entry)) (now («data» .exit)) r ⌝ }
+{
+    if both(size.len() == 1, data.len() == 2) {
+        let answer = dsf_write::file_length(channels, bytes);
+        let verdict = answer.verdict;
+        return tell_number(verdict, answer.length as u64, size, data);
     }
     255
 }

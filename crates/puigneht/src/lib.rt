@@ -10,10 +10,12 @@ ghost use Rattle.puigneht.specs.Calls.{input, results, opened-numbers, G
 mod files;
 
 pub use files::puigneht_dsf_frame;
+pub use files::puigneht_dsf_length;
 pub use files::puigneht_dsf_read;
 pub use files::puigneht_dsf_read_header;
 pub use files::puigneht_dsf_window;
 pub use files::puigneht_dsf_window_frame;
+pub use files::puigneht_dsf_write;
 use interface::both;
 use interface::converter;
 use interface::known_flag;

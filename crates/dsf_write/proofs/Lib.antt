@@ -1,0 +1,4 @@
+pub mod Places
+pub mod Written
+pub mod Rewritten
+pub mod Writing

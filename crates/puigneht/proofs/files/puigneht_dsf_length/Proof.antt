@@ -1,0 +1,54 @@
+-- `puigneht_dsf_length` meets its contract.
+use mathlib.Core.Path.{_≡_, refl}
+use mathlib.Core.Bool.{Bool, true, false, _&&_}
+use lib.Dec.{eqb}
+use lib.ListN.{length}
+use denote.Ref.{now}
+use borrow.Author.Tests.{eqb-true}
+use borrow.Author.Needs.{needs}
+use Rattle.puigneht.proofs.Calls.{both-true, turned-away, worked}
+use Rattle.puigneht.proofs.Done.{length-done}
+use Rattle.puigneht.proofs.files.puigneht_dsf_length.Statement.{statement}
+use Rattle.puigneht.proofs.files.puigneht_dsf_length.Tie as tie
+
+abbrev asked : tie.Start → Bool
+asked s = eqb (length (now (s .args .size))) 1 && eqb (length (now (s .args .«data»))) 2
+
+-- the entry, from the place of the test
+abbrev start : tie.After-both → tie.Start
+start c = c .before .before .before
+
+known : (c : tie.Then1) → asked (start (c .before)) ≡ true
+known c = cc
+
+both-requires : tie.Need-both-requires
+both-requires c κs = search needs
+
+file-length-requires : tie.Need-file-length-requires
+file-length-requires c κs = search needs
+
+tell-number-requires : tie.Need-tell-number-requires
+tell-number-requires c κs =
+    let t = both-true _ _ (known (c .before .before .before)) in
+    (eqb-true _ _ (t .0), eqb-true _ _ (t .1))
+
+same-length : tie.Need-same-length
+same-length c = search needs
+
+same-length-2 : tie.Need-same-length-2
+same-length-2 c = search needs
+
+returns : tie.Need-returns
+returns c =
+    let told = c .before .before .before .before in
+    let made = told .before .before .before in
+    let a = start (made .before .before) .args in
+    worked (known (made .before)) (length-done (a .channels) (a .bytes) (made .file-length .result) (made .file-length .ensures) (told .tell-number .ensures .0) (told .tell-number .ensures .1))
+
+returns-2 : tie.Need-returns-2
+returns-2 c =
+    let h : asked (start (c .before)) ≡ false = cc in
+    turned-away h (refl, refl)
+
+pub puigneht-dsf-length-spec : {M : Type 1} → statement M
+puigneht-dsf-length-spec = tie.close (tie.spec both-requires file-length-requires tell-number-requires same-length same-length-2 returns returns-2)
