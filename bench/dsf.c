@@ -127,7 +127,7 @@ int main(int argc, char **argv) {
             least(&high_best[c], reading(&high[c], out));
             least(&low_best[c], reading(&low[c], out));
             least(&write_best[c], writing(&low[c], out, again));
-            if (c == 2 && round % 10 == 0) least(&convert_best, converting(out, FRAMES * frame_size(&low[c]), samples, FRAMES * 2352));
+            if (c == 2) least(&convert_best, converting(out, FRAMES * frame_size(&low[c]), samples, FRAMES * 2352));
         }
         for (int k = 0; k < PLACES; k++) least(&place_best[k], one_frame(&long_file, places[k], out));
     }

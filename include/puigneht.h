@@ -96,12 +96,13 @@ void puigneht_pack_s24le(const int32_t *samples, size_t samples_len, uint8_t *by
 uint8_t puigneht_dsf_read(const uint8_t *file, size_t file_len, uint64_t *header, size_t header_len, uint64_t *data,
                           size_t data_len);
 
-/* The same from the file's first 92 bytes (or more) and its length; fewer than 92 bytes are refused 9. */
+/* What a file holds, from its first 92 bytes (or more) and its length; fewer than 92 bytes are refused 9. */
 uint8_t puigneht_dsf_read_header(const uint8_t *head, size_t head_len, uint64_t length, uint64_t *header,
                                  size_t header_len, uint64_t *data, size_t data_len);
 
 /* What to read of the data for a frame, so that a file need not be held whole. Writes `window` (2 items): where the stretch
- * begins and ends, from byte 92 of the file on; 0 and 0 where there is no such frame, or more than 6 channels. */
+ * begins and ends, from byte 92 of the file on; 0 and 0 where there is no such frame, or more than 6 channels. It is
+ * always accepted. */
 uint8_t puigneht_dsf_window(uint64_t channels, uint64_t samples, uint64_t frame, uint64_t *window, size_t window_len);
 
 /* Frame number `frame` (from 0) in the layout of the conversions, out of a window of the data that begins at `start`: at
@@ -111,7 +112,7 @@ uint8_t puigneht_dsf_window_frame(const uint8_t *head, size_t head_len, uint64_t
                                   const uint8_t *window, size_t window_len, uint64_t start, uint8_t *out,
                                   size_t out_len, uint64_t *data, size_t data_len);
 
-/* The same out of the whole file. Refused 9, 10, 11; then 5; then 7. */
+/* Frame number `frame` (from 0) out of the whole file. Refused 9, 10, 11; then 5; then 7. */
 uint8_t puigneht_dsf_frame(const uint8_t *file, size_t file_len, uint64_t frame, uint8_t *out, size_t out_len,
                            uint64_t *data, size_t data_len);
 

@@ -139,7 +139,7 @@ fn difference(c: &Case) -> Option<String> {
     apart(&by_port(c, gain), &by_original(c, &mut converter))
 }
 
-// The same case with fewer frames, as long as it still differs.
+// A case with fewer frames, as long as it still differs.
 fn smallest(c: &Case) -> Case {
     let size = FRAME * usize::from(c.settings.channels.clamp(1, 6));
     let per = c.out.checked_div(c.frames.len() / size).unwrap_or(0);
