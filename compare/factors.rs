@@ -31,7 +31,7 @@ fn decibels(random: &mut Random) -> Vec<f64> {
     let mut all = vec![0.0, -0.0, 24.0, -120.0, 5e-324, -5e-324, f64::MIN_POSITIVE, -1e-310, 1e-17, -1e-9];
     // Past the gain call's limits `db_to_linear` still answers.
     all.extend([24.0f64.next_up(), (-120.0f64).next_down(), 1000.0, -1000.0, 1e300, -1e300, f64::INFINITY, f64::NEG_INFINITY]);
-    all.extend((-120..=24).step_by(4).map(f64::from));
+    all.extend((-120..=24).map(f64::from));
     all.extend((-12..=12).map(|tenths| f64::from(tenths) / 10.0));
     all.extend((0..30).map(|_| random.within(-120.0, 24.0)));
     all

@@ -13,19 +13,19 @@ use Rattle.reference.specs.Frames.{idle}
 use Rattle.dsf.specs.Dsf.{Bytes, data-place, channels, bits-per-sample, samples, accepts, turned, our-byte, sample-byte, turn-byte, data-frame, file-data, file-byte, file-frame, sample-from-lowest, sample-from-highest, file-sample}
 use Rattle.dsf.proofs.Alike.{pick, skip}
 use Rattle.dsf.proofs.Accepted.{sound}
-use Rattle.dsf_frames.proofs.Turned.{below, below-at}
+use Rattle.numbers.proofs.Tests.{each-below, each-below-at}
 use Rattle.dsf_frames.proofs.Blocks.{quotient, remainder}
 
 test : ℕ → ℕ → Bool
 test x i = eqb (turned x / 2 ^ (7 - i) % 2) (x / 2 ^ i % 2)
 
-all-bits : T (below (λ x. below (test x) 8) 256)
-unfolding below test turned total
+all-bits : T (each-below (λ x. each-below (test x) 8) 256)
+unfolding each-below test turned total
 all-bits = tt
 
 bit-turned : (x i : ℕ) → x < 256 → i < 8 → turned x / 2 ^ (7 - i) % 2 ≡ x / 2 ^ i % 2
 unfolding test
-bit-turned x i h l = eqb→eq _ _ (below-at (test x) 8 i (below-at (λ x. below (test x) 8) 256 x all-bits h) l)
+bit-turned x i h l = eqb→eq _ _ (each-below-at (test x) 8 i (each-below-at (λ x. each-below (test x) 8) 256 x all-bits h) l)
 
 -- sample t of channel c, read off our byte highest bit first, is the file's
 byte-right : (file : List ℕ) → Bytes file → (c t : ℕ) → t / 8 < samples file / 8 → sample-from-highest t (file-byte file c (t / 8)) ≡ file-sample file c t

@@ -1,43 +1,29 @@
 -- A byte turned twice is the byte, by a test over all 256.
 use mathlib.Core.Path.{_≡_, _∙_}
-use mathlib.Core.Bool.{Bool, true, _&&_}
-use mathlib.Core.Logic.{⊎-elim}
-use Prim.Native.Nat.{ℕ, zero, suc, _+_, _*_, _/_, _%_, _<_}
+use mathlib.Core.Bool.{Bool, _&&_}
+use Prim.Native.Nat.{ℕ, _+_, _*_, _/_, _%_, _<_}
 use native.Mathlib.Nat.{mod-lt, mod-eq-of-lt, div-one, mul-one, zero-add}
 use native.Mathlib.Omega.{arith}
 use lib.Dec.{T, eqb, ltb, eqb→eq, ltb→lt}
 use Rattle.numbers.specs.Lists.{total}
-use Rattle.numbers.proofs.Lists.{below-or}
+use Rattle.numbers.proofs.Tests.{each-below, each-below-at}
 use Rattle.dsf.specs.Dsf.{turned}
 use Rattle.dsf.proofs.Alike.{left, right}
-
--- the test at every number below n
-unfoldable pub below : (ℕ → Bool) → ℕ → Bool
-below f zero = true
-below f (suc n) = f n && below f n
-
-pub below-at : (f : ℕ → Bool) (n x : ℕ) → T (below f n) → x < n → T (f x)
-unfolding below
-below-at f zero x h l = absurd (omega arith)
-below-at f (suc n) x h l =
-    ⊎-elim (λ m. below-at f n x (right (f n) (below f n) h) m)
-    (λ m. let e : x ≡ n = omega arith in rw e (left (f n) (below f n) h))
-    (below-or x n)
 
 test : ℕ → Bool
 test x = eqb (turned (turned x)) x && ltb (turned x) 256
 
-all-turned : T (below test 256)
-unfolding below test turned total
+all-turned : T (each-below test 256)
+unfolding each-below test turned total
 all-turned = tt
 
 pub turned-twice : (x : ℕ) → x < 256 → turned (turned x) ≡ x
 unfolding test
-turned-twice x h = eqb→eq _ _ (left (eqb (turned (turned x)) x) (ltb (turned x) 256) (below-at test 256 x all-turned h))
+turned-twice x h = eqb→eq _ _ (left (eqb (turned (turned x)) x) (ltb (turned x) 256) (each-below-at test 256 x all-turned h))
 
 pub turned-byte : (x : ℕ) → x < 256 → turned x < 256
 unfolding test
-turned-byte x h = ltb→lt _ _ (right (eqb (turned (turned x)) x) (ltb (turned x) 256) (below-at test 256 x all-turned h))
+turned-byte x h = ltb→lt _ _ (right (eqb (turned (turned x)) x) (ltb (turned x) 256) (each-below-at test 256 x all-turned h))
 
 -- the code's sum
 small : (a b c d e f g h : ℕ) → a < 2 → b < 2 → c < 2 → d < 2 → e < 2 → f < 2 → g < 2 → h < 2 → a * 128 + b * 64 + c * 32 + d * 16 + e * 8 + f * 4 + g * 2 + h < 256

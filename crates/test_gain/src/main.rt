@@ -104,12 +104,12 @@ fn count_scaled(ys: &[u64], db: &[u64], samples: &[u64], clips: &[u64]) -> u64 {
 // A line: decibels and their factor by `db_to_linear`, as bits.
 fn factors() {
     let mut bytes = [0u8; 8192];
-    let mut db = [0u64; 110];
-    let mut factors = [0u64; 110];
-    test_support::read(b"factors", 220, &mut bytes);
+    let mut db = [0u64; 218];
+    let mut factors = [0u64; 218];
+    test_support::read(b"factors", 436, &mut bytes);
     test_support::column(&bytes, 0, 2, &mut db);
     test_support::column(&bytes, 1, 2, &mut factors);
-    test_support::right(b"factors ", 110, count(0, &db, &factors));
+    test_support::right(b"factors ", 218, count(0, &db, &factors));
 }
 
 // A line: a number, decibels as bits, the sample by `quantise`, how many it counted as clipped.

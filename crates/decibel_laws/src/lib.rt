@@ -1,0 +1,1 @@
+// Laws of whole decibels; no code.
