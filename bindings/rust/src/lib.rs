@@ -103,7 +103,11 @@ impl std::fmt::Display for Error {
                     "{n} bytes are not {what}: a frame has {FRAME_BYTES} bytes of each channel"
                 )
             }
-            Error::Frames(n) => write!(f, "{n} frames in one call: there may be 540000"),
+            Error::Frames(n) if n > 540_000 => write!(
+                f,
+                "{n} frames in one call, where there may be 540000, or frame {n} of a file, which has fewer"
+            ),
+            Error::Frames(n) => write!(f, "frame {n} of a file that has no such frame"),
             Error::OutputLength(n, needed) => {
                 write!(f, "room for {n} samples, where {needed} are to be written")
             }
@@ -116,6 +120,15 @@ impl std::fmt::Display for Error {
                     "room for the counts of {n} frames, where there are {needed}"
                 )
             }
+            Error::NotDsf => write!(f, "not a DSF file as Sony's document lays it out"),
+            Error::DsfFormat => write!(
+                f,
+                "a DSF file of another frequency than 2822400 Hz, or whose samples are not whole bytes"
+            ),
+            Error::DsfLength => write!(
+                f,
+                "a DSF file of another length than it says, or a window that does not hold the frame: an incomplete upload?"
+            ),
         }
     }
 }

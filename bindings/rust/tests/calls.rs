@@ -230,7 +230,7 @@ fn sentences() {
     );
     assert_eq!(
         Error::Frames(540_001).to_string(),
-        "540001 frames in one call: there may be 540000"
+        "540001 frames in one call, where there may be 540000, or frame 540001 of a file, which has fewer"
     );
     assert_eq!(
         said(conv.convert_run(alone(&frame), &mut [0; 1175])),
