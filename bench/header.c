@@ -89,12 +89,25 @@ static void *pack(void *p) {
     puigneht_pack_s24le(ITEMS(OUT, int32_t), ITEMS(BYTES, uint8_t));
     return p;
 }
+/* The run written as a DSF file, at the list's own offset, and its first frame taken out of it again. */
+static void *dsf(void *p) {
+    static uint8_t room[16 + 92 + 6 * 4096 * (FRAMES * PUIGNEHT_FRAME_BYTES / 4096 + 1)], frame[6 * PUIGNEHT_FRAME_BYTES];
+    struct call *c = p;
+    uint64_t length[1], header[5];
+    uint8_t *file = room + (uintptr_t)c->list[RUN] % 16;
+    size_t one = c->length[RUN] / FRAMES;
+    if (puigneht_dsf_length(c->channels, c->length[RUN], length, 1, ITEMS(DATA, uint64_t))) return NULL;
+    if (puigneht_dsf_write(c->channels, ITEMS(RUN, uint8_t), file, length[0], ITEMS(DATA, uint64_t))) return NULL;
+    if (puigneht_dsf_read(file, length[0], header, 5, ITEMS(DATA, uint64_t))) return NULL;
+    if (puigneht_dsf_frame(file, length[0], 0, frame, one, ITEMS(DATA, uint64_t))) return NULL;
+    return memcmp(frame, c->list[RUN], one) ? NULL : p;
+}
 
 static const struct {
     const char *name;
     void *(*make)(void *);
 } calls[] = {{"no call", none}, {"gain", gain}, {"open", open_}, {"convert_run", convert_run}, {"convert_frame", convert_frame},
-             {"convert", convert}, {"pack_s24le", pack}};
+             {"convert", convert}, {"pack_s24le", pack}, {"dsf calls", dsf}};
 enum { CALLS = sizeof calls / sizeof *calls };
 
 /* The call with each list in turn at each offset; gives how many calls were compared. */
