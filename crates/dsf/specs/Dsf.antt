@@ -70,7 +70,7 @@ layout =
     ∷ fixed 80 (text "data")
     ∷ []
 
--- the one whose breach is refused 10
+-- the sampling frequency: a file with another is refused 10
 unfoldable pub frequency : Field
 frequency = fixed 56 (bytes 4 2822400)
 
@@ -88,7 +88,7 @@ unfoldable pub all : {A : Type 0} → (A → Bool) → List A → Bool
 all f [] = true
 all f (x ∷ xs) = f x && all f xs
 
--- a file has one of a field's values, as far as the file goes
+-- a file has one of a field's values, as far as the file goes: a field past its end fits, so `places-at` asks for 92 bytes first
 unfoldable pub fits : List ℕ → Field → Bool
 fits file f = any (alike (drop (f .start) file)) (f .values)
 

@@ -14,7 +14,7 @@ use Rattle.dsf.specs.declared.DsfOpened.{DsfOpened}
 unfoldable pub file-header : List ℕ → DsfHeader
 file-header file = record { «channel_type» = channel-type file; channels = channels file; «bits_per_sample» = bits-per-sample file; samples = samples file; frames = frames file }
 
--- of a refused one
+-- what is answered of a refused file: five zeros
 unfoldable pub no-header : DsfHeader
 no-header = record { «channel_type» = 0; channels = 0; «bits_per_sample» = 0; samples = 0; frames = 0 }
 

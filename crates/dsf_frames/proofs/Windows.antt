@@ -60,7 +60,8 @@ module _ {n c first end start size out : ℕ} (a : ColumnArgs n c first end star
   abbrev pub place-at : ℕ → ℕ
   place-at q = (q / 4096 * n + c) * 4096 + q % 4096
 
-  pub above : (q : ℕ) → first ≤ q → start ≤ place-at q
+  -- the window begins no later than the group of blocks that byte q is in
+  pub above : (q : ℕ) → first ≤ q → start ≤ q / 4096 * n * 4096
   above q h =
       let s : first / 4096 ≤ q / 4096 = omega arith in
       omega (arith, a .begins, group (first / 4096) n, mul-le-mul-right n s)
@@ -117,11 +118,17 @@ module _ {n c first end start size out : ℕ} (a : ColumnArgs n c first end star
       k : place-at q - start + (stop - q) - (place-at q - start) ≡ stop - q
       k = omega arith
 
-      long : length part ≡ stop - q
-      long = rw k (length-take-le (stop - q) (drop (place-at q - start) window) (omega (arith, length-drop (place-at q - start) window, within q stop f h e b)))
+      long-from : (from : ℕ) → from + (stop - q) ≤ size → length (take (from + (stop - q) - from) (drop from window)) ≡ stop - q
+      long-from from g =
+          let z : from + (stop - q) - from ≡ stop - q = omega arith in
+          rw z (length-take-le (stop - q) (drop from window) (omega (arith, length-drop from window)))
 
-      pub piece-fits : (q - first) * n + c + length part * n < out + n
-      piece-fits = rw long (cells (q - first) (stop - q) (omega (arith, a .most)))
+      long : length part ≡ stop - q
+      long = long-from (place-at q - start) (within q stop f h e b)
+
+      -- a piece of so many bytes, from wherever it is taken, goes into the buffer
+      pub piece-fits : (from : ℕ) → from + (stop - q) ≤ size → (q - first) * n + c + length (take (from + (stop - q) - from) (drop from window)) * n < out + n
+      piece-fits from g = rw (long-from from g) (cells (q - first) (stop - q) (omega (arith, a .most)))
 
       pub piece : {old mid new : List ℕ} → Column n c (q - first) (column-byte window table n first end start c) old mid
           → Strided (λ i. getD table (getD part i 0) 0) ((q - first) * n + c) n (length part) mid new → Column n c (stop - first) (column-byte window table n first end start c) old new

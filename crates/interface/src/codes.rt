@@ -97,7 +97,7 @@ pub fn settings(rate: u32, cutoff: u8, channels: u8, gain: &[f64]) -> Settings
     }
 }
 
-// And the converter of these.
+// The converter whose settings known numbers stand for.
 pub fn converter(rate: u32, cutoff: u8, channels: u8, gain: &[f64]) -> Converter
     requires { ⌜ length (now gain) ≡ 2 ⌝ }
     ensures { λ r. ⌜ r ≡ converter-of (settings-of (c-settings rate cutoff channels (now (gain .entry)))) ⌝ }

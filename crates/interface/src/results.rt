@@ -77,7 +77,7 @@ pub fn room(data: usize, decibels: usize) -> bool
     both(data == 2, decibels == 1)
 }
 
-// And of that for clip counts.
+// The lengths of the lists for clip counts, data and decibels.
 pub fn room_for_all(clipped: usize, data: usize, decibels: usize) -> bool
     ensures { λ r. ⌜ r ≡ told.room-for-all clipped «data» decibels ⌝ }
 {
@@ -117,7 +117,7 @@ pub fn tell(v: Verdict, data: &mut [u64], decibels: &mut [f64]) -> u8
     report.number
 }
 
-// Of a gain also its record, if it was made.
+// A gain's number is answered, its decibels written, and its record where it was made.
 pub fn tell_gain(made: FromDb, gain: &mut [f64], decibels: &mut [f64]) -> u8
     requires { ⌜ (length (now gain) ≡ 2) × (length (now decibels) ≡ 1) ⌝ }
     ensures { λ r. ⌜ Told (gain-decision made) r (now (decibels .exit)) ⌝ }
@@ -138,7 +138,7 @@ pub fn tell_gain(made: FromDb, gain: &mut [f64], decibels: &mut [f64]) -> u8
     }
 }
 
-// Of a conversion also its clip counts, if it was accepted.
+// A conversion's number is answered, its data and decibels written, and its clip counts where it was accepted.
 pub fn tell_conversion(
     made: Converted,
     clipped: &mut [u64],

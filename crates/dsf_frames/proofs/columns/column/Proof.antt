@@ -41,7 +41,7 @@ add-from-2 : tie.Need-add-from-2 Inv-loop μ-loop
 add-from-2 c = omega (arith, small (c .before .before .before .before .before .pre) (c .before .before .loop .q) (c .before .loop-test .taken))
 
 sub-from : tie.Need-sub-from Inv-loop μ-loop
-sub-from c = above (c .before .before .before .before .before .pre) (c .before .before .loop .q) (c .before .before .loop .inv .0)
+sub-from c = omega (arith, above (c .before .before .before .before .before .pre) (c .before .before .loop .q) (c .before .before .loop .inv .0))
 
 sub-to : tie.Need-sub-to Inv-loop μ-loop
 sub-to c = omega (arith, c .lesser-of .ensures)
@@ -74,8 +74,9 @@ spread-requires c κs =
     let t = c .before .before .before .loop-test .taken in
     let e = c .before .before .lesser-of .ensures in
     let stop = c .before .before .lesser-of .result in
-    let f = piece-fits (s .pre) (now (s .args .window)) (now (s .args .table)) refl (l .q) stop (l .inv .0) (omega arith) (omega arith) (omega arith) in
-    (omega (arith, s .pre .channel), omega (arith, f, l .inv .2 .same), omega (arith, lent-small (s .pre), l .inv .2 .same))
+    let g = within (s .pre) (l .q) stop (l .inv .0) (omega arith) (omega arith) (omega arith) in
+    let b = above (s .pre) (l .q) (l .inv .0) in
+    (omega (arith, s .pre .channel), rw (l .inv .2 .same) (piece-fits (s .pre) (now (s .args .window)) (now (s .args .table)) refl (l .q) stop (l .inv .0) (omega arith) (omega arith) (omega arith) _ (omega (arith, g, b))), omega (arith, lent-small (s .pre), l .inv .2 .same))
 
 loop-less : tie.Need-loop-less Inv-loop μ-loop
 loop-less c = let t = c .before .before .before .before .before .before .loop-test .taken in let e = c .before .before .before .before .before .lesser-of .ensures in omega arith
