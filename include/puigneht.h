@@ -41,6 +41,7 @@ enum {
     PUIGNEHT_NOT_DSF = 9,       /* a file under 92 bytes, or a field against Sony's document */
     PUIGNEHT_DSF_FORMAT = 10,   /* a frequency other than 2822400, or a sample count not a multiple of 8 */
     PUIGNEHT_DSF_LENGTH = 11,   /* a stated length, or a data chunk, that is not the file's; a window without the frame */
+    PUIGNEHT_NOT_WAV = 12,      /* not a file that puigneht_wav_read takes, or none that it would */
     PUIGNEHT_NOT_UNDERSTOOD = 255
 };
 
@@ -115,6 +116,28 @@ uint8_t puigneht_dsf_window_frame(const uint8_t *head, size_t head_len, uint64_t
 /* Frame number `frame` (from 0) out of the whole file. Refused 9, 10, 11; then 5; then 7. */
 uint8_t puigneht_dsf_frame(const uint8_t *file, size_t file_len, uint64_t frame, uint8_t *out, size_t out_len,
                            uint64_t *data, size_t data_len);
+/* WAV files: the plain 44-byte header (format tag 1, 24 bits, one or two channels, one of the three rates), then the
+ * sample bytes, 0 to 540000 whole frames and at most PUIGNEHT_WAV_MOST_DATA bytes. */
+enum { PUIGNEHT_WAV_HEADER = 44 };
+#define PUIGNEHT_WAV_MOST_DATA UINT32_C(4294967259)
+
+/* A run as a file: puigneht_convert with the header in front, so `out` has PUIGNEHT_WAV_HEADER bytes more.
+ * PUIGNEHT_NOT_WAV, after all other refusals, for more than two channels or for more data. */
+uint8_t puigneht_wav_convert(uint32_t rate, uint8_t cutoff, uint8_t channels, const double *gain, size_t gain_len,
+                             uint8_t has_before, const uint8_t *before, size_t before_len, const uint8_t *frames,
+                             size_t frames_len, uint8_t has_after, const uint8_t *after, size_t after_len,
+                             uint8_t lent, uint8_t *out, size_t out_len, uint64_t *counts, size_t counts_len,
+                             uint64_t *clipped, size_t clipped_len, uint64_t *data, size_t data_len, double *decibels,
+                             size_t decibels_len);
+
+/* Reads a whole file. Writes `told` (4 items) if accepted: rate, channels, and where in `file` the sample bytes begin
+ * and how many there are. PUIGNEHT_NOT_WAV for any other file; it has no data. */
+uint8_t puigneht_wav_read(const uint8_t *file, size_t file_len, uint64_t *told, size_t told_len);
+
+/* A file from sample bytes: `out` has PUIGNEHT_WAV_HEADER bytes more. PUIGNEHT_NOT_WAV if puigneht_wav_read takes no
+ * file with them, also for an unknown rate; then PUIGNEHT_OUTPUT_BYTES. `data` has 2 items. */
+uint8_t puigneht_wav_write(uint32_t rate, uint8_t channels, const uint8_t *bytes, size_t bytes_len, uint8_t *out,
+                           size_t out_len, uint64_t *data, size_t data_len);
 
 /* The DSF file of whole frames: lowest bit first, channel type 1, 2, 3, 4, 6 or 7, no metadata, zero bytes to the end of the
  * last blocks. `out` has the length that puigneht_dsf_length tells. Refused 1; 4 (kind 0); 5; then 7. */

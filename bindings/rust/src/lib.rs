@@ -4,6 +4,7 @@
 
 pub mod dsf;
 mod raw;
+pub mod wav;
 
 /// Bytes of one channel in a frame.
 pub const FRAME_BYTES: usize = 4704;
@@ -74,6 +75,8 @@ pub enum Error {
     DsfFormat,
     /// A stated length, or a data chunk, that is not the file's; or a window that does not hold the frame.
     DsfLength,
+    /// Not a file that [`wav::read`] takes, or none that it would.
+    NotWav,
 }
 
 impl std::fmt::Display for Error {
@@ -128,6 +131,10 @@ impl std::fmt::Display for Error {
             Error::DsfLength => write!(
                 f,
                 "a DSF file of another length than it says, or a window that does not hold the frame: an incomplete upload?"
+            ),
+            Error::NotWav => write!(
+                f,
+                "not a WAV file of 24 bits, one or two channels, one of the three rates and whole frames"
             ),
         }
     }
@@ -186,6 +193,7 @@ impl Told {
             9 => Error::NotDsf,
             10 => Error::DsfFormat,
             11 => Error::DsfLength,
+            12 => Error::NotWav,
             _ => unreachable!("answer {answer}"),
         })
     }
@@ -247,6 +255,34 @@ type ConvertSamples = unsafe extern "C" fn(
     *const u8,
     usize,
     *mut i32,
+    usize,
+    *mut u64,
+    usize,
+    *mut u64,
+    usize,
+    *mut f64,
+    usize,
+) -> u8;
+
+// `puigneht_convert` and `puigneht_wav_convert` have one type.
+type ConvertBytes = unsafe extern "C" fn(
+    u32,
+    u8,
+    u8,
+    *const f64,
+    usize,
+    u8,
+    *const u8,
+    usize,
+    *const u8,
+    usize,
+    u8,
+    *const u8,
+    usize,
+    u8,
+    *mut u8,
+    usize,
+    *mut u64,
     usize,
     *mut u64,
     usize,
@@ -345,6 +381,16 @@ impl Converter {
         out: &mut [u8],
         counts: Option<&mut [u64]>,
     ) -> Result<Clipped, Error> {
+        self.bytes(raw::puigneht_convert, run, out, counts)
+    }
+
+    fn bytes(
+        &self,
+        call: ConvertBytes,
+        run: Run<'_>,
+        out: &mut [u8],
+        counts: Option<&mut [u64]>,
+    ) -> Result<Clipped, Error> {
         let gain = [self.gain.db, self.gain.linear];
         let before = run.before.unwrap_or(&[]);
         let after = run.after.unwrap_or(&[]);
@@ -354,7 +400,7 @@ impl Converter {
         let mut told = Told::default();
         // SAFETY: each pointer and length is that of a live slice, and no written slice overlaps another.
         let answer = unsafe {
-            raw::puigneht_convert(
+            call(
                 self.rate.hertz(),
                 self.cutoff as u8,
                 self.channels,

@@ -174,6 +174,51 @@ extern "C" {
         bytes: *mut u8,
         bytes_len: usize,
     );
+
+    pub fn puigneht_wav_convert(
+        rate: u32,
+        cutoff: u8,
+        channels: u8,
+        gain: *const f64,
+        gain_len: usize,
+        has_before: u8,
+        before: *const u8,
+        before_len: usize,
+        frames: *const u8,
+        frames_len: usize,
+        has_after: u8,
+        after: *const u8,
+        after_len: usize,
+        lent: u8,
+        out: *mut u8,
+        out_len: usize,
+        counts: *mut u64,
+        counts_len: usize,
+        clipped: *mut u64,
+        clipped_len: usize,
+        data: *mut u64,
+        data_len: usize,
+        decibels: *mut f64,
+        decibels_len: usize,
+    ) -> u8;
+
+    pub fn puigneht_wav_read(
+        file: *const u8,
+        file_len: usize,
+        told: *mut u64,
+        told_len: usize,
+    ) -> u8;
+
+    pub fn puigneht_wav_write(
+        rate: u32,
+        channels: u8,
+        bytes: *const u8,
+        bytes_len: usize,
+        out: *mut u8,
+        out_len: usize,
+        data: *mut u64,
+        data_len: usize,
+    ) -> u8;
 }
 
 #[cfg(test)]

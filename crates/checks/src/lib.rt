@@ -63,7 +63,7 @@ pub fn opening(settings: Settings) -> Verdict
 }
 
 // What each conversion tries first: the converter as it is held.
-fn held(conv: Converter) -> Verdict
+pub fn held(conv: Converter) -> Verdict
     ensures { λ r. ⌜ decision r ≡ decide (held-places conv) ⌝ }
 {
     let rate = conv.rate;
@@ -90,7 +90,7 @@ fn one(conv: Converter, frames: &[u8]) -> Verdict
 }
 
 // Run length, before, after.
-fn input(
+pub fn input(
     conv: Converter,
     has_before: bool,
     before: &[u8],
@@ -126,7 +126,7 @@ fn input(
 }
 
 // Samples of the run over all channels.
-fn all_samples(conv: Converter, frames: &[u8]) -> usize
+pub fn all_samples(conv: Converter, frames: &[u8]) -> usize
     requires { ⌜ (0 < conv .channels) × (conv .channels ≤ 6) ⌝ }
     requires { ⌜ frame-count (conv .channels) (now frames) ≤ 540000 ⌝ }
     ensures { λ r. ⌜ (r ≡ frame-count (conv .channels) (now (frames .entry)) * samples-per-frame (conv .rate) * conv .channels) × (r ≤ 15240960000) ⌝ }

@@ -21,7 +21,7 @@ pub fn hertz(rate: PcmRate) -> u64
     }
 }
 
-fn rate_of(n: u32) -> PcmRate
+pub fn rate_of(n: u32) -> PcmRate
     ensures { λ r. ⌜ r ≡ codes.rate-of n ⌝ }
 {
     if n == 88200 {

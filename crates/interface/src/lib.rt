@@ -11,12 +11,16 @@ mod results;
 
 pub use codes::both;
 pub use codes::converter;
+pub use codes::hertz;
 pub use codes::known_flag;
 pub use codes::known_settings;
+pub use codes::rate_of;
 pub use codes::settings;
 pub use files::tell_data;
 pub use files::tell_header;
 pub use files::tell_number;
+pub use results::of_error;
+pub use results::of_verdict;
 pub use results::put_two;
 pub use results::room;
 use results::room_for_all;

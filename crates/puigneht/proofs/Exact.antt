@@ -17,7 +17,7 @@ use Rattle.interface.specs.Told.{Told, ToldWhole}
 use Rattle.puigneht.specs.Calls.{Input, Results, Call, GainDone, GainCall, OpenCall, ConversionDone, ConvertRunCall, ConvertFrameCall, ConvertCall}
 
 -- the answers are equal, and what R says holds, if both follow in either case of the call
-call-exact : (u : Bool) {a a' : ℕ} {K K' D D' R : Type 0} → Call u a K D → Call u a' K' D' → (K → K' → R) → (D → D' → (a ≡ a') × R) → (a ≡ a') × R
+pub call-exact : (u : Bool) {a a' : ℕ} {K K' D D' R : Type 0} → Call u a K D → Call u a' K' D' → (K → K' → R) → (D → D' → (a ≡ a') × R) → (a ≡ a') × R
 call-exact false p q kept done = let x = p .unclear refl in let y = q .unclear refl in (x .0 ∙ sym (y .0), kept (x .1) (y .1))
 call-exact true p q kept done = done (p .done refl) (q .done refl)
 

@@ -1,3 +1,5 @@
 mod Calls
 pub mod Exact
 mod Done
+mod WavFiles
+pub mod ExactWav

@@ -30,6 +30,12 @@ use interface::understood;
 use reference::Opened;
 use reference::Verdict;
 
+mod wav_files;
+
+pub use wav_files::puigneht_wav_convert;
+pub use wav_files::puigneht_wav_read;
+pub use wav_files::puigneht_wav_write;
+
 // The gain record of some decibels.
 #[no_mangle]
 pub extern "C" fn puigneht_gain(db: f64, gain: &mut [f64], decibels: &mut [f64]) -> u8

@@ -1,4 +1,4 @@
-// The conversions beside what the original gives (data/, written by compare/answers.sh), the figures of document 01 and its table of refusals.
+// The conversions beside what the original gives (data/, written by compare/answers.sh; its headers by compare/wav/headers.py), the figures of document 01 and its table of refusals.
 mod call;
 mod document;
 mod input;

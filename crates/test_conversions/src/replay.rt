@@ -120,10 +120,93 @@ fn bytes_right<'a>(
     kept && counted(done, row) && same(input::of_bytes(out), row, 9)
 }
 
+// As a WAV file: the header that Python writes, then those bytes. With the counts lent by the plain call, else over the run record.
+fn file_right<'a>(
+    row: &[u64],
+    headers: &[u64],
+    before: &'a [u8],
+    frames: &'a [u8],
+    after: &'a [u8],
+    out: &mut [u8],
+    counts: &mut [u64],
+) -> bool {
+    let done = wav::convert_parts(
+        converter(row),
+        has_before(row),
+        before,
+        frames,
+        has_after(row),
+        after,
+        true,
+        out,
+        counts,
+    );
+    counts_right(counts, row) && counted(done, row) && contents_right(row, headers, out)
+}
+
+fn file_of_record_right<'a>(
+    row: &[u64],
+    headers: &[u64],
+    before: &'a [u8],
+    frames: &'a [u8],
+    after: &'a [u8],
+    out: &mut [u8],
+    counts: &mut [u64],
+) -> bool {
+    let done = wav::convert_of(
+        converter(row),
+        has_before(row),
+        before,
+        frames,
+        has_after(row),
+        after,
+        false,
+        out,
+        counts,
+    );
+    row::kept(counts) && counted(done, row) && contents_right(row, headers, out)
+}
+
+fn contents_right(row: &[u64], headers: &[u64], file: &[u8]) -> bool {
+    if file.len() < 44 {
+        return false;
+    }
+    test_support::begins_as_python(headers, at(row, 0), at(row, 1), at(row, 3), file)
+        && same(input::of_bytes(&file[44..]), row, 9)
+}
+
+// With more than two channels there is no file, and the output is kept.
+fn no_file<'a>(
+    row: &[u64],
+    before: &'a [u8],
+    frames: &'a [u8],
+    after: &'a [u8],
+    out: &mut [u8],
+    counts: &mut [u64],
+) -> bool {
+    let entry = input::of_bytes(out);
+    let done = wav::convert_parts(
+        converter(row),
+        has_before(row),
+        before,
+        frames,
+        has_after(row),
+        after,
+        true,
+        out,
+        counts,
+    );
+    let v = done.verdict;
+    test_support::is(test_support::verdict(v), 12, 0, 0)
+        && row::kept(counts)
+        && input::same(entry, input::of_bytes(out))
+}
+
 // One call of a row whose bytes and lengths are right.
 fn right<'a>(
     question: u8,
     row: &[u64],
+    headers: &[u64],
     before: &'a [u8],
     frames: &'a [u8],
     after: &'a [u8],
@@ -135,7 +218,10 @@ fn right<'a>(
         0 => samples_right(row, before, frames, after, out),
         1 => frame_right(row, before, frames, after, out),
         2 => bytes_right(row, before, frames, after, true, raw, counts),
-        _ => bytes_right(row, before, frames, after, false, raw, counts),
+        3 => bytes_right(row, before, frames, after, false, raw, counts),
+        4 => file_right(row, headers, before, frames, after, raw, counts),
+        5 => file_of_record_right(row, headers, before, frames, after, raw, counts),
+        _ => no_file(row, before, frames, after, raw, counts),
     }
 }
 
@@ -150,6 +236,7 @@ fn fill(row: &[u64], past: u64, bytes: &mut [u8]) {
 fn answer(
     question: u8,
     row: &[u64],
+    headers: &[u64],
     before: &mut [u8],
     frames: &mut [u8],
     after: &mut [u8],
@@ -160,7 +247,17 @@ fn answer(
     fill(row, 0, frames);
     fill(row, 1, before);
     fill(row, 2, after);
-    right(question, row, before, frames, after, out, raw, counts)
+    right(
+        question,
+        row,
+        headers,
+        before,
+        frames,
+        after,
+        out,
+        raw,
+        counts,
+    )
 }
 
 // How many rows a question is put to, and how many are right.
@@ -169,12 +266,24 @@ struct Score {
     yes: u64,
 }
 
-// `convert_frame` is asked for one frame.
+// `convert_frame` is asked for one frame, a file for one or two channels.
 fn asked(question: u8, row: &[u64]) -> bool {
-    if question == 1 {
-        return at(row, 3) == 1;
+    match question {
+        1 => at(row, 3) == 1,
+        4 => at(row, 1) <= 2,
+        5 => at(row, 1) <= 2,
+        6 => at(row, 1) > 2,
+        _ => true,
     }
-    true
+}
+
+// Bytes of output: a file has a header in front.
+fn room(question: u8, row: &[u64]) -> u64 {
+    let n = times(3, samples(row));
+    if question < 4 {
+        return n;
+    }
+    if n < 0x1_0000_0000 { 44 + n } else { 0 }
 }
 
 // The samples of a row's run over all channels.
@@ -189,6 +298,7 @@ fn samples(row: &[u64]) -> u64 {
 fn parts_right(
     question: u8,
     row: &[u64],
+    headers: &[u64],
     before: &mut [u8],
     frames: &mut [u8],
     after: &mut [u8],
@@ -201,11 +311,12 @@ fn parts_right(
     let f = test_support::of_bytes(times(size, at(row, 3)), frames);
     let a = test_support::of_bytes(size, after);
     let o = test_support::of_samples(samples(row), out);
-    let r = test_support::of_bytes(times(3, samples(row)), raw);
+    let r = test_support::of_bytes(room(question, row), raw);
     let c = test_support::of_numbers(at(row, 3), counts);
     answer(
         question,
         row,
+        headers,
         &mut before[..b],
         &mut frames[..f],
         &mut after[..a],
@@ -215,17 +326,18 @@ fn parts_right(
     )
 }
 
-// One row, with room for two frames of six channels.
-fn row_right(question: u8, row: &[u64]) -> bool {
+// One row, with room for two frames of six channels and a header.
+fn row_right(question: u8, row: &[u64], headers: &[u64]) -> bool {
     let mut before = [0u8; 28224];
     let mut frames = [0u8; 56448];
     let mut after = [0u8; 28224];
     let mut out = [0i32; 56448];
-    let mut raw = [0u8; 169344];
+    let mut raw = [0u8; 169388];
     let mut counts = [7u64; 2];
     parts_right(
         question,
         row,
+        headers,
         &mut before,
         &mut frames,
         &mut after,
@@ -235,24 +347,24 @@ fn row_right(question: u8, row: &[u64]) -> bool {
     )
 }
 
-fn tried(question: u8, row: &[u64]) -> Score
+fn tried(question: u8, row: &[u64], headers: &[u64]) -> Score
     ensures { λ r. ⌜ (r .all ≤ 1) × (r .yes ≤ 1) ⌝ }
 {
     if asked(question, row) {
         return Score {
             all: 1,
-            yes: one(row_right(question, row)),
+            yes: one(row_right(question, row, headers)),
         };
     }
     Score { all: 0, yes: 0 }
 }
 
-fn count(question: u8, rows: &[u64]) -> Score {
+fn count(question: u8, rows: &[u64], headers: &[u64]) -> Score {
     let mut all = 0u64;
     let mut yes = 0u64;
     let mut i = 0usize;
     while i < rows.len() / 19 {
-        let s = tried(question, &rows[i * 19..i * 19 + 19]);
+        let s = tried(question, &rows[i * 19..i * 19 + 19], headers);
         all += s.all;
         yes += s.yes;
         i += 1;
@@ -264,13 +376,25 @@ fn print(name: &[u8], c: Score) {
     test_support::right(name, c.all, c.yes);
 }
 
+// Every question put to every row.
+fn questions(rows: &[u64], headers: &[u64]) {
+    print(b"samples ", count(0, rows, headers));
+    print(b"samples of one frame ", count(1, rows, headers));
+    print(b"bytes and counts ", count(2, rows, headers));
+    print(b"bytes ", count(3, rows, headers));
+    print(b"files and counts ", count(4, rows, headers));
+    print(b"files of the run record ", count(5, rows, headers));
+    print(b"no file of more channels ", count(6, rows, headers));
+}
+
 pub fn beside_rust() {
     let mut bytes = [0u8; 65536];
     let mut rows = [0u64; 2508];
     test_support::read(b"conversions", 2508, &mut bytes);
     test_support::column(&bytes, 0, 1, &mut rows);
-    print(b"samples ", count(0, &rows));
-    print(b"samples of one frame ", count(1, &rows));
-    print(b"bytes and counts ", count(2, &rows));
-    print(b"bytes ", count(3, &rows));
+    let mut text = [0u8; 17952];
+    let mut headers = [0u64; 1056];
+    test_support::read(b"headers", 1056, &mut text);
+    test_support::column(&text, 0, 1, &mut headers);
+    questions(&rows, &headers);
 }

@@ -4,7 +4,9 @@ ghost use Prim.Native.Nat.{_+_, _*_, _≤_, _<_};
 ghost use lib.ListN.{length, getD};
 ghost use Rattle.numbers.specs.Lists.{Held};
 ghost use Rattle.test_support.specs.Answers as answers;
-ghost use Rattle.test_support.specs.Answers.{number-at};
+ghost use Rattle.test_support.specs.Answers.{number-at, header-place, begins-as};
+use crate::at;
+use crate::both;
 
 fn digit(b: u8) -> u64
     ensures { λ r. ⌜ (r ≡ answers.digit b) × (r < 16) ⌝ }
@@ -56,6 +58,35 @@ pub fn column(bytes: &[u8], start: usize, step: usize, out: &mut [u64])
         out[k] = n;
         k += 1;
     }
+}
+
+// Where the header stands that has this rate (0 to 2), 1 or 2 channels and 0 to 3 frames.
+fn place(rate: u64, channels: u64, frames: u64) -> usize
+    ensures { λ r. ⌜ (r ≡ header-place rate channels frames) × (r ≤ 1012) ⌝ }
+{
+    let which = rate % 3 * 8 + (1 - channels % 2) * 4 + frames % 4;
+    44 * which as usize
+}
+
+// Whether the first 44 bytes of a file are those stored from a place on.
+fn begins(headers: &[u64], start: usize, file: &[u8]) -> bool
+    requires { ⌜ start ≤ 1012 ⌝ }
+    ensures { λ r. ⌜ r ≡ begins-as (now (file .entry)) (now (headers .entry)) start 44 ⌝ }
+{
+    let mut yes = true;
+    let mut k = 0usize;
+    while k < 44 {
+        yes = both(yes, byte(file, k) as u64 == at(headers, start + k));
+        k += 1;
+    }
+    yes
+}
+
+// Whether a file begins with the header that Python writes, one of 24.
+pub fn begins_as_python(headers: &[u64], rate: u64, channels: u64, frames: u64, file: &[u8]) -> bool
+    ensures { λ r. ⌜ r ≡ begins-as (now (file .entry)) (now (headers .entry)) (header-place rate channels frames) 44 ⌝ }
+{
+    begins(headers, place(rate, channels, frames), file)
 }
 
 fn say<'a>(name: &'a [u8], word: &'a [u8]) {

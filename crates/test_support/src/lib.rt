@@ -17,6 +17,7 @@ use reference::Verdict;
 
 mod answers;
 
+pub use answers::begins_as_python;
 pub use answers::column;
 pub use answers::read;
 

@@ -7,10 +7,10 @@ use Rattle.test_conversions.proofs.replay.count.Statement.{statement}
 use Rattle.test_conversions.proofs.replay.count.Tie as tie
 
 abbrev Inv-loop : tie.InvT-loop
-Inv-loop question rows all₀ yes₀ i₀ all yes' i = (all ≤ i) × (yes' ≤ i) × (i ≤ length rows / 19)
+Inv-loop question rows headers all₀ yes₀ i₀ all yes' i = (all ≤ i) × (yes' ≤ i) × (i ≤ length rows / 19)
 
 abbrev μ-loop : tie.MeasureT-loop
-μ-loop question rows all₀ yes₀ i₀ all yes' i = length rows / 19 - i
+μ-loop question rows headers all₀ yes₀ i₀ all yes' i = length rows / 19 - i
 
 loop-holds : tie.Need-loop-holds Inv-loop μ-loop
 loop-holds c = search needs

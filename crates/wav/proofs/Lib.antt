@@ -1,0 +1,4 @@
+pub mod Converting
+pub mod Theorems
+pub mod Joined
+pub mod Calls

@@ -1,0 +1,116 @@
+-- `convert_parts` meets its contract.
+use denote.Ref.{now}
+use mathlib.Core.Path.{_≡_, refl}
+use mathlib.Core.List.{List, []}
+use borrow.Author.Needs.{needs}
+use Rattle.reference.specs.Frames.{Run, run}
+use Rattle.reference.specs.Refusals.{Place, accepted, decide}
+use Rattle.reference.specs.Promises.{no-clips}
+use Rattle.reference.specs.declared.Verdict.the-variants.{Accepted}
+use Rattle.checks.proofs.Steps.{passed, turned-down}
+use Rattle.wav_checks.specs.Places.{wav-places}
+use Rattle.wav_checks.proofs.Accepted.{two-channels, long-enough, rest-told}
+use Rattle.wav.proofs.Converting.{mid-long, converted, wav-refused}
+use Rattle.wav.proofs.convert_parts.Statement.{statement}
+use Rattle.wav.proofs.convert_parts.Tie as tie
+
+-- places in the code: the start, the call accepted, the header put, the run converted
+abbrev start : tie.After-call → tie.Start
+start c = let d = c .before .before .before .before in d .before .before .before .before
+
+abbrev begun : tie.After-put-header → tie.Then1
+begun c = c .before .before
+
+abbrev put : tie.After-convert-parts → tie.After-put-header
+put c = c .before .before .before .before .before
+
+abbrev done : tie.After-stats → tie.After-convert-parts
+done c = c .before .before .before .before .before
+
+abbrev run-of : tie.Start → Run
+run-of s = run (s .args .has-before) (now (s .args .before)) (now (s .args .frames)) (s .args .has-after) (now (s .args .after))
+
+abbrev places : tie.Start → List Place
+places s = wav-places (s .args .conv) (run-of s) (now (s .args .out)) (s .args .lent) (now (s .args .counts))
+
+ok : (c : tie.Then1) → decide (places (start (c .before .before))) ≡ accepted
+ok c = passed (places (start (c .before .before))) (c .before .before .call .ensures) (c .before .accepted .ensures) (c .if1 .taken)
+
+call-requires : tie.Need-call-requires
+call-requires c κs = search needs
+
+accepted-requires : tie.Need-accepted-requires
+accepted-requires c κs = search needs
+
+sub-n : tie.Need-sub-n
+sub-n c =
+    let s = start (c .before .before) in
+    long-enough (s .args .conv) (run-of s) (now (s .args .out)) (s .args .lent) (now (s .args .counts)) (ok c)
+
+put-header-requires : tie.Need-put-header-requires
+put-header-requires c κs =
+    let t = c .before in
+    let s = start (t .before .before) in
+    let o = ok t in
+    (two-channels (s .args .conv) (run-of s) (now (s .args .out)) (s .args .lent) (now (s .args .counts)) o, rest-told (s .args .conv) (run-of s) (now (s .args .out)) (s .args .lent) (now (s .args .counts)) o, long-enough (s .args .conv) (run-of s) (now (s .args .out)) (s .args .lent) (now (s .args .counts)) o)
+
+sub-convert-parts : tie.Need-sub-convert-parts
+sub-convert-parts c =
+    let p = c .before .before in
+    let t = begun p in
+    let s = start (t .before .before) in
+    mid-long (s .args .conv) (run-of s) (s .args .lent) (now (s .args .out)) (now (s .args .counts)) (t .before .before .call .result) (t .before .before .call .ensures) (ok t) _ [] [] (record { verdict = Accepted; stats = no-clips }) (p .put-header .ensures)
+
+part-convert-parts-start : tie.Need-part-convert-parts-start
+part-convert-parts-start c = sub-convert-parts c
+
+part-convert-parts-end : tie.Need-part-convert-parts-end
+part-convert-parts-end c = search needs
+
+convert-parts-requires : tie.Need-convert-parts-requires
+convert-parts-requires c κs = search needs
+
+same-length : tie.Need-same-length
+same-length c = search needs
+
+same-length-2 : tie.Need-same-length-2
+same-length-2 c = search needs
+
+returns : tie.Need-returns
+returns c =
+    let d = done c in
+    let p = put d in
+    let t = begun p in
+    let s = start (t .before .before) in
+    converted (s .args .conv) (run-of s) (s .args .lent) (now (s .args .out)) (now (s .args .counts)) (t .before .before .call .result) (t .before .before .call .ensures) (ok t) _ _ _ (d .convert-parts .result) (p .put-header .ensures) (d .convert-parts .ensures)
+
+same-length-3 : tie.Need-same-length-3
+same-length-3 c = search needs
+
+same-length-4 : tie.Need-same-length-4
+same-length-4 c = search needs
+
+returns-2 : tie.Need-returns-2
+unfolding no-clips
+returns-2 c =
+    let s = start (c .before .before) in
+    wav-refused (s .args .conv) (run-of s) (s .args .lent) (now (s .args .out)) (now (s .args .counts)) (c .before .before .call .result) (c .before .before .call .ensures) (turned-down (places s) (c .before .before .call .ensures) (c .before .accepted .ensures) (c .if1 .left)) _ refl
+
+pub convert-parts-spec : {M : Type 1} → statement M
+convert-parts-spec =
+    tie.close
+    (tie.spec
+    call-requires
+    accepted-requires
+    sub-n
+    put-header-requires
+    sub-convert-parts
+    part-convert-parts-start
+    part-convert-parts-end
+    convert-parts-requires
+    same-length
+    same-length-2
+    returns
+    same-length-3
+    same-length-4
+    returns-2)

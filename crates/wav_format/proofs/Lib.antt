@@ -1,0 +1,5 @@
+pub mod Same
+pub mod ThreeParts
+pub mod Reading
+pub mod Writing
+pub mod Theorems

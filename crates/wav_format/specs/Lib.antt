@@ -1,0 +1,4 @@
+pub mod Wav
+pub mod Places
+pub mod Promises
+pub mod Deciding
