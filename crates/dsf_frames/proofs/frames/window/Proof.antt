@@ -11,7 +11,7 @@ use Rattle.dsf_frames.proofs.frames.window.Tie as tie
 
 returns : tie.Need-returns
 unfolding frame-window
-returns c = sym (rw (lt-leb _ _ (c .if1 .taken)))
+returns c = sym (rw (lt-leb _ 6 (c .if1 .taken)))
 
 add-if2 : tie.Need-add-if2
 add-if2 c = search needs
