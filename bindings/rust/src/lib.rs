@@ -134,7 +134,7 @@ impl std::fmt::Display for Error {
             ),
             Error::NotWav => write!(
                 f,
-                "not a WAV file of 24 bits, one or two channels, one of the three rates and whole frames"
+                "not a WAV file of 24-bit samples at one of the three rates, of one or two channels and whole frames"
             ),
         }
     }

@@ -118,6 +118,10 @@ fn refusals() {
     assert_eq!(write(rate, 3, &[], &mut out[..44]), Err(Error::NotWav));
     assert_eq!(write(rate, 1, &[0; 3527], &mut []), Err(Error::NotWav));
     assert_eq!(
+        read(&[]).unwrap_err().to_string(),
+        "not a WAV file of 24-bit samples at one of the three rates, of one or two channels and whole frames"
+    );
+    assert_eq!(
         write(rate, 1, &[], &mut out[..45]),
         Err(Error::OutputBytes(45, 44))
     );
