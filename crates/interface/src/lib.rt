@@ -21,6 +21,7 @@ pub use files::tell_header;
 pub use files::tell_number;
 pub use results::of_error;
 pub use results::of_verdict;
+pub use files::tell_upload;
 pub use results::put_two;
 pub use results::room;
 use results::room_for_all;
