@@ -223,8 +223,10 @@ fn uploads_given_up() {
             20..=27 => assert_eq!(told, Upload::Accepted),
             // A length that is stated as too long may be reached, and one too short is over once it is there.
             12..=19 => assert!(matches!(told, Upload::Unfinished | Upload::GiveUp(_))),
-            // A sample count may be continued to a longer file, but its data has another size.
-            64..=71 => assert!(matches!(told, Upload::GiveUp(_))),
+            // 128 samples more need no more blocks.
+            64 => assert_eq!(told, Upload::Accepted),
+            // Any other count needs a data chunk of another size, and a longer file perhaps.
+            65..=71 => assert!(matches!(told, Upload::GiveUp(n) if n > at as u64)),
             _ => assert_eq!(told, Upload::GiveUp(at as u64 + 1)),
         }
     }

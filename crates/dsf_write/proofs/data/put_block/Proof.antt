@@ -1,8 +1,6 @@
 -- `put_block` meets its contract.
-use denote.Ref.{now}
-use Prim.Native.Nat.{_-_, _*_, _/_}
+use Prim.Native.Nat.{_-_}
 use native.Mathlib.Omega.{arith}
-use native.Mathlib.Nat.{mod-lt}
 use Rattle.dsf_write.proofs.Writing.{in-frames, start-small, block-wrote}
 use borrow.Author.Needs.{needs}
 use Rattle.dsf_write.proofs.data.put_block.Statement.{statement}
