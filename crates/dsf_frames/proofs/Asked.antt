@@ -27,7 +27,7 @@ use Rattle.dsf.proofs.Accepted.{sound-at, head-channels}
 use Rattle.dsf.proofs.Tests.{too-short}
 use Rattle.dsf.proofs.Head.{whole-head, header-right}
 use Rattle.dsf_frames.specs.Reading.{lesser, window-start, window-end, frame-window, asked-places, window-places, window-data, window-frame, Framed, WindowOf}
-use Rattle.dsf_frames.specs.Columns.{WindowArgs}
+use Rattle.dsf_frames.specs.Columns.{WindowArgs, ColumnArgs}
 use Rattle.dsf_frames.specs.declared.FrameWindow.{FrameWindow}
 use Rattle.dsf_frames.proofs.Windows.{place-at, above, within, column-args, turn-at}
 

@@ -1,8 +1,9 @@
 -- A frame out of a window: bytes at a stride, a channel put together from pieces, a frame from its channels.
 use mathlib.Core.Path.{_≡_, refl, sym, ap, ap₂, _∙_}
 use mathlib.Core.List.{List}
+use mathlib.Core.Bool.{true, false, cond}
 use mathlib.Core.Logic.{_≢_, ⊎-elim}
-use Prim.Native.Nat.{ℕ, _+_, _*_, _-_, _/_, _%_, _^_, _≤_, _<_}
+use Prim.Native.Nat.{ℕ, suc, _+_, _*_, _-_, _/_, _%_, _^_, _≤_, _<_}
 use native.Mathlib.Nat.{add-mul, mul-le-mul, mul-le-mul-right, mul-assoc, mod-lt, div-add-mod', div-lt-iff-lt-mul}
 use native.Mathlib.Omega.{arith}
 use lib.Dec.{leb, ltb, lt→ltb, ltb→lt}
@@ -10,7 +11,7 @@ use lib.ListN.{length, getD, set, take, drop, length-set, length-drop}
 use lib.Seq.{getD-set-same, getD-set-other, getD-take, getD-drop, length-take-le}
 use borrow.Author.Tests.{le-leb, lt-leb}
 use Rattle.numbers.proofs.Lists.{below-or, is-tabulate}
-use Rattle.reference.specs.Frames.{idle}
+use Rattle.reference.specs.Frames.{frame-length, idle}
 use Rattle.dsf.specs.Dsf.{blocks, data-place, our-byte, sample-byte, turn-byte, data-frame}
 use Rattle.dsf_frames.specs.Reading.{lesser, window-start, window-end, window-data}
 use Rattle.dsf_frames.specs.Columns.{WindowArgs, Strided, Column, column-byte, Ordering, ColumnArgs}

@@ -1,7 +1,7 @@
 -- The first 92 bytes and the length decide whether a file is hopeful, and where it turns hopeless.
 use mathlib.Core.Path.{_≡_, refl, sym, ap, _∙_}
 use mathlib.Core.List.{List, [], _∷_}
-use mathlib.Core.Bool.{true, false, _&&_, _||_}
+use mathlib.Core.Bool.{Bool, true, false, not, _&&_, _||_}
 use mathlib.Core.Logic.{⊎-elim}
 use Prim.Native.Nat.{ℕ, _+_, _%_, _≤_, _<_}
 use native.Mathlib.Omega.{arith}
@@ -10,8 +10,8 @@ use borrow.Author.Tests.{lt-ltb}
 use lib.ListN.{length, take}
 use lib.Seq.{take-take, take-all, length-take-le}
 use Rattle.numbers.proofs.Lists.{below-or}
-use Rattle.reference.specs.Refusals.{decide, is-accepted}
-use Rattle.dsf.specs.Dsf.{bytes, fixed, layout, frequency, all, fits, stated-length, samples, needed, accepts}
+use Rattle.reference.specs.Refusals.{Decision, decide, is-accepted}
+use Rattle.dsf.specs.Dsf.{bytes, fixed, layout, frequency, all, fits, stated-length, samples, needed, accepts, file-places}
 use Rattle.dsf.specs.Reading.{HeadOf, header-places}
 use Rattle.dsf.proofs.Alike.{T-of, F-of, left, right, both, or-elim, or-right, ends-by}
 use Rattle.dsf.proofs.Head.{header-right, fits-same, layout-same, frequency-same, samples-same, needed-same, stated-same}

@@ -1,5 +1,5 @@
 -- A hopeful beginning has an accepted continuation: its header completed, then zero bytes.
-use mathlib.Core.Path.{_≡_, sym, ap, ap₂, _∙_}
+use mathlib.Core.Path.{_≡_, refl, sym, ap, ap₂, _∙_}
 use mathlib.Core.List.{List, [], _∷_, _++_, append-assoc}
 use mathlib.Core.Logic.{⊎-elim}
 use Prim.Native.Nat.{ℕ, _+_, _-_, _^_, _≤_, _<_}
@@ -9,11 +9,11 @@ use lib.Seq.{drop-drop}
 use lib.ListN.{length, drop, replicate, length-append, length-drop, length-replicate, drop-of-length-le}
 use Rattle.numbers.proofs.Lists.{below-or}
 use Rattle.report_lines.specs.Text.{text}
-use Rattle.dsf.specs.Dsf.{Bytes, number-of, number-at, bytes, pair, alike, any, all, fits, layout, pairs, orders, data-bytes, stated-length, channels, samples, data-size, needed}
+use Rattle.dsf.specs.Dsf.{Bytes, number-of, number-at, bytes, pair, alike, any, all, fits, layout, pairs, orders, frequency, data-bytes, stated-length, channels, samples, data-size, needed}
 use Rattle.dsf.specs.Headers.{header}
 use Rattle.dsf_upload.specs.Uploads.{Continued}
 use Rattle.dsf_upload.specs.Deciding.{hopeful}
-use Rattle.dsf.proofs.Alike.{Alike, fixed-alike, all-each, any-elim, join, alike-append, alike-after, alike-take}
+use Rattle.dsf.proofs.Alike.{Alike, seg, fixed-alike, all-each, any-elim, join, alike-append, alike-after, alike-take}
 use Rattle.dsf.proofs.Numbers.{padded, number-padded, alike-padded, number-bytes, number-small, each-append, each-drop, each-bytes, each-padded, each-zeros, each-all, cons, none}
 use Rattle.dsf.proofs.Accepted.{is-sound}
 use Rattle.dsf.proofs.Headers.{Laid, head, alike-head}

@@ -11,7 +11,7 @@ use lib.Seq.{getD-take, getD-drop, length-take-le}
 use Rattle.numbers.specs.Lists.{tabulate}
 use Rattle.numbers.proofs.Lists.{part-end, below-or, length-tabulate, getD-tabulate, is-tabulate}
 use Rattle.reference.specs.Frames.{frame, frame-count}
-use Rattle.dsf.specs.Dsf.{Bytes, number-of, number-at, bytes, pair, alike, blocks, data-bytes, data-place, stated-length, channel-type, channels, bits-per-sample, samples, data-size, needed, frames, turned, our-byte, sample-byte, turn-byte, data-frame, file-data, file-byte, file-frame}
+use Rattle.dsf.specs.Dsf.{Bytes, number-of, number-at, bytes, pair, alike, blocks, data-bytes, data-place, layout, all, fits, stated-length, channel-type, channels, bits-per-sample, samples, data-size, needed, frames, turned, our-byte, sample-byte, turn-byte, data-frame, file-data, file-byte, file-frame}
 use Rattle.dsf.specs.Headers.{header}
 use Rattle.dsf.proofs.Alike.{Alike, seg, join, pick, skip, T-is}
 use Rattle.dsf.proofs.Numbers.{padded, number-padded, alike-padded, bytes-number, each-padded, each-drop, field-alike}

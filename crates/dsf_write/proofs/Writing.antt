@@ -12,7 +12,7 @@ use lib.Seq.{ext-getD, getD-take, getD-drop, length-take-le}
 use borrow.Author.Tests.{le-leb, lt-leb, lt-ltb, le-ltb, eq-eqb, ne-eqb, eqb-true, leb-true, ltb-false, not-false}
 use Rattle.numbers.specs.Lists.{tabulate, Wrote}
 use Rattle.numbers.proofs.Lists.{below-or, is-tabulate}
-use Rattle.reference.specs.Frames.{frame-count}
+use Rattle.reference.specs.Frames.{frame-count, frame-length}
 use Rattle.reference.specs.Refusals.{Decision, accepted, refused, place, decide, is-accepted, number, rack, run-length, lent-length}
 use Rattle.reference.proofs.Refusals.{at-first, at-next, at-end, pass, decide-skip, decide-stop}
 use Rattle.report_lines.specs.Text.{text}

@@ -1,4 +1,5 @@
 // The data: blocks of the channels in turn, lowest bit first, zero bytes past a channel's end.
+ghost use mathlib.Core.Path.{_≡_};
 ghost use Prim.Native.Nat.{_+_, _-_, _*_, _^_, _≤_, _<_};
 ghost use lib.ListN.{length, getD};
 ghost use Rattle.numbers.specs.Lists.{Wrote};

@@ -1,6 +1,7 @@
 -- `fill` meets its contract.
 use denote.Ref.{now}
-use mathlib.Core.Path.{_≡_, refl, _∙_}
+use mathlib.Core.Path.{_≡_, refl, sym, ap, _∙_}
+use Prim.Native.Nat.{ℕ, _+_}
 use native.Mathlib.Omega.{arith}
 use borrow.Author.Needs.{needs}
 use Rattle.reference.specs.Frames.{frame-count}

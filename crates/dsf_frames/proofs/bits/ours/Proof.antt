@@ -1,4 +1,5 @@
 -- `ours` meets its contract.
+use mathlib.Core.Path.{sym, _∙_}
 use lib.Dec.{eqb, eqb→eq}
 use Rattle.dsf.specs.Dsf.{our-byte}
 use Rattle.dsf.proofs.Alike.{not-T-is}

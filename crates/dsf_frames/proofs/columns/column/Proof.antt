@@ -1,8 +1,10 @@
 -- `column` meets its contract.
 use denote.Ref.{now}
 use mathlib.Core.Path.{_≡_, refl, _∙_}
-use Prim.Native.Nat.{_+_, _-_, _≤_}
+use Prim.Native.Nat.{ℕ, _+_, _*_, _-_, _/_, _≤_, _<_}
 use native.Mathlib.Omega.{arith}
+use borrow.Author.Needs.{needs}
+use lib.ListN.{length}
 use Rattle.dsf_frames.specs.Columns.{Column, column-byte}
 use Rattle.dsf_frames.proofs.Windows.{column-none, above, small, within, cells, cell-small, lent-small, piece-fits, piece, rest}
 use Rattle.dsf_frames.proofs.columns.column.Statement.{statement}

@@ -3,6 +3,7 @@ use mathlib.Core.Path.{_≡_, refl}
 use Prim.Native.Nat.{_+_, _*_, _-_, _≤_}
 use native.Mathlib.Nat.{mul-le-mul-right, add-mul}
 use native.Mathlib.Omega.{arith}
+use lib.ListN.{length, getD}
 use Rattle.reference.specs.Frames.{idle}
 use Rattle.dsf_frames.specs.Columns.{Strided}
 use Rattle.dsf_frames.proofs.Windows.{strided-none, strided-more}

@@ -4,6 +4,7 @@ use Prim.Native.Nat.{_+_, _*_, _-_, _≤_}
 use native.Mathlib.Nat.{mul-le-mul-right, add-mul}
 use native.Mathlib.Omega.{arith}
 use lib.ListN.{length, getD}
+use Rattle.reference.specs.Frames.{idle}
 use Rattle.dsf_frames.specs.Columns.{Strided}
 use Rattle.dsf_frames.proofs.Windows.{strided-none, strided-more}
 use Rattle.dsf_frames.proofs.columns.spread.Statement.{statement}

@@ -1,7 +1,8 @@
 -- `zeros` meets its contract.
 use mathlib.Core.Path.{_≡_, refl}
-use Prim.Native.Nat.{_-_, _≤_}
+use Prim.Native.Nat.{_+_, _*_, _-_, _≤_}
 use native.Mathlib.Omega.{arith}
+use lib.ListN.{getD}
 use Rattle.numbers.specs.Lists.{Wrote}
 use Rattle.numbers.proofs.Lists.{wrote-none, wrote-more}
 use Rattle.dsf_write.proofs.data.zeros.Statement.{statement}
