@@ -148,6 +148,18 @@ uint8_t puigneht_dsf_write(uint8_t channels, const uint8_t *frames, size_t frame
 uint8_t puigneht_dsf_length(uint8_t channels, size_t bytes, uint64_t *size, size_t size_len, uint64_t *data,
                             size_t data_len);
 
+enum { PUIGNEHT_UPLOAD_ACCEPTED = 0, PUIGNEHT_UPLOAD_UNFINISHED = 1, PUIGNEHT_UPLOAD_GIVE_UP = 2 };
+
+/* How early an upload can be given up. Answers PUIGNEHT_UPLOAD_ACCEPTED for an accepted file; PUIGNEHT_UPLOAD_UNFINISHED for
+ * one that is refused but may yet be continued to an accepted one; else PUIGNEHT_UPLOAD_GIVE_UP, and writes `place` (1 item):
+ * the length of its shortest beginning that no continuation makes acceptable. */
+uint8_t puigneht_dsf_give_up(const uint8_t *file, size_t file_len, uint64_t *place, size_t place_len);
+
+/* The same from the file's first 92 bytes (all, where it has fewer) and its length. Where fewer bytes are given, they count
+ * as the whole file. */
+uint8_t puigneht_dsf_give_up_header(const uint8_t *head, size_t head_len, uint64_t length, uint64_t *place,
+                                    size_t place_len);
+
 #ifdef __cplusplus
 }
 #endif

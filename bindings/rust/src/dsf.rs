@@ -159,3 +159,41 @@ pub fn write(channels: u8, frames: &[u8], out: &mut [u8]) -> Result<(), Error> {
     };
     told.result(answer, ())
 }
+
+/// What is to be thought of an upload.
+#[derive(Clone, Copy, Debug, PartialEq, Eq)]
+pub enum Upload {
+    Accepted,
+    /// Refused, but a longer file that begins so may be accepted.
+    Unfinished,
+    /// The length of the shortest beginning that no continuation makes acceptable.
+    GiveUp(u64),
+}
+
+fn upload(answer: u8, place: [u64; 1]) -> Upload {
+    match answer {
+        0 => Upload::Accepted,
+        1 => Upload::Unfinished,
+        2 => Upload::GiveUp(place[0]),
+        _ => unreachable!("answer {answer}"),
+    }
+}
+
+/// How early a file can be given up.
+pub fn give_up(file: &[u8]) -> Upload {
+    let mut place = [0; 1];
+    // SAFETY: each pointer and length is that of a live slice, and no written one overlaps another.
+    let answer =
+        unsafe { raw::puigneht_dsf_give_up(file.as_ptr(), file.len(), place.as_mut_ptr(), 1) };
+    upload(answer, place)
+}
+
+/// The same from the first [`HEADER_BYTES`] bytes, all where the file has fewer, and its length.
+pub fn give_up_header(head: &[u8], length: u64) -> Upload {
+    let mut place = [0; 1];
+    // SAFETY: each pointer and length is that of a live slice, and no written one overlaps another.
+    let answer = unsafe {
+        raw::puigneht_dsf_give_up_header(head.as_ptr(), head.len(), length, place.as_mut_ptr(), 1)
+    };
+    upload(answer, place)
+}

@@ -168,6 +168,21 @@ extern "C" {
         data_len: usize,
     ) -> u8;
 
+    pub fn puigneht_dsf_give_up(
+        file: *const u8,
+        file_len: usize,
+        place: *mut u64,
+        place_len: usize,
+    ) -> u8;
+
+    pub fn puigneht_dsf_give_up_header(
+        head: *const u8,
+        head_len: usize,
+        length: u64,
+        place: *mut u64,
+        place_len: usize,
+    ) -> u8;
+
     pub fn puigneht_pack_s24le(
         samples: *const i32,
         samples_len: usize,

@@ -1,7 +1,8 @@
 //! DSF files through the library, against files that these tests lay out by themselves.
 
 use puigneht::dsf::{
-    file_length, frame, read, read_header, window, window_frame, write, Header, HEADER_BYTES,
+    file_length, frame, give_up, give_up_header, read, read_header, window, window_frame, write, Header,
+    Upload, HEADER_BYTES,
 };
 use puigneht::{Error, FRAME_BYTES};
 
@@ -197,4 +198,36 @@ fn writing_refused_in_turn() {
         Err(Error::Frames(540001))
     );
     assert_eq!(out, [3; 10]);
+}
+
+// Each header byte changed in turn, and beginnings of a good file.
+#[test]
+fn uploads_given_up() {
+    let good = file(2, 2, 1, 5000, 0);
+    assert_eq!(give_up(&good), Upload::Accepted);
+    for n in 0..good.len() {
+        if n < 200 || n + 2 > good.len() {
+            assert_eq!(give_up(&good[..n]), Upload::Unfinished);
+        }
+    }
+    let mut long = good.clone();
+    long.push(0);
+    assert_eq!(give_up(&long), Upload::GiveUp(good.len() as u64 + 1));
+    for at in 0..HEADER_BYTES {
+        let mut bad = good.clone();
+        bad[at] ^= 0x80;
+        let told = give_up(&bad);
+        assert_eq!(told, give_up_header(&bad[..HEADER_BYTES], bad.len() as u64));
+        match at {
+            // The metadata pointer is not checked.
+            20..=27 => assert_eq!(told, Upload::Accepted),
+            // A length that is stated as too long may be reached, and one too short is over once it is there.
+            12..=19 => assert!(matches!(told, Upload::Unfinished | Upload::GiveUp(_))),
+            // 128 samples more need no more blocks.
+            64 => assert_eq!(told, Upload::Accepted),
+            // Any other count needs a data chunk of another size, and a longer file perhaps.
+            65..=71 => assert!(matches!(told, Upload::GiveUp(n) if n > at as u64)),
+            _ => assert_eq!(told, Upload::GiveUp(at as u64 + 1)),
+        }
+    }
 }

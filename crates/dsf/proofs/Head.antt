@@ -53,25 +53,25 @@ module _ (l m : List ℕ) (e : take 92 l ≡ take 92 m) where
   unfolding number-at
   number-same a s h = ap number-of (part-same a s h)
 
-  fits-same : (f : Field) → T (ends-by 92 f) → fits l f ≡ fits m f
+  pub fits-same : (f : Field) → T (ends-by 92 f) → fits l f ≡ fits m f
   unfolding fits ends-by
   fits-same f h =
       any-same (alike (drop (f .start) l)) (alike (drop (f .start) m)) (λ v. leb (f .start + length v) 92) (f .values)
       (λ v k. sym (alike-front (drop (f .start) l) v) ∙ ap (λ (x : List ℕ). alike x v) (part-same (f .start) (length v) (leb→le _ _ k)) ∙ alike-front (drop (f .start) m) v) h
 
-  layout-same : all (fits l) layout ≡ all (fits m) layout
+  pub layout-same : all (fits l) layout ≡ all (fits m) layout
   unfolding ends-by all layout pairs orders bytes text
   layout-same = all-same (fits l) (fits m) (ends-by 92) layout fits-same tt
 
-  frequency-same : fits l frequency ≡ fits m frequency
+  pub frequency-same : fits l frequency ≡ fits m frequency
   unfolding ends-by all frequency bytes
   frequency-same = fits-same frequency tt
 
-  samples-same : samples l ≡ samples m
+  pub samples-same : samples l ≡ samples m
   unfolding samples
   samples-same = number-same 64 8 (omega arith)
 
-  needed-same : needed l ≡ needed m
+  pub needed-same : needed l ≡ needed m
   unfolding needed channels
   needed-same = ap₂ data-bytes samples-same (number-same 52 4 (omega arith))
 

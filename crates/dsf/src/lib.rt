@@ -3,9 +3,16 @@ mod bytes;
 mod fields;
 mod header;
 
+pub use bytes::both;
 pub use bytes::eight;
+pub use bytes::either;
 pub use bytes::low;
+pub use bytes::number;
+pub use fields::at_frequency;
 pub use fields::data_bytes;
+pub use fields::holds;
+pub use fields::laid_out;
+pub use fields::needs;
 pub use header::read;
 pub use header::read_header;
 use reference::Verdict;

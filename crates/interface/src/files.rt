@@ -4,11 +4,12 @@ ghost use mathlib.Core.List.{[], _∷_};
 ghost use lib.ListN.{length};
 ghost use Rattle.reference.specs.Refusals.{decision};
 ghost use Rattle.reference.specs.Promises.{by-decision};
-ghost use Rattle.interface.specs.Files.{ToldData, header-numbers};
+ghost use Rattle.interface.specs.Files.{ToldData, header-numbers, upload-number, upload-place};
 use crate::results::of_verdict;
 use crate::results::put_two;
 use dsf::DsfHeader;
 use dsf::DsfOpened;
+use dsf_upload::Upload;
 use reference::Verdict;
 
 // A decision's number is answered, its data written.
@@ -62,5 +63,20 @@ pub fn tell_number(v: Verdict, n: u64, list: &mut [u64], data: &mut [u64]) -> u8
             tell_data(v, data)
         }
         Verdict::Refused(_) => tell_data(v, data),
+    }
+}
+
+// An upload's answer; the place is written where it is given up.
+pub fn tell_upload(u: Upload, place: &mut [u64]) -> u8
+    requires { ⌜ length (now place) ≡ 1 ⌝ }
+    ensures { λ r. ⌜ (r ≡ upload-number u) × (now (place .exit) ≡ upload-place u (now (place .entry))) ⌝ }
+{
+    match u {
+        Upload::Accepted => 0,
+        Upload::Unfinished => 1,
+        Upload::GiveUp(n) => {
+            place[0] = n;
+            2
+        }
     }
 }

@@ -19,6 +19,7 @@ pub use codes::settings;
 pub use files::tell_data;
 pub use files::tell_header;
 pub use files::tell_number;
+pub use files::tell_upload;
 pub use results::of_error;
 pub use results::of_verdict;
 pub use results::put_two;

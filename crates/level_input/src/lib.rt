@@ -11,7 +11,7 @@ pub struct Filled {
 }
 
 // One read into the slice from place n on; at least a byte, or nothing. A read that fails is told on standard error.
-fn read_some(from: i32, bytes: &mut [u8], n: usize) -> Filled
+pub fn read_some(from: i32, bytes: &mut [u8], n: usize) -> Filled
     requires { ⌜ n < length (now bytes) ⌝ }
     ensures { λ r. ⌜ n + r .n ≤ length (now (bytes .entry)) ⌝ }
 {

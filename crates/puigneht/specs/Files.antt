@@ -11,7 +11,9 @@ use Rattle.dsf.specs.Dsf.{file-places, frame-places, file-frame}
 use Rattle.dsf.specs.Reading.{file-header, header-places}
 use Rattle.dsf_frames.specs.Reading.{frame-window, window-places, window-frame}
 use Rattle.dsf_write.specs.Written.{written, file-length, length-places, write-places}
-use Rattle.interface.specs.Files.{ToldData, header-numbers}
+use Rattle.dsf_upload.specs.Uploads.{UploadPromise, HeadPromise}
+use Rattle.dsf_upload.specs.declared.Upload.{Upload}
+use Rattle.interface.specs.Files.{ToldData, header-numbers, upload-number, upload-place}
 use Rattle.puigneht.specs.Calls.{Call}
 
 -- ---- what a file holds: the list of five numbers is kept on a refusal
@@ -68,3 +70,19 @@ DsfLengthCall channels n size size' numbers numbers' answer =
     Call (eqb (length size) 1 && eqb (length numbers) 2) answer
     ((size' ≡ size) × (numbers' ≡ numbers))
     (LengthDone channels n size size' numbers' answer)
+
+-- ---- an upload: its answer keeps the promise, and is told
+pub record UploadDone (Promise : Upload → Type 0) (place place' : List ℕ) (answer : ℕ) : Type 0 where
+  pub made : Upload
+  pub promise : Promise made
+  pub number : answer ≡ upload-number made
+  pub written : place' ≡ upload-place made place
+
+abbrev pub UploadCall : (Upload → Type 0) → List ℕ → List ℕ → ℕ → Type 0
+UploadCall Promise place place' answer = Call (eqb (length place) 1) answer (place' ≡ place) (UploadDone Promise place place' answer)
+
+abbrev pub DsfGiveUpCall : List ℕ → List ℕ → List ℕ → ℕ → Type 0
+DsfGiveUpCall file = UploadCall (UploadPromise file)
+
+abbrev pub DsfGiveUpHeaderCall : List ℕ → ℕ → List ℕ → List ℕ → ℕ → Type 0
+DsfGiveUpHeaderCall head n = UploadCall (HeadPromise head n)

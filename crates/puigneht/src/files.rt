@@ -1,10 +1,11 @@
 // Calls about DSF files. Where a list of fixed length has another, a call answers 255 and writes nothing.
-ghost use Rattle.puigneht.specs.Files.{DsfReadCall, DsfReadHeaderCall, DsfWindowCall, DsfWindowFrameCall, DsfFrameCall, DsfWriteCall, DsfLengthCall};
+ghost use Rattle.puigneht.specs.Files.{DsfReadCall, DsfReadHeaderCall, DsfWindowCall, DsfWindowFrameCall, DsfFrameCall, DsfWriteCall, DsfLengthCall, DsfGiveUpCall, DsfGiveUpHeaderCall};
 use interface::both;
 use interface::put_two;
 use interface::tell_data;
 use interface::tell_header;
 use interface::tell_number;
+use interface::tell_upload;
 
 // What a file holds.
 #[no_mangle]
@@ -121,6 +122,30 @@ pub extern "C" fn puigneht_dsf_length(
         let answer = dsf_write::file_length(channels, bytes);
         let verdict = answer.verdict;
         return tell_number(verdict, answer.length as u64, size, data);
+    }
+    255
+}
+
+// How early a file can be given up.
+#[no_mangle]
+pub extern "C" fn puigneht_dsf_give_up(file: &[u8], place: &mut [u64]) -> u8
+    ensures { λ r. ⌜ DsfGiveUpCall (now (file .entry)) (now (place .entry)) (now (place .exit)) r ⌝ }
+{
+    if place.len() == 1 {
+        let answer = dsf_upload::give_up(file);
+        return tell_upload(answer, place);
+    }
+    255
+}
+
+// How early a file can be given up, from its first 92 bytes and its length.
+#[no_mangle]
+pub extern "C" fn puigneht_dsf_give_up_header(head: &[u8], length: u64, place: &mut [u64]) -> u8
+    ensures { λ r. ⌜ DsfGiveUpHeaderCall (now (head .entry)) «length» (now (place .entry)) (now (place .exit)) r ⌝ }
+{
+    if place.len() == 1 {
+        let answer = dsf_upload::give_up_header(head, length);
+        return tell_upload(answer, place);
     }
     255
 }

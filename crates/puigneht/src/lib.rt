@@ -10,6 +10,8 @@ ghost use Rattle.puigneht.specs.Calls.{input, results, opened-numbers, G
 mod files;
 
 pub use files::puigneht_dsf_frame;
+pub use files::puigneht_dsf_give_up;
+pub use files::puigneht_dsf_give_up_header;
 pub use files::puigneht_dsf_length;
 pub use files::puigneht_dsf_read;
 pub use files::puigneht_dsf_read_header;

@@ -39,7 +39,8 @@ shared-slice-read-if2-2 c = omega arith
 
 returns-2 : tie.Need-returns-2 Inv-loop μ-loop
 returns-2 c =
-    let a = c .before .before .before .before .before .before .args in
+    let at-loop = c .before .before .before .before .before in
+    let a = at-loop .before .args in
     let l = c .before .before .before .before .before .loop in
     sym (l .inv .1 ∙ alike-differ (now (a .file)) (now (a .value)) (a .start + l .k) (l .k) (omega arith) (omega arith) (c .if2 .taken))
 
@@ -51,7 +52,8 @@ loop-less c = omega arith
 
 loop-again : tie.Need-loop-again Inv-loop μ-loop
 loop-again c =
-    let a = c .before .before .before .before .before .before .args in
+    let at-loop = c .before .before .before .before .before in
+    let a = at-loop .before .args in
     let l = c .before .before .before .before .before .loop in
     let e : a .start + (l .k + 1) ≡ suc (a .start + l .k) = omega arith in
     (omega arith, l .inv .1 ∙ rw (e, add-one) (alike-same (now (a .file)) (now (a .value)) (a .start + l .k) (l .k) (omega arith) (omega arith) (c .if2 .left)))

@@ -70,8 +70,11 @@ either-requires-6 c κs = search needs
 returns : tie.Need-returns
 unfolding bytes
 returns c =
-    (c .either6 .ensures ∙ ap (λ (x : Bool). c .before .before .before .before .before .before .before .before .before .before .before .before .before .before .before .before .before .before .agrees .result || x) (c .before .either5 .ensures ∙ ap (λ (x : Bool). c .before .before .before .before .before .before .before .before .before .before .before .before .before .before .before .before .agrees2 .result || x) (c .before .before .either4 .ensures ∙ ap (λ (x : Bool). c .before .before .before .before .before .before .before .before .before .before .before .before .before .before .agrees3 .result || x) (c .before .before .before .either3 .ensures ∙ ap (λ (x : Bool). c .before .before .before .before .before .before .before .before .before .before .before .before .agrees4 .result || x) (c .before .before .before .before .either2 .ensures ∙ ap (λ (x : Bool). c .before .before .before .before .before .before .before .before .before .before .agrees5 .result || x) (c .before .before .before .before .before .either .ensures))))))
-    ∙ pairs-is _ (c .before .before .before .before .before .before .before .before .before .before .before .before .before .before .before .before .before .before .agrees .ensures) (c .before .before .before .before .before .before .before .before .before .before .before .before .before .before .before .before .agrees2 .ensures) (c .before .before .before .before .before .before .before .before .before .before .before .before .before .before .agrees3 .ensures) (c .before .before .before .before .before .before .before .before .before .before .before .before .agrees4 .ensures) (c .before .before .before .before .before .before .before .before .before .before .agrees5 .ensures) (c .before .before .before .before .before .before .before .before .agrees6 .ensures) (c .before .before .before .before .before .before .agrees7 .ensures)
+    let at-either = c .before .before .before .before .before in
+    let at-agrees5 = at-either .before .before .before .before .before in
+    let at-agrees-arg3 = at-agrees5 .before .before .before .before .before in
+    (c .either6 .ensures ∙ ap (λ (x : Bool). at-agrees-arg3 .before .before .before .agrees .result || x) (c .before .either5 .ensures ∙ ap (λ (x : Bool). at-agrees-arg3 .before .agrees2 .result || x) (c .before .before .either4 .ensures ∙ ap (λ (x : Bool). at-agrees5 .before .before .before .before .agrees3 .result || x) (c .before .before .before .either3 .ensures ∙ ap (λ (x : Bool). at-agrees5 .before .before .agrees4 .result || x) (c .before .before .before .before .either2 .ensures ∙ ap (λ (x : Bool). at-agrees5 .agrees5 .result || x) (c .before .before .before .before .before .either .ensures))))))
+    ∙ pairs-is _ (at-agrees-arg3 .before .before .before .agrees .ensures) (at-agrees-arg3 .before .agrees2 .ensures) (at-agrees5 .before .before .before .before .agrees3 .ensures) (at-agrees5 .before .before .agrees4 .ensures) (at-agrees5 .agrees5 .ensures) (at-either .before .before .before .agrees6 .ensures) (at-either .before .agrees7 .ensures)
 
 pub paired-spec : {M : Type 1} → statement M
 paired-spec =

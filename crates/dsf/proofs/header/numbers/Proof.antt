@@ -1,6 +1,5 @@
 -- `numbers` meets its contract.
 use mathlib.Core.Path.{ap}
-use Prim.Native.Nat.{ℕ}
 use borrow.Author.Needs.{needs}
 use Rattle.dsf.specs.Dsf.{channel-type, channels, bits-per-sample, samples, frames, frames-in}
 use Rattle.dsf.specs.Reading.{file-header}

@@ -69,7 +69,8 @@ part-spread-end c = let a = c .before .before .before .before .before .pre in le
 
 spread-requires : tie.Need-spread-requires Inv-loop μ-loop
 spread-requires c κs =
-    let s = c .before .before .before .before .before .before .before in
+    let at-slice-known = c .before .before .before .before .before in
+    let s = at-slice-known .before .before in
     let l = c .before .before .before .before .loop in
     let t = c .before .before .before .loop-test .taken in
     let e = c .before .before .lesser-of .ensures in
@@ -79,13 +80,17 @@ spread-requires c κs =
     (omega (arith, s .pre .channel), rw (l .inv .2 .same) (piece-fits (s .pre) (now (s .args .window)) (now (s .args .table)) refl (l .q) stop (l .inv .0) (omega arith) (omega arith) (omega arith) _ (omega (arith, g, b))), omega (arith, lent-small (s .pre), l .inv .2 .same))
 
 loop-less : tie.Need-loop-less Inv-loop μ-loop
-loop-less c = let t = c .before .before .before .before .before .before .loop-test .taken in let e = c .before .before .before .before .before .lesser-of .ensures in omega arith
+loop-less c =
+    let at-lesser-of = c .before .before .before .before .before in
+    let t = at-lesser-of .before .loop-test .taken in let e = c .before .before .before .before .before .lesser-of .ensures in omega arith
 
 loop-again : tie.Need-loop-again Inv-loop μ-loop
 loop-again c =
-    let s = c .before .before .before .before .before .before .before .before .before .before in
-    let l = c .before .before .before .before .before .before .before .loop in
-    let t = c .before .before .before .before .before .before .loop-test .taken in
+    let at-lesser-of = c .before .before .before .before .before in
+    let at-start = at-lesser-of .before .before .before .before .before in
+    let s = at-start in
+    let l = at-lesser-of .before .before .loop in
+    let t = at-lesser-of .before .loop-test .taken in
     let e = c .before .before .before .before .before .lesser-of .ensures in
     let stop = c .before .before .before .before .before .lesser-of .result in
     (omega arith, omega arith, piece (s .pre) (now (s .args .window)) (now (s .args .table)) refl (l .q) stop (l .inv .0) (omega arith) (omega arith) (omega arith) (l .inv .2) (c .before .before .spread .ensures))
@@ -117,7 +122,8 @@ same-length c = c .before .before .idle-at .ensures .same ∙ c .before .before 
 
 returns : tie.Need-returns Inv-loop μ-loop
 returns c =
-    let s = c .before .before .before .before .before .before .before .before in
+    let at-loop = c .before .before .before .before .before in
+    let s = at-loop .before .before .before in
     let l = c .before .before .before .before .before .loop in
     let e : l .q ≡ s .args .end = omega arith in
     rest (s .pre) (now (s .args .window)) (now (s .args .table)) (rw e at (l .inv .2)) (c .before .before .idle-at .ensures)

@@ -35,7 +35,8 @@ same-length c = search needs
 
 returns-2 : tie.Need-returns-2
 returns-2 c =
-    let a = c .before .before .before .before .before .before .before .before .args in
+    let at-else1 = c .before .before .before .before .before in
+    let a = at-else1 .before .before .before .args in
     let file = now (a .file) in
     let t = take-all (length file - 92) (drop 92 file) (omega (arith, length-drop 92 file)) in
     framed-as (whole-places file (a .frame) _) (whole-frame file (a .frame)) (rw t at (c .before .before .window-frame .ensures))

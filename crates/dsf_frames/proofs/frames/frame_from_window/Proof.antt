@@ -33,7 +33,8 @@ loop-holds c = (omega arith, refl, λ d k h t. absurd (omega arith))
 
 column-requires : tie.Need-column-requires Inv-loop μ-loop
 column-requires c κs =
-    let s = c .before .before .before .before .before .before .before .before in
+    let at-lesser-of = c .before .before .before .before .before in
+    let s = at-lesser-of .before .before .before in
     let l = c .before .before .before .loop in
     let e = c .before .before .before .before .before .lesser-of .ensures in
     rw (e, l .inv .1) (column-args (s .pre) (l .c) (c .before .before .loop-test .taken) (omega arith))
@@ -46,8 +47,9 @@ loop-less c = omega arith
 
 loop-again : tie.Need-loop-again Inv-loop μ-loop
 loop-again c =
-    let l = c .before .before .before .before .before .before .loop in
-    let e = c .before .before .before .before .before .before .before .before .lesser-of .ensures in
+    let at-in-loop = c .before .before .before .before .before in
+    let l = at-in-loop .before .loop in
+    let e = at-in-loop .before .before .before .lesser-of .ensures in
     let w = rw e at (c .before .before .column .ensures) in
     (omega arith, w .same ∙ l .inv .1, next {f = column-byte _ _ _ _ _ _} (c .before .before .before .before .before .loop-test .taken) (l .inv .2) w)
 
@@ -56,7 +58,8 @@ same-length c = c .before .loop .inv .1
 
 returns : tie.Need-returns Inv-loop μ-loop
 returns c =
-    let s = c .before .before .before .before .before .before in
+    let at-shared-slice-known = c .before .before .before .before .before in
+    let s = at-shared-slice-known .before in
     let l = c .before .loop in
     let e : l .c ≡ s .args .channels = omega arith in
     frame-is (s .pre) (s .args .bits) (now (s .args .window)) _ (l .out) refl (λ i. omega (arith, c .before .before .before .before .before .shared-slice-known .given i)) (c .before .before .order-table .ensures) (omega arith) (l .inv .1 ∙ s .pre .lent) (rw e at (l .inv .2))

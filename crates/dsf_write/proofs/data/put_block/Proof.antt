@@ -56,8 +56,10 @@ same-length c = search needs
 
 returns : tie.Need-returns
 returns c =
-    let s = c .before .before .before .before .before .before .before .before .before .before .before in
-    block-wrote (s .pre .1) (s .pre .0) (λ i. omega (arith, c .before .before .before .before .before .before .before .before .before .before .shared-slice-known .given i)) (c .before .before .before .before .before .before .before .before .lesser-of .ensures) (c .before .before .before .before .before .before .gather .ensures) (c .before .before .zeros .ensures)
+    let at-out = c .before .before .before .before .before in
+    let at-shared-slice-known = at-out .before .before .before .before .before in
+    let s = at-shared-slice-known .before in
+    block-wrote (s .pre .1) (s .pre .0) (λ i. omega (arith, at-shared-slice-known .shared-slice-known .given i)) (at-out .before .before .before .lesser-of .ensures) (at-out .before .gather .ensures) (c .before .before .zeros .ensures)
 
 pub put-block-spec : {M : Type 1} → statement M
 put-block-spec =

@@ -28,7 +28,8 @@ loop-holds c = (omega arith, wrote-none)
 
 put-block-requires : tie.Need-put-block-requires Inv-loop μ-loop
 put-block-requires c κs =
-    let s = c .before .before .before .before .before .before .before in
+    let at-slice-known = c .before .before .before .before .before in
+    let s = at-slice-known .before .before in
     let l = c .before .before .before .loop in
     (c .before .before .before .before .order-table .ensures, rw (l .inv .1 .same) (block-args (s .pre) (l .k) (c .before .before .loop-test .taken)))
 
@@ -40,7 +41,8 @@ loop-less c = omega arith
 
 loop-again : tie.Need-loop-again Inv-loop μ-loop
 loop-again c =
-    let l = c .before .before .before .before .before .before .loop in
+    let at-in-loop = c .before .before .before .before .before in
+    let l = at-in-loop .before .loop in
     let e : l .k * 4096 + 4096 ≡ (l .k + 1) * 4096 = omega arith in
     (omega arith, rw e at (wrote-then (l .inv .1) (c .before .before .put-block .ensures) (λ i h. refl)))
 

@@ -27,9 +27,11 @@ same-length c = search needs
 returns : tie.Need-returns
 unfolding format bytes
 returns c =
-    let p = c .before .before .before .before .before .before .before .before .before .before .before .pre in
-    let n = c .before .before .before .before .before .before .before .before .before .before .before .args .channels in
-    then 48 8 refl (put-as (ap (λ (t : ℕ). t ∷ 0 ∷ 0 ∷ 0 ∷ n ∷ 0 ∷ 0 ∷ 0 ∷ []) (p .3) ∙ pair-is n (p .1) (p .2)) (c .before .before .before .before .before .before .before .put .ensures)) (c .before .before .put2 .ensures)
+    let at-slice-known2 = c .before .before .before .before .before in
+    let at-slice-known = at-slice-known2 .before .before .before .before .before in
+    let p = at-slice-known .before .pre in
+    let n = at-slice-known .before .args .channels in
+    then 48 8 refl (put-as (ap (λ (t : ℕ). t ∷ 0 ∷ 0 ∷ 0 ∷ n ∷ 0 ∷ 0 ∷ 0 ∷ []) (p .3) ∙ pair-is n (p .1) (p .2)) (at-slice-known2 .before .before .put .ensures)) (c .before .before .put2 .ensures)
 
 pub put-format-spec : {M : Type 1} → statement M
 put-format-spec =

@@ -28,7 +28,10 @@ same-length c = search needs
 
 returns : tie.Need-returns
 unfolding front text bytes
-returns c = then 0 20 refl (then 0 12 refl (c .before .before .before .before .before .before .before .before .before .before .before .put .ensures) (c .before .before .before .before .before .before .before .put-eight .ensures)) (c .before .before .put2 .ensures)
+returns c =
+    let at-slice-known3 = c .before .before .before .before .before in
+    let at-out = at-slice-known3 .before .before .before .before .before in
+    then 0 20 refl (then 0 12 refl (at-out .before .put .ensures) (at-slice-known3 .before .before .put-eight .ensures)) (c .before .before .put2 .ensures)
 
 pub put-front-spec : {M : Type 1} → statement M
 put-front-spec =

@@ -23,7 +23,10 @@ same-length c = search needs
 
 returns : tie.Need-returns
 unfolding header front format sizes text bytes
-returns c = then 0 64 refl (then 0 48 refl (c .before .before .before .before .before .before .before .before .before .before .put-front .ensures) (c .before .before .before .before .before .before .put-format .ensures)) (c .before .before .put-sizes .ensures)
+returns c =
+    let at-out2 = c .before .before .before .before .before in
+    let at-put-front = at-out2 .before .before .before .before .before in
+    then 0 64 refl (then 0 48 refl (at-put-front .put-front .ensures) (at-out2 .before .put-format .ensures)) (c .before .before .put-sizes .ensures)
 
 pub put-header-spec : {M : Type 1} → statement M
 put-header-spec =

@@ -25,7 +25,10 @@ same-length c = search needs
 
 returns : tie.Need-returns
 unfolding sizes text bytes
-returns c = then 64 20 refl (then 64 8 refl (c .before .before .before .before .before .before .before .before .before .before .before .put-eight .ensures) (c .before .before .before .before .before .before .put .ensures)) (c .before .before .put-eight2 .ensures)
+returns c =
+    let at-out2 = c .before .before .before .before .before in
+    let at-out = at-out2 .before .before .before .before .before in
+    then 64 20 refl (then 64 8 refl (at-out .before .put-eight .ensures) (at-out2 .before .put .ensures)) (c .before .before .put-eight2 .ensures)
 
 pub put-sizes-spec : {M : Type 1} → statement M
 put-sizes-spec =

@@ -17,8 +17,9 @@ same-length c = search needs
 
 returns : tie.Need-returns
 returns c =
-    let v = c .before .before .before .before .of-verdict in
-    let e : v .result ≡ report (decision (c .before .before .before .before .before .before .args .v)) = v .ensures in
+    let told = c .before .before .before .before in
+    let v = told .of-verdict in
+    let e : v .result ≡ report (decision (told .before .before .args .v)) = v .ensures in
     record { number = rw e; numbers = rw e at (c .before .before .put-two .ensures) }
 
 pub tell-data-spec : {M : Type 1} → statement M

@@ -1,0 +1,2 @@
+pub mod Uploads
+pub mod Deciding

@@ -1,0 +1,28 @@
+-- `puigneht_dsf_give_up` meets its contract.
+use mathlib.Core.Path.{refl}
+use borrow.Author.Tests.{eq-eqb, ne-eqb}
+use borrow.Author.Needs.{needs}
+use Rattle.puigneht.proofs.Calls.{turned-away, worked}
+use Rattle.puigneht.proofs.files.puigneht_dsf_give_up.Statement.{statement}
+use Rattle.puigneht.proofs.files.puigneht_dsf_give_up.Tie as tie
+
+give-up-requires : tie.Need-give-up-requires
+give-up-requires c κs = search needs
+
+tell-upload-requires : tie.Need-tell-upload-requires
+tell-upload-requires c κs = search needs
+
+same-length : tie.Need-same-length
+same-length c = search needs
+
+returns : tie.Need-returns
+returns c =
+    let told = c .before .before in
+    let made = told .before .before in
+    worked (eq-eqb _ _ (made .before .if1 .taken)) (record { made = made .give-up .result; promise = made .give-up .ensures; number = told .tell-upload .ensures .0; written = told .tell-upload .ensures .1 })
+
+returns-2 : tie.Need-returns-2
+returns-2 c = turned-away (ne-eqb _ _ (c .if1 .left)) refl
+
+pub puigneht-dsf-give-up-spec : {M : Type 1} → statement M
+puigneht-dsf-give-up-spec = tie.close (tie.spec give-up-requires tell-upload-requires same-length returns returns-2)
