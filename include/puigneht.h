@@ -42,6 +42,7 @@ enum {
     PUIGNEHT_DSF_FORMAT = 10,   /* a frequency other than 2822400, or a sample count not a multiple of 8 */
     PUIGNEHT_DSF_LENGTH = 11,   /* a stated length, or a data chunk, that is not the file's; a window without the frame */
     PUIGNEHT_NOT_WAV = 12,      /* not a file that puigneht_wav_read takes, or none that it would */
+    PUIGNEHT_SCHEDULE = 19,     /* a number of a simulation of turns outside its range */
     PUIGNEHT_NOT_UNDERSTOOD = 255
 };
 
@@ -159,6 +160,12 @@ uint8_t puigneht_dsf_give_up(const uint8_t *file, size_t file_len, uint64_t *pla
  * as the whole file. */
 uint8_t puigneht_dsf_give_up_header(const uint8_t *head, size_t head_len, uint64_t length, uint64_t *place,
                                     size_t place_len);
+/* Turns on one board: 1 to 8 albums of `frames` (1 to 540000), due after turn `dues` (0 to 1000000), and turns of `turn`
+ * frames (1 to 540000). Each turn goes to the unfinished album that is due first, on a tie to the lower number. Writes
+ * the turn in which each album finishes, counted from 1, and its lateness, finish minus due. A list of another length
+ * than `frames` is not understood. */
+uint8_t puigneht_turns(const uint64_t *frames, size_t frames_len, const uint64_t *dues, size_t dues_len, uint64_t turn,
+                       uint64_t *finishes, size_t finishes_len, int32_t *late, size_t late_len);
 
 #ifdef __cplusplus
 }

@@ -5,6 +5,9 @@
 pub mod dsf;
 mod raw;
 pub mod wav;
+mod turns;
+
+pub use turns::{turns, Album, Turns};
 
 /// Bytes of one channel in a frame.
 pub const FRAME_BYTES: usize = 4704;
@@ -77,6 +80,8 @@ pub enum Error {
     DsfLength,
     /// Not a file that [`wav::read`] takes, or none that it would.
     NotWav,
+    /// A number of a simulation of turns outside its range.
+    Schedule,
 }
 
 impl std::fmt::Display for Error {
@@ -136,6 +141,10 @@ impl std::fmt::Display for Error {
                 f,
                 "not a WAV file of 24-bit samples at one of the three rates, of one or two channels and whole frames"
             ),
+            Error::Schedule => write!(
+                f,
+                "a number out of range: 1 to 8 albums of 1 to 540000 frames, due after turn 0 to 1000000, in turns of 1 to 540000 frames"
+            ),
         }
     }
 }
@@ -194,6 +203,7 @@ impl Told {
             10 => Error::DsfFormat,
             11 => Error::DsfLength,
             12 => Error::NotWav,
+            19 => Error::Schedule,
             _ => unreachable!("answer {answer}"),
         })
     }

@@ -190,6 +190,18 @@ extern "C" {
         bytes_len: usize,
     );
 
+    pub fn puigneht_turns(
+        frames: *const u64,
+        frames_len: usize,
+        dues: *const u64,
+        dues_len: usize,
+        turn: u64,
+        finishes: *mut u64,
+        finishes_len: usize,
+        late: *mut i32,
+        late_len: usize,
+    ) -> u8;
+
     pub fn puigneht_wav_convert(
         rate: u32,
         cutoff: u8,

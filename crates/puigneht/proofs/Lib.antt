@@ -3,3 +3,4 @@ pub mod Exact
 mod Done
 mod WavFiles
 pub mod ExactWav
+pub mod ExactTurns

@@ -32,8 +32,10 @@ use interface::understood;
 use reference::Opened;
 use reference::Verdict;
 
+mod turns;
 mod wav_files;
 
+pub use turns::puigneht_turns;
 pub use wav_files::puigneht_wav_convert;
 pub use wav_files::puigneht_wav_read;
 pub use wav_files::puigneht_wav_write;

@@ -1,13 +1,16 @@
--- Laws of `decimal`: its digits one by one, how many there are, and the first.
-use mathlib.Core.Path.{_≡_, ap}
+-- Laws of `decimal`: its digits one by one, how many there are, the first and the last, and that there are digits only.
+use mathlib.Core.Path.{_≡_, refl, sym, ap, _∙_}
 use mathlib.Core.Bool.{Bool, true, false, cond}
 use mathlib.Core.List.{List, [], _∷_, _++_}
+use mathlib.Core.Logic.{⊎-elim}
 use Prim.Native.Nat.{ℕ, zero, suc, _+_, _/_, _%_, _^_, _≤_, _<_}
 use native.Mathlib.Nat.{pow-succ'}
 use native.Mathlib.Omega.{arith}
 use lib.Dec.{ltb}
-use lib.ListN.{length, getD, length-append}
+use lib.ListN.{length, take, getD, length-append, List·getD-append}
+use lib.Seq.{take-at, getD-at}
 use borrow.Author.Tests.{lt-ltb, le-ltb}
+use Rattle.numbers.proofs.Lists.{below-or}
 use Rattle.report_lines.specs.Text.{numeral, decimal}
 
 -- a number below 10 ^ k has at most k digits: to allow more changes nothing
@@ -71,3 +74,45 @@ some-digit n = go (decimal n) (first-digit n)
     go : (l : List ℕ) → 48 ≤ getD l 0 0 → 0 < length l
     go [] h = omega arith
     go (x ∷ l) h = omega arith
+
+-- the same last element, and the same before it
+unsnoc : (s t : List ℕ) (a b : ℕ) → s ++ (a ∷ []) ≡ t ++ (b ∷ []) → (s ≡ t) × (a ≡ b)
+unsnoc s t a b e =
+    let n : length s ≡ length t = omega (arith, simp length-append at (ap length e)) in (
+      sym (take-at s (a ∷ []) (length t) n) ∙ ap (take (length t)) e ∙ take-at t (b ∷ []) (length t) refl,
+      sym (getD-at s a [] 0 (length t) n) ∙ ap (λ (l : List ℕ). getD l (length t) 0) e ∙ getD-at t b [] 0 (length t) refl,
+    )
+
+-- a number whose text is one digit, or a text and a digit after it
+pub single : (b n : ℕ) → b ∷ [] ≡ decimal n → (n < 10) × (b ≡ 48 + n)
+single b n e =
+    ⊎-elim (λ l. (l, cc (one-digit n l)))
+    (λ l. absurd (omega (arith, some-digit (n / 10), simp length-append at (ap length (e ∙ last-digit n l)))))
+    (below-or n 10)
+
+pub split : (t : List ℕ) (b n : ℕ) → 0 < length t → t ++ (b ∷ []) ≡ decimal n → (10 ≤ n) × (t ≡ decimal (n / 10)) × (b ≡ 48 + n % 10)
+split t b n h e =
+    ⊎-elim (λ l. absurd (omega (arith, simp length-append at (ap length (e ∙ one-digit n l)))))
+    (λ l. let u = unsnoc t (decimal (n / 10)) b (48 + n % 10) (e ∙ last-digit n l) in (l, u .0, u .1))
+    (below-or n 10)
+
+-- nothing but digits
+only : (t : List ℕ) (b k : ℕ) → ((i : ℕ) → i < length t → 48 ≤ getD t i 0) → 48 ≤ b → k < length (t ++ (b ∷ [])) → 48 ≤ getD (t ++ (b ∷ [])) k 0
+only t b k h l m =
+    ⊎-elim (λ p. rw (List·getD-append t (b ∷ []) 0 k p) (h k p))
+    (λ p. let e : length t ≡ k = omega (arith, simp length-append at m) in rw (getD-at t b [] 0 k e) l)
+    (below-or k (length t))
+
+digits : (j n k : ℕ) → k < length (numeral j n) → 48 ≤ getD (numeral j n) k 0
+unfolding numeral
+digits zero n k l = absurd (omega arith)
+digits (suc j) n k l = go (ltb n 10) (digits j (n / 10)) l
+  where
+    go : (b : Bool) → ((i : ℕ) → i < length (numeral j (n / 10)) → 48 ≤ getD (numeral j (n / 10)) i 0) → k < length (cond b ((48 + n) ∷ []) (numeral j (n / 10) ++ ((48 + n % 10) ∷ [])))
+        → 48 ≤ getD (cond b ((48 + n) ∷ []) (numeral j (n / 10) ++ ((48 + n % 10) ∷ []))) k 0
+    go true h m = only [] (48 + n) k (λ i m. absurd (omega arith)) (omega arith) m
+    go false h m = only (numeral j (n / 10)) (48 + n % 10) k h (omega arith) m
+
+pub all-digits : (n k : ℕ) → k < length (decimal n) → 48 ≤ getD (decimal n) k 0
+unfolding decimal
+all-digits n k l = digits (suc n) n k l

@@ -51,7 +51,7 @@ then {s} {t} {old} {at = at} p q =
     }
 
 -- the newline comes after the last text
-joined-last : (ts : List (List ℕ)) (t : List ℕ) → joined ts ++ t ≡ joined (ts ++ (t ∷ []))
+pub joined-last : (ts : List (List ℕ)) (t : List ℕ) → joined ts ++ t ≡ joined (ts ++ (t ∷ []))
 unfolding joined
 joined-last [] t = sym (append-nil t)
 joined-last (s ∷ ts) t = append-assoc s (joined ts) t ∙ ap (λ (l : List ℕ). s ++ l) (joined-last ts t)

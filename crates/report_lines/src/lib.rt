@@ -4,7 +4,7 @@ ghost use lib.ListN.{length};
 ghost use Rattle.report_lines.specs.Text.{Printed};
 ghost use Rattle.report_lines.specs.Lines as lines;
 
-mod text;
+pub mod text;
 
 // What is told of one channel of a frame.
 pub struct Level {

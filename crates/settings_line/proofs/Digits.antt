@@ -1,36 +1,12 @@
 -- Laws of `NumberRead`: a number digit by digit.
-use mathlib.Core.Path.{_≡_, refl, sym, ap, _∙_}
-use mathlib.Core.Logic.{⊎-elim}
+use mathlib.Core.Path.{_≡_, sym, ap}
 use mathlib.Core.List.{List, [], _∷_, _++_}
 use Prim.Native.Nat.{ℕ, _+_, _*_, _/_, _%_, _≤_, _<_}
 use native.Mathlib.Omega.{arith}
-use lib.ListN.{length, take, getD, length-append}
-use lib.Seq.{take-at, getD-at}
-use Rattle.numbers.proofs.Lists.{below-or}
+use lib.ListN.{length}
 use Rattle.report_lines.specs.Text.{decimal}
 use Rattle.settings_line.specs.Reading.{NumberRead}
-use Rattle.report_lines.proofs.Numerals.{one-digit, last-digit, some-digit}
-
--- the same last element, and the same before it
-unsnoc : (s t : List ℕ) (a b : ℕ) → s ++ (a ∷ []) ≡ t ++ (b ∷ []) → (s ≡ t) × (a ≡ b)
-unsnoc s t a b e =
-    let n : length s ≡ length t = omega (arith, simp length-append at (ap length e)) in (
-      sym (take-at s (a ∷ []) (length t) n) ∙ ap (take (length t)) e ∙ take-at t (b ∷ []) (length t) refl,
-      sym (getD-at s a [] 0 (length t) n) ∙ ap (λ (l : List ℕ). getD l (length t) 0) e ∙ getD-at t b [] 0 (length t) refl,
-    )
-
--- a number whose text is one digit, or a text and a digit after it
-single : (b n : ℕ) → b ∷ [] ≡ decimal n → (n < 10) × (b ≡ 48 + n)
-single b n e =
-    ⊎-elim (λ l. (l, cc (one-digit n l)))
-    (λ l. absurd (omega (arith, some-digit (n / 10), simp length-append at (ap length (e ∙ last-digit n l)))))
-    (below-or n 10)
-
-split : (t : List ℕ) (b n : ℕ) → 0 < length t → t ++ (b ∷ []) ≡ decimal n → (10 ≤ n) × (t ≡ decimal (n / 10)) × (b ≡ 48 + n % 10)
-split t b n h e =
-    ⊎-elim (λ l. absurd (omega (arith, simp length-append at (ap length (e ∙ one-digit n l)))))
-    (λ l. let u = unsnoc t (decimal (n / 10)) b (48 + n % 10) (e ∙ last-digit n l) in (l, u .0, u .1))
-    (below-or n 10)
+use Rattle.report_lines.proofs.Numerals.{one-digit, last-digit, some-digit, single, split}
 
 pub empty : (t : List ℕ) → length t ≡ 0 → NumberRead t 1000
 empty t z =
