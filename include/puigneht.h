@@ -156,14 +156,15 @@ enum { PUIGNEHT_UPLOAD_ACCEPTED = 0, PUIGNEHT_UPLOAD_UNFINISHED = 1, PUIGNEHT_UP
  * the length of its shortest beginning that no continuation makes acceptable. */
 uint8_t puigneht_dsf_give_up(const uint8_t *file, size_t file_len, uint64_t *place, size_t place_len);
 
-/* The same from the file's first 92 bytes (all, where it has fewer) and its length. Where fewer bytes are given, they count
- * as the whole file. */
+/* How early an upload can be given up, from the file's first 92 bytes (all, where it has fewer) and its length. Where fewer
+ * bytes are given, they count as the whole file. */
 uint8_t puigneht_dsf_give_up_header(const uint8_t *head, size_t head_len, uint64_t length, uint64_t *place,
                                     size_t place_len);
+
 /* Turns on one board: 1 to 8 albums of `frames` (1 to 540000), due after turn `dues` (0 to 1000000), and turns of `turn`
  * frames (1 to 540000). Each turn goes to the unfinished album that is due first, on a tie to the lower number. Writes
  * the turn in which each album finishes, counted from 1, and its lateness, finish minus due. A list of another length
- * than `frames` is not understood. */
+ * than `frames` is not understood; a number out of range is refused 19, and both lists keep their contents. */
 uint8_t puigneht_turns(const uint64_t *frames, size_t frames_len, const uint64_t *dues, size_t dues_len, uint64_t turn,
                        uint64_t *finishes, size_t finishes_len, int32_t *late, size_t late_len);
 

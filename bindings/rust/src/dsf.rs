@@ -188,7 +188,7 @@ pub fn give_up(file: &[u8]) -> Upload {
     upload(answer, place)
 }
 
-/// The same from the first [`HEADER_BYTES`] bytes, all where the file has fewer, and its length.
+/// How early an upload can be given up, from the first [`HEADER_BYTES`] bytes, all where the file has fewer, and its length.
 pub fn give_up_header(head: &[u8], length: u64) -> Upload {
     let mut place = [0; 1];
     // SAFETY: each pointer and length is that of a live slice, and no written one overlaps another.

@@ -42,8 +42,8 @@ module _ (channels : ℕ) (bytes-in : List ℕ) where
   written =
       header (bytes 8 (92 + written-data)) (bytes 8 0) (pair (type-of channels) channels) 1 (bytes 8 (8 * written-channel)) (bytes 8 (12 + written-data))
       ++ tabulate written-byte 0 written-data
-  -- the length of the file of n bytes of frames
 
+-- the length of the file of n bytes of frames
 unfoldable pub file-length : ℕ → ℕ → ℕ
 file-length channels n = 92 + data-bytes (8 * (n / frame-length channels * frame-bytes)) channels
 

@@ -7,7 +7,7 @@ fn digit(n: u64) -> u8 {
     b'0' + (n % 10) as u8
 }
 
-// The first n bytes of two texts.
+// Whether two texts are equal.
 fn same(a: &[u8], b: &[u8]) -> bool {
     if a.len() != b.len() {
         return false;

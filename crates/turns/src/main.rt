@@ -4,7 +4,9 @@ ghost use lib.ListN.{length};
 
 // Input that is no board.
 fn refused() {
-    io::write_all(libc::STDOUT_FILENO, b"refused settings\n");
+    if !io::write_all(libc::STDOUT_FILENO, b"refused settings\n") {
+        os::fail(b"write");
+    }
 }
 
 // The first n bytes are the input.
@@ -21,8 +23,8 @@ fn answered(input: &[u8], n: usize)
 fn main() {
     let mut input = [0u8; 1025];
     let came = level_input::fill(libc::STDIN_FILENO, &mut input);
+    // A read that fails is told by `fill`.
     if came.failed {
-        os::fail(b"read");
         return;
     }
     if 1024 < came.n {

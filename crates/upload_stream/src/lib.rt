@@ -84,7 +84,7 @@ fn watch_in(from: i32, to: i32, head: &mut [u8], bytes: &mut [u8])
     }
 }
 
-// What a descriptor gives, byte by byte as it arrives; the answer is written to another. A read or a write that fails ends it, with a word on
+// What a descriptor gives, as it arrives; the answer is written to another. A read or a write that fails ends it, with a word on
 // standard error.
 pub fn watch(from: i32, to: i32) {
     let mut head = [0u8; 92];
