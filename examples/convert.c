@@ -68,6 +68,8 @@ static void expect(uint8_t answer) {
     case PUIGNEHT_OUTPUT_LENGTH: stop("room for %llu samples, where %llu are to be written", a, b);
     case PUIGNEHT_OUTPUT_BYTES: stop("room for %llu bytes, where %llu are to be written", a, b);
     case PUIGNEHT_FRAME_COUNTS: stop("room for the counts of %llu frames, where there are %llu", a, b);
+    case PUIGNEHT_BEFORE: stop("the %llu bytes before are not one frame", a);
+    case PUIGNEHT_AFTER: stop("the %llu bytes after are not one frame", a);
     default: stop("the library answers %u: it did not understand an argument", answer);
     }
 }

@@ -42,6 +42,8 @@ enum {
     PUIGNEHT_DSF_FORMAT = 10,   /* a frequency other than 2822400, or a sample count not a multiple of 8 */
     PUIGNEHT_DSF_LENGTH = 11,   /* a stated length, or a data chunk, that is not the file's; a window without the frame */
     PUIGNEHT_NOT_WAV = 12,      /* not a file that puigneht_wav_read takes, or none that it would */
+    PUIGNEHT_BEFORE = 13,       /* data: bytes of `before`, which are not one frame */
+    PUIGNEHT_AFTER = 14,        /* data: bytes of `after`, which are not one frame */
     PUIGNEHT_SCHEDULE = 19,     /* a number of a simulation of turns outside its range */
     PUIGNEHT_NOT_UNDERSTOOD = 255
 };

@@ -82,6 +82,10 @@ pub enum Error {
     NotWav,
     /// A number of a simulation of turns outside its range.
     Schedule,
+    /// The bytes of the frame before, which are not one frame.
+    Before(usize),
+    /// The bytes of the frame after, which are not one frame.
+    After(usize),
 }
 
 impl std::fmt::Display for Error {
@@ -145,6 +149,14 @@ impl std::fmt::Display for Error {
                 f,
                 "a number out of range: 1 to 8 albums of 1 to 540000 frames, due after turn 0 to 1000000, in turns of 1 to 540000 frames"
             ),
+            Error::Before(n) => write!(
+                f,
+                "the {n} bytes before are not one frame: a frame has {FRAME_BYTES} bytes of each channel"
+            ),
+            Error::After(n) => write!(
+                f,
+                "the {n} bytes after are not one frame: a frame has {FRAME_BYTES} bytes of each channel"
+            ),
         }
     }
 }
@@ -203,6 +215,8 @@ impl Told {
             10 => Error::DsfFormat,
             11 => Error::DsfLength,
             12 => Error::NotWav,
+            13 => Error::Before(a as usize),
+            14 => Error::After(a as usize),
             19 => Error::Schedule,
             _ => unreachable!("answer {answer}"),
         })

@@ -163,18 +163,12 @@ fn refusals() {
         before: Some(&three[..5]),
         ..alone(&three)
     };
-    assert_eq!(
-        conv.convert_run(cut, &mut out),
-        Err(Error::InputLength(5, 1))
-    );
+    assert_eq!(conv.convert_run(cut, &mut out), Err(Error::Before(5)));
     let cut = Run {
         after: Some(&[]),
         ..alone(&three)
     };
-    assert_eq!(
-        conv.convert_run(cut, &mut out),
-        Err(Error::InputLength(0, 1))
-    );
+    assert_eq!(conv.convert_run(cut, &mut out), Err(Error::After(0)));
     assert_eq!(
         conv.convert_run(alone(&three), &mut out[1..]),
         Err(Error::OutputLength(3527, 3528))
@@ -227,6 +221,22 @@ fn sentences() {
     assert_eq!(
         said(conv.convert_frame(alone(&[]), &mut [0; 1176])),
         "0 bytes are not one frame: a frame has 4704 bytes of each channel"
+    );
+    let before = Run {
+        before: Some(&frame[1..]),
+        ..alone(&frame)
+    };
+    assert_eq!(
+        said(conv.convert_run(before, &mut [0; 1176])),
+        "the 4703 bytes before are not one frame: a frame has 4704 bytes of each channel"
+    );
+    let after = Run {
+        after: Some(&[]),
+        ..alone(&frame)
+    };
+    assert_eq!(
+        said(conv.convert(after, &mut [0; 3528], None)),
+        "the 0 bytes after are not one frame: a frame has 4704 bytes of each channel"
     );
     assert_eq!(
         Error::Frames(540_001).to_string(),

@@ -93,13 +93,30 @@ fn files() {
     }
 }
 
-// 12 comes after 8, and 8 after 7; a refused call keeps the output.
+// 12 comes after 8, 8 after 7, and 7 after the neighbours; a refused call keeps the output.
 #[test]
 fn refusals() {
     let conv = converter(PcmRate::Hz88200, 3);
     let frame = noise(3 * FRAME_BYTES);
     let n = 3 * 3 * 1176;
     let mut out = vec![7; HEADER + n];
+    let wrong = Run {
+        before: Some(&frame[1..]),
+        after: Some(&[]),
+        ..alone(&frame)
+    };
+    assert_eq!(
+        convert(&conv, wrong, &mut out[..n], Some(&mut [])),
+        Err(Error::Before(3 * FRAME_BYTES - 1))
+    );
+    let wrong = Run {
+        before: None,
+        ..wrong
+    };
+    assert_eq!(
+        convert(&conv, wrong, &mut out[..n], Some(&mut [])),
+        Err(Error::After(0))
+    );
     assert_eq!(
         convert(&conv, alone(&frame), &mut out[..n], Some(&mut [])),
         Err(Error::OutputBytes(n, HEADER + n))

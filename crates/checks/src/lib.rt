@@ -113,13 +113,13 @@ pub fn input(
     if has_before {
         let b = before.len();
         if b != size {
-            return Verdict::Refused(PcmError::InputLength(b, 1));
+            return Verdict::Refused(PcmError::Before(b));
         }
     }
     if has_after {
         let a = after.len();
         if a != size {
-            return Verdict::Refused(PcmError::InputLength(a, 1));
+            return Verdict::Refused(PcmError::After(a));
         }
     }
     Verdict::Accepted

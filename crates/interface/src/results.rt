@@ -58,6 +58,8 @@ pub fn of_error(e: PcmError) -> Report
         PcmError::DsfLength => numbers(11, 0, 0),
         PcmError::NotWav => numbers(12, 0, 0),
         PcmError::Schedule => numbers(19, 0, 0),
+        PcmError::Before(n) => numbers(13, n as u64, 0),
+        PcmError::After(n) => numbers(14, n as u64, 0),
     }
 }
 

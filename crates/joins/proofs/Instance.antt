@@ -17,7 +17,7 @@ use Rattle.reference.specs.Frames.{Run, run, idle, frame-length, frame-count, f
 use Rattle.reference.specs.Scaling.{LN-10, magnitude, exponent, series, squared, db-to-linear, allowed, right-gain}
 use Rattle.reference.specs.Figures.{mono}
 use Rattle.reference.specs.Output.{samples-per-frame, channel-samples, all-samples, samples, stats, s24le}
-use Rattle.reference.specs.Refusals.{rack, number, accepted, refused, Place, decide, is-accepted, unsupported, opening-places, held-places, input-places, run-length, one-frame, if-present, lent-length, byte-lengths, run-lengths, convert-places, convert-run-places}
+use Rattle.reference.specs.Refusals.{rack, number, accepted, refused, Place, decide, is-accepted, unsupported, opening-places, held-places, input-places, run-length, one-long, if-present, lent-length, byte-lengths, run-lengths, convert-places, convert-run-places}
 use Rattle.reference.specs.Promises.{if-lent, no-clips}
 use Rattle.reference.specs.declared.Converter.{Converter}
 use Rattle.reference.specs.declared.Verdict.the-variants as verdict
@@ -67,7 +67,7 @@ module _ (conv : Converter) (opens : decide (held-places conv) ≡ accepted) (so
   room = replicate (3 * all-samples conv first) 0
 
   first-lengths : decide (byte-lengths rack conv first room false []) ≡ accepted
-  unfolding byte-lengths input-places run-length if-present one-frame lent-length first room
+  unfolding byte-lengths input-places run-length if-present one-long lent-length first room
   first-lengths =
       passes _ (not-same _ 0 (whole A one), (few A one, (not-same (length B) (frame-length ch) two, (not-same _ _ (length-replicate (3 * all-samples conv first) 0), tt))))
 
@@ -99,7 +99,7 @@ module _ (conv : Converter) (opens : decide (held-places conv) ≡ accepted) (so
   some-room e = omega (arith, ap (λ n. n * samples-per-frame (conv .rate) * ch) (one-count A one), mul-le-mul (some-samples (conv .rate)) some)
 
   short-lengths : decide (byte-lengths rack conv first [] false []) ≡ refused 7 (number 0 ∷ number (3 * all-samples conv first) ∷ [])
-  unfolding byte-lengths input-places run-length if-present one-frame lent-length first
+  unfolding byte-lengths input-places run-length if-present one-long lent-length first
   short-lengths =
       at-next _ _ (not-same _ 0 (whole A one)) ∙ at-next _ _ (few A one) ∙ at-next _ _ (not-same (length B) (frame-length ch) two)
       ∙ at-first _ _ (rw (ne-eqb 0 (3 * all-samples conv first) some-room))
@@ -134,7 +134,7 @@ module _ (conv : Converter) (opens : decide (held-places conv) ≡ accepted) (so
   numbers = replicate (all-samples conv second) (pos 0)
 
   second-lengths : decide (run-lengths conv second numbers) ≡ accepted
-  unfolding run-lengths input-places run-length if-present one-frame lent-length second numbers
+  unfolding run-lengths input-places run-length if-present one-long lent-length second numbers
   second-lengths =
       passes _ (not-same _ 0 (whole B two), (few B two, (not-same (length A) (frame-length ch) one, (not-same _ _ (length-replicate (all-samples conv second) (pos 0)), tt))))
 

@@ -12,7 +12,7 @@ use lib.ListN.{length, take, drop, length-append, length-drop}
 use lib.Seq.{length-take-le, take-take, take-add, take-at, drop-at, drop-drop, take-append-le, drop-append-le}
 use Rattle.reference.specs.Frames.{Run, run, frame-length, frame-count}
 use Rattle.reference.specs.Output.{samples-per-frame, all-samples, frame-clips}
-use Rattle.reference.specs.Refusals.{Decision, Place, accepted, decide, held-places, one-frame, run-length, if-present, input-places, lent-length, run-lengths, convert-frame-places}
+use Rattle.reference.specs.Refusals.{Decision, Place, Datum, accepted, decide, held-places, one-long, run-length, if-present, input-places, lent-length, run-lengths, convert-frame-places}
 use Rattle.reference.specs.declared.Converter.{Converter}
 use Rattle.reference.specs.Promises.{by-decision}
 use Rattle.reference.proofs.Promises.{exit-accepted}
@@ -129,10 +129,11 @@ not-same : (m n : ℕ) → m ≡ n → not (eqb m n) ≡ false
 not-same m n e = rw (eq-eqb m n e)
 
 -- a neighbour of right length, present or not
-neighbour-passes : (ch : ℕ) (there : Bool) (bytes : List ℕ) (ps : List Place) → length bytes ≡ frame-length ch → decide (if-present there (one-frame ch bytes) ++ ps) ≡ decide ps
-unfolding if-present one-frame
-neighbour-passes ch true bytes ps e = at-next _ ps (not-same (length bytes) (frame-length ch) e)
-neighbour-passes ch false bytes ps e = refl
+neighbour-passes : (n : ℕ) (more : List Datum) (ch : ℕ) (there : Bool) (bytes : List ℕ) (ps : List Place) → length bytes ≡ frame-length ch
+    → decide (if-present there (one-long n more ch bytes) ++ ps) ≡ decide ps
+unfolding if-present one-long
+neighbour-passes n more ch true bytes ps e = at-next _ ps (not-same (length bytes) (frame-length ch) e)
+neighbour-passes n more ch false bytes ps e = refl
 
 module _ (conv : Converter) (opens : decide (held-places conv) ≡ accepted) where
   one-in : (r : Run) → length (r .frames) ≡ frame-length (conv .channels) → frame-count (conv .channels) (r .frames) ≡ 1
@@ -141,17 +142,17 @@ module _ (conv : Converter) (opens : decide (held-places conv) ≡ accepted) whe
 
   accepts : (r : Run) (items : List ℤ) → length (r .frames) ≡ frame-length (conv .channels) → length (r .before) ≡ frame-length (conv .channels)
       → length (r .after) ≡ frame-length (conv .channels) → length items ≡ samples-per-frame (conv .rate) * conv .channels → decide (convert-frame-places conv r items) ≡ accepted
-  unfolding convert-frame-places run-lengths input-places run-length one-frame lent-length
+  unfolding convert-frame-places run-lengths input-places run-length one-long lent-length
   accepts r items here before after all =
       let size = frame-length (conv .channels) in
       let room = lent-length 6 (length items) (all-samples conv r) in
-      let nb = if-present (r .has-before) (one-frame (conv .channels) (r .before)) in
-      let na = if-present (r .has-after) (one-frame (conv .channels) (r .after)) in
+      let nb = if-present (r .has-before) (one-long 13 [] (conv .channels) (r .before)) in
+      let na = if-present (r .has-after) (one-long 14 [] (conv .channels) (r .after)) in
       let fits : length items ≡ all-samples conv r = all ∙ sym (in-all conv r (some-channel conv opens) (few-channels conv opens) (one-in r here)) in
       let last : decide (room ∷ []) ≡ accepted = at-next room [] (not-same (length items) (all-samples conv r) fits) ∙ at-end in
       let neighbours : decide ((nb ++ na) ++ (room ∷ [])) ≡ accepted =
-      ap decide (append-assoc nb na (room ∷ [])) ∙ neighbour-passes (conv .channels) (r .has-before) (r .before) (na ++ (room ∷ [])) before
-      ∙ neighbour-passes (conv .channels) (r .has-after) (r .after) (room ∷ []) after ∙ last in
+      ap decide (append-assoc nb na (room ∷ [])) ∙ neighbour-passes 13 [] (conv .channels) (r .has-before) (r .before) (na ++ (room ∷ [])) before
+      ∙ neighbour-passes 14 [] (conv .channels) (r .has-after) (r .after) (room ∷ []) after ∙ last in
       let none : length (r .frames) % size ≡ 0 = ap (λ n. n % size) here ∙ mod-self size in
       decide-skip (held-places conv) _ opens
       ∙ at-next _ _ (not-same (length (r .frames)) size here)

@@ -12,7 +12,7 @@ use Rattle.numbers.specs.Lists.{tabulate, total}
 use Rattle.numbers.proofs.Lists.{tabulate-same, length-tabulate}
 use Rattle.reference.specs.Frames.{Run, frame-length, frame-count}
 use Rattle.reference.specs.Output.{samples-per-frame, item, samples, stats, frame-clips}
-use Rattle.reference.specs.Refusals.{accepted, decide, decision, is-accepted, held-places, one-frame, convert-frame-places}
+use Rattle.reference.specs.Refusals.{accepted, decide, decision, is-accepted, held-places, one-long, convert-frame-places}
 use Rattle.reference.specs.Promises.{ConvertFramePromise}
 use Rattle.reference.specs.declared.Converter.{Converter}
 use Rattle.reference.specs.declared.Converted.{Converted}
@@ -47,7 +47,7 @@ module _ (conv : Converter) (r : Run) (items : List ℤ) (ok : decide (convert-f
   few = few-channels conv opens
 
   one : frame-count ch (r .frames) ≡ 1
-  unfolding convert-frame-places one-frame frame-count
+  unfolding convert-frame-places one-long frame-count
   one =
       let rest = sym (decide-skip (held-places conv) _ opens) ∙ ok in
       let e : length (r .frames) ≡ frame-length ch = eqb-true _ _ (not-false _ (pass _ _ rest .0)) in

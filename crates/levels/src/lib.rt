@@ -64,6 +64,8 @@ pub fn refusal_number(e: PcmError) -> u64
         PcmError::DsfLength => 11,
         PcmError::NotWav => 12,
         PcmError::Schedule => 19,
+        PcmError::Before(_) => 13,
+        PcmError::After(_) => 14,
     }
 }
 

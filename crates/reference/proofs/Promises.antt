@@ -82,7 +82,9 @@ case-of n a b =
     (cond (eqb n 9) error.NotDsf
     (cond (eqb n 10) error.DsfFormat
     (cond (eqb n 11) error.DsfLength
-    (cond (eqb n 12) error.NotWav error.Schedule)))))))))))
+    (cond (eqb n 12) error.NotWav
+    (cond (eqb n 13) (error.Before (n-of a))
+    (cond (eqb n 14) (error.After (n-of a)) error.Schedule)))))))))))))
 
 error-of : Decision → PcmError
 error-of accepted = error.Frames 0
@@ -103,6 +105,8 @@ error-back error.DsfFormat = refl
 error-back error.DsfLength = refl
 error-back error.NotWav = refl
 error-back error.Schedule = refl
+error-back (error.Before n) = refl
+error-back (error.After n) = refl
 
 error-exact : (a b : PcmError) → error-decision a ≡ error-decision b → a ≡ b
 error-exact a b e = sym (error-back a) ∙ ap error-of e ∙ error-back b

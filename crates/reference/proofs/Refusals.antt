@@ -9,7 +9,7 @@ use borrow.Author.Tests.{ltb-false, leb-true, eqb-true, not-false}
 use lib.Dec.{leb}
 use lib.ListN.{length, length-replicate}
 use Rattle.reference.specs.Frames.{Run, idle, frame-length, frame-count, neighbour, before-frame}
-use Rattle.reference.specs.Refusals.{Datum, accepted, refused, error-decision, is-accepted, Place, decide, opening-places, held-places, run-length, Limit, one-frame, if-present, input-places}
+use Rattle.reference.specs.Refusals.{Datum, accepted, refused, error-decision, is-accepted, Place, decide, opening-places, held-places, run-length, Limit, one-long, if-present, input-places}
 use Rattle.reference.specs.declared.Converter.{Converter}
 use Rattle.reference.specs.declared.PcmError.{PcmError}
 use Rattle.reference.specs.declared.PcmError.the-variants as error
@@ -93,6 +93,8 @@ error-refuses error.DsfFormat = refl
 error-refuses error.DsfLength = refl
 error-refuses error.NotWav = refl
 error-refuses error.Schedule = refl
+error-refuses (error.Before n) = refl
+error-refuses (error.After n) = refl
 
 -- ---- what an accepted converter and an accepted run have
 
@@ -113,10 +115,11 @@ module _ (conv : Converter) (opens : decide (held-places conv) ≡ accepted) whe
   unfolding opening-places
   few-channels = leb-true (conv .channels) 6 (and-right (leb 1 (conv .channels)) (leb (conv .channels) 6) (not-false _ (pass _ _ opens .0)))
 
-neighbour-length : (ch : ℕ) (there : Bool) (bytes : List ℕ) (ps : List Place) → decide (if-present there (one-frame ch bytes) ++ ps) ≡ accepted → length (neighbour ch there bytes) ≡ frame-length ch
-unfolding if-present one-frame neighbour
-neighbour-length ch true bytes ps e = eqb-true _ _ (not-false _ (pass _ _ e .0))
-neighbour-length ch false bytes ps e = length-replicate (frame-length ch) idle
+neighbour-length : (n : ℕ) (d : List Datum) (ch : ℕ) (there : Bool) (bytes : List ℕ) (ps : List Place) → decide (if-present there (one-long n d ch bytes) ++ ps) ≡ accepted
+    → length (neighbour ch there bytes) ≡ frame-length ch
+unfolding if-present one-long neighbour
+neighbour-length n d ch true bytes ps e = eqb-true _ _ (not-false _ (pass _ _ e .0))
+neighbour-length n d ch false bytes ps e = length-replicate (frame-length ch) idle
 
 module _ (limit : Limit) (conv : Converter) (r : Run) (fits : decide (input-places limit conv r) ≡ accepted) where
   pub whole-frames : length (r .frames) ≡ frame-count (conv .channels) (r .frames) * frame-length (conv .channels)
@@ -129,9 +132,9 @@ module _ (limit : Limit) (conv : Converter) (r : Run) (fits : decide (input-plac
   unfolding input-places run-length
   few-frames = ltb-false _ _ (pass _ _ (pass _ _ fits .1) .0)
 
-  after-run-length : decide (if-present (r .has-before) (one-frame (conv .channels) (r .before)) ++ if-present (r .has-after) (one-frame (conv .channels) (r .after))) ≡ accepted
+  after-run-length : decide (if-present (r .has-before) (one-long 13 [] (conv .channels) (r .before)) ++ if-present (r .has-after) (one-long 14 [] (conv .channels) (r .after))) ≡ accepted
   unfolding input-places run-length
   after-run-length = pass _ _ (pass _ _ fits .1) .1
 
   pub one-before : length (before-frame (conv .channels) r) ≡ frame-length (conv .channels)
-  one-before = neighbour-length (conv .channels) (r .has-before) (r .before) _ after-run-length
+  one-before = neighbour-length 13 [] (conv .channels) (r .has-before) (r .before) _ after-run-length

@@ -61,6 +61,8 @@ error-decision error.DsfFormat = refused 10 []
 error-decision error.DsfLength = refused 11 []
 error-decision error.NotWav = refused 12 []
 error-decision error.Schedule = refused 19 []
+error-decision (error.Before n) = refused 13 (number n ∷ [])
+error-decision (error.After n) = refused 14 (number n ∷ [])
 
 abbrev pub decision : Verdict → Decision
 decision verdict.Accepted = accepted
@@ -116,9 +118,13 @@ opening-places s =
 abbrev pub held-places : Converter → List Place
 held-places conv = opening-places (held-settings conv)
 
--- a slice that is to be one frame: `convert_frame`'s run, and each neighbour
-unfoldable pub one-frame : ℕ → List ℕ → Place
-one-frame channels bytes = place (not (eqb (length bytes) (frame-length channels))) 4 (number (length bytes) ∷ number 1 ∷ [])
+-- a slice that is to be one frame; its refusal carries the length, and what is given here after it
+unfoldable pub one-long : ℕ → List Datum → ℕ → List ℕ → Place
+one-long refusal more channels bytes = place (not (eqb (length bytes) (frame-length channels))) refusal (number (length bytes) ∷ more)
+
+-- `convert_frame`'s run
+abbrev pub one-frame : ℕ → List ℕ → Place
+one-frame = one-long 4 (number 1 ∷ [])
 
 -- how many frames a call takes, and the number of the refusal of more, which carries the frames
 pub record Limit : Type 0 where
@@ -139,8 +145,8 @@ run-length limit channels frames =
 unfoldable pub input-places : Limit → Converter → Run → List Place
 input-places limit conv r =
     run-length limit (conv .channels) (r .frames)
-    ++ (if-present (r .has-before) (one-frame (conv .channels) (r .before))
-    ++ if-present (r .has-after) (one-frame (conv .channels) (r .after)))
+    ++ (if-present (r .has-before) (one-long 13 [] (conv .channels) (r .before))
+    ++ if-present (r .has-after) (one-long 14 [] (conv .channels) (r .after)))
 
 -- a lent list of n items where `expected` are asked for
 unfoldable pub lent-length : ℕ → ℕ → ℕ → Place

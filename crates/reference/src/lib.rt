@@ -99,6 +99,9 @@ pub enum PcmError {
     NotWav,
     // A number of a simulation of turns outside its range.
     Schedule,
+    // The length of a frame before, or of a frame after, that is not one frame.
+    Before(usize),
+    After(usize),
 }
 
 pub enum Verdict {

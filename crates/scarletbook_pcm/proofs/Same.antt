@@ -14,7 +14,7 @@ use Rattle.reference.specs.Frames.{Run, run, frame-length, frame-count, neighbo
 use Rattle.reference.specs.Stages.{y}
 use Rattle.reference.specs.Scaling.{scaled, clamp, clips, right-gain}
 use Rattle.reference.specs.Output.{samples-per-frame, unclamped, sample, clipped, item, channel-samples, all-samples, samples, channel-clips, stats, frame-clips, per-frame-clips, s24le}
-use Rattle.reference.specs.Refusals.{rack, accepted, decide, Place, if-present, one-frame, run-length, opening-places, input-places, unsupported}
+use Rattle.reference.specs.Refusals.{rack, accepted, decide, Datum, Place, if-present, one-long, run-length, opening-places, input-places, unsupported}
 use Rattle.reference.specs.declared.Converter.{Converter}
 use Rattle.reference.specs.declared.ConvertStats.{ConvertStats}
 use Rattle.reference.proofs.Refusals.{pass, some-channel, few-channels, whole-frames, few-frames}
@@ -53,29 +53,29 @@ module _ (conv : Converter) (r q : Run) (e : sequence (conv .channels) r ≡ seq
 
 -- ---- a neighbour that passes its place
 
-passed : (ch : ℕ) (there : Bool) (bytes : List ℕ) (ps : List Place) → decide (if-present there (one-frame ch bytes) ++ ps) ≡ accepted
+passed : (n : ℕ) (d : List Datum) (ch : ℕ) (there : Bool) (bytes : List ℕ) (ps : List Place) → decide (if-present there (one-long n d ch bytes) ++ ps) ≡ accepted
     → (0 < length (present there bytes) → length (present there bytes) ≡ frame-length ch) × (decide ps ≡ accepted)
-unfolding if-present one-frame present
-passed ch true bytes ps e = let h = pass _ _ e in ((λ l. eqb-true _ _ (not-false _ (h .0))), h .1)
-passed ch false bytes ps e = ((λ l. absurd (omega arith)), e)
+unfolding if-present one-long present
+passed n d ch true bytes ps e = let h = pass _ _ e in ((λ l. eqb-true _ _ (not-false _ (h .0))), h .1)
+passed n d ch false bytes ps e = ((λ l. absurd (omega arith)), e)
 
-neighbour-same : (ch : ℕ) (there : Bool) (bytes : List ℕ) (ps : List Place) → 0 < ch → decide (if-present there (one-frame ch bytes) ++ ps) ≡ accepted
+neighbour-same : (n : ℕ) (d : List Datum) (ch : ℕ) (there : Bool) (bytes : List ℕ) (ps : List Place) → 0 < ch → decide (if-present there (one-long n d ch bytes) ++ ps) ≡ accepted
     → neighbour ch (ltb 0 (length (present there bytes))) (present there bytes) ≡ neighbour ch there bytes
-unfolding if-present one-frame present neighbour
-neighbour-same ch true bytes ps some e =
-    let n : length bytes ≡ frame-length ch = eqb-true _ _ (not-false _ (pass _ _ e .0)) in
+unfolding if-present one-long present neighbour
+neighbour-same n d ch true bytes ps some e =
+    let whole : length bytes ≡ frame-length ch = eqb-true _ _ (not-false _ (pass _ _ e .0)) in
     rw (lt-ltb 0 (length bytes) (omega arith))
-neighbour-same ch false bytes ps some e = refl
+neighbour-same n d ch false bytes ps some e = refl
 
 -- ---- an accepted run, its slices lent
 
 module _ (conv : Converter) (hb : Bool) (b f : List ℕ) (ha : Bool) (a : List ℕ) (ok : AcceptedCall conv (run hb b f ha a)) where
-  neighbours : decide (if-present hb (one-frame (conv .channels) b) ++ if-present ha (one-frame (conv .channels) a)) ≡ accepted
+  neighbours : decide (if-present hb (one-long 13 [] (conv .channels) b) ++ if-present ha (one-long 14 [] (conv .channels) a)) ≡ accepted
   unfolding input-places run-length
   neighbours = pass _ _ (pass _ _ (ok .fits) .1) .1
 
-  last-place : decide (if-present ha (one-frame (conv .channels) a) ++ []) ≡ accepted
-  last-place = ap decide (append-nil (if-present ha (one-frame (conv .channels) a))) ∙ passed (conv .channels) hb b _ neighbours .1
+  last-place : decide (if-present ha (one-long 14 [] (conv .channels) a) ++ []) ≡ accepted
+  last-place = ap decide (append-nil (if-present ha (one-long 14 [] (conv .channels) a))) ∙ passed 13 [] (conv .channels) hb b _ neighbours .1
 
   pub lent : Lent (conv .channels) (frame-count (conv .channels) f) (present hb b) f (present ha a)
   lent =
@@ -84,13 +84,13 @@ module _ (conv : Converter) (hb : Bool) (b f : List ℕ) (ha : Bool) (a : List �
         few = few-channels conv (ok .opens);
         limit = few-frames rack conv (run hb b f ha a) (ok .fits);
         whole = whole-frames rack conv (run hb b f ha a) (ok .fits);
-        first = passed (conv .channels) hb b _ neighbours .0;
-        last = passed (conv .channels) ha a _ last-place .0;
+        first = passed 13 [] (conv .channels) hb b _ neighbours .0;
+        last = passed 14 [] (conv .channels) ha a _ last-place .0;
       }
 
   sequence-same : sequence (conv .channels) (lent-run (present hb b) f (present ha a)) ≡ sequence (conv .channels) (run hb b f ha a)
   unfolding sequence lent-run
-  sequence-same = rw (neighbour-same (conv .channels) hb b _ (some-channel conv (ok .opens)) neighbours, neighbour-same (conv .channels) ha a _ (some-channel conv (ok .opens)) last-place)
+  sequence-same = rw (neighbour-same 13 [] (conv .channels) hb b _ (some-channel conv (ok .opens)) neighbours, neighbour-same 14 [] (conv .channels) ha a _ (some-channel conv (ok .opens)) last-place)
 
   -- what an accepted converter has
   supported : unsupported (conv .rate) (conv .cutoff) ≡ false

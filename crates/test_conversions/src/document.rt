@@ -72,8 +72,9 @@ fn no_frames() -> u64 {
     one(none_taken(&frame, &mut out)) + one(none_taken_as_bytes(&frame, &mut raw, &mut counts))
 }
 
-// Refusal 4, of length 0 where one frame is due.
+// Refused with this number and length 0.
 fn refused_as_empty<'a>(
+    number: u64,
     before: &'a [u8],
     frames: &'a [u8],
     after: &'a [u8],
@@ -89,13 +90,14 @@ fn refused_as_empty<'a>(
         out,
     );
     let v = done.verdict;
-    test_support::is(test_support::verdict(v), 4, 0, 1)
+    test_support::is(test_support::verdict(v), number, 0, 0)
 }
 
-// Neighbours that are present and empty.
+// Neighbours that are present and empty: before, after, and both, where the one before is told.
 fn empty_refused(frame: &[u8], out: &mut [i32]) -> u64 {
-    one(refused_as_empty(&frame[..0], frame, frame, out))
-        + one(refused_as_empty(frame, frame, &frame[..0], out))
+    one(refused_as_empty(13, &frame[..0], frame, frame, out))
+        + one(refused_as_empty(14, frame, frame, &frame[..0], out))
+        + one(refused_as_empty(13, &frame[..0], frame, &frame[..0], out))
 }
 
 fn empty_neighbours() -> u64 {
@@ -139,7 +141,7 @@ pub fn figures() {
             + one(constant(0x4038_0000_0000_0000, 0, -8388608, 1176)),
     );
     test_support::right(b"no frames ", 2, no_frames());
-    test_support::right(b"empty neighbours ", 2, empty_neighbours());
+    test_support::right(b"empty neighbours ", 3, empty_neighbours());
     test_support::right(
         b"24 dB and past it ",
         2,

@@ -8,7 +8,9 @@ use reference::Converter;
 use reference::Gain;
 use reference::Settings;
 use reference::Verdict;
+use test_support::Told;
 use test_support::at;
+use test_support::refusal;
 
 // A record whose factor is not its decibels' (-0 dB with the float after 1), as a row of settings: the original has no such refusal.
 const FACTOR: [u64; 9] = [
@@ -65,9 +67,24 @@ fn converted<'a>(
     }
 }
 
+// A refusal as the original has it: a wrong neighbour, 13 or 14, is its `InputLength`, one frame.
+fn as_original(told: Told) -> Told {
+    let number = told.number;
+    match number {
+        13 => refusal(4, told.first, 1),
+        14 => refusal(4, told.first, 1),
+        _ => told,
+    }
+}
+
 // Whether a verdict is the row's.
 fn told(v: Verdict, row: &[u64]) -> bool {
-    test_support::is(test_support::verdict(v), at(row, 6), at(row, 7), at(row, 8))
+    test_support::is(
+        as_original(test_support::verdict(v)),
+        at(row, 6),
+        at(row, 7),
+        at(row, 8),
+    )
 }
 
 // Whether nothing is counted, and lists of 7's are kept.

@@ -64,6 +64,6 @@ pub fn before<'a>(before: &'a [u8], frames: &'a [u8], after: &'a [u8], out: &mut
     junk::fill_bytes(out);
     let b = test_support::of_bytes(9407, before);
     let f = test_support::of_bytes(9408, frames);
-    let told = short_bytes(&before[..b], &frames[..f], after, 7056, out, 4, 9407, 1);
+    let told = short_bytes(&before[..b], &frames[..f], after, 7056, out, 13, 9407, 0);
     told && junk::bytes_kept(out)
 }

@@ -94,6 +94,8 @@ pub fn error(e: PcmError) -> Told
         PcmError::DsfLength => refusal(11, 0, 0),
         PcmError::NotWav => refusal(12, 0, 0),
         PcmError::Schedule => refusal(19, 0, 0),
+        PcmError::Before(n) => refusal(13, n as u64, 0),
+        PcmError::After(n) => refusal(14, n as u64, 0),
     }
 }
 

@@ -5,7 +5,7 @@ use mathlib.Core.Bool.{not}
 use mathlib.Core.Path.{_≡_, ap, sym, _∙_}
 use borrow.Author.Tests.{ne-eqb, eq-eqb, lt-ltb, le-ltb}
 use borrow.Author.Needs.{needs}
-use Rattle.reference.specs.Refusals.{rack, decide, input-places, run-length, one-frame, if-present}
+use Rattle.reference.specs.Refusals.{rack, decide, input-places, run-length, one-long, if-present}
 use Rattle.reference.specs.Frames.{run, frame-count}
 use Rattle.reference.proofs.Refusals.{at-first, at-next, at-end, present-holds, present-passes, absent-passes}
 use Rattle.checks.proofs.input.Statement.{statement}
@@ -37,8 +37,8 @@ returns-2 c = sym (at-next _ _ (ap not (eq-eqb _ _ (c .before .if1 .left))) ∙ 
 so-far : (c : lts.Joined3 reads.Pre reads.Post) →
     let a = c .before .before .before .before .args in
     decide (input-places rack (a .conv) (run (a .has-before) (a .before .now) (a .frames .now) (a .has-after) (a .after .now)))
-    ≡ decide (if-present (a .has-after) (one-frame (a .conv .channels) (a .after .now)) ++ [])
-unfolding input-places run-length frame-count one-frame
+    ≡ decide (if-present (a .has-after) (one-long 14 [] (a .conv .channels) (a .after .now)) ++ [])
+unfolding input-places run-length frame-count one-long
 so-far c =
     at-next _ _ (ap not (eq-eqb _ _ (c .before .before .if1 .left)))
     ∙ at-next _ _ (le-ltb _ _ (c .before .if2 .left))
@@ -46,17 +46,17 @@ so-far c =
     ∙ ap decide (sym (append-nil _))
 
 returns-3 : tie.Need-returns-3
-unfolding input-places run-length frame-count one-frame
+unfolding input-places run-length frame-count one-long
 returns-3 c = sym (at-next _ _ (ap not (eq-eqb _ _ (c .before .before .before .if1 .left)))
     ∙ at-next _ _ (le-ltb _ _ (c .before .before .if2 .left))
     ∙ present-holds _ _ _ (c .before .if3 .taken) (ap not (ne-eqb _ _ (c .if4 .taken))))
 
 returns-4 : tie.Need-returns-4
-unfolding one-frame
+unfolding one-long
 returns-4 c = sym (so-far (c .before .before) ∙ present-holds _ _ _ (c .before .if5 .taken) (ap not (ne-eqb _ _ (c .if6 .taken))))
 
 returns-5 : tie.Need-returns-5
-unfolding one-frame
+unfolding one-long
 returns-5 c = sym (so-far (c .before .before) ∙ present-passes _ _ _ (c .before .if5 .taken) (ap not (eq-eqb _ _ (c .if6 .left))) ∙ at-end)
 
 returns-6 : tie.Need-returns-6

@@ -96,6 +96,18 @@ enum-told-5 c = search needs
 refusal-requires-13 : tie.Need-refusal-requires-13
 refusal-requires-13 c κs = search needs
 
+enum-known-e-9 : tie.Need-enum-known-e-9
+enum-known-e-9 c = search needs
+
+refusal-requires-14 : tie.Need-refusal-requires-14
+refusal-requires-14 c κs = search needs
+
+enum-known-e-10 : tie.Need-enum-known-e-10
+enum-known-e-10 c = search needs
+
+refusal-requires-15 : tie.Need-refusal-requires-15
+refusal-requires-15 c κs = search needs
+
 returns : tie.Need-returns
 returns c = rw (c .before .before .e .given .1) (c .refusal .ensures)
 
@@ -135,6 +147,12 @@ returns-12 c = rw (c .before .enum-told4 .given .1) (c .refusal12 .ensures)
 returns-13 : tie.Need-returns-13
 returns-13 c = rw (c .before .enum-told5 .given .1) (c .refusal13 .ensures)
 
+returns-14 : tie.Need-returns-14
+returns-14 c = rw (c .before .before .e9 .given .1) (c .refusal14 .ensures)
+
+returns-15 : tie.Need-returns-15
+returns-15 c = rw (c .before .before .e10 .given .1) (c .refusal15 .ensures)
+
 pub error-spec : {M : Type 1} → statement M
 error-spec =
     tie.close
@@ -170,6 +188,10 @@ error-spec =
     refusal-requires-12
     enum-told-5
     refusal-requires-13
+    enum-known-e-9
+    refusal-requires-14
+    enum-known-e-10
+    refusal-requires-15
     returns
     returns-2
     returns-3
@@ -182,4 +204,6 @@ error-spec =
     returns-10
     returns-11
     returns-12
-    returns-13)
+    returns-13
+    returns-14
+    returns-15)

@@ -91,6 +91,18 @@ enum-told-5 c = search needs
 numbers-requires-12 : tie.Need-numbers-requires-12
 numbers-requires-12 c κs = search needs
 
+enum-known-e-9 : tie.Need-enum-known-e-9
+enum-known-e-9 c = search needs
+
+numbers-requires-13 : tie.Need-numbers-requires-13
+numbers-requires-13 c κs = search needs
+
+enum-known-e-10 : tie.Need-enum-known-e-10
+enum-known-e-10 c = search needs
+
+numbers-requires-14 : tie.Need-numbers-requires-14
+numbers-requires-14 c κs = search needs
+
 returns : tie.Need-returns
 returns c = rw (c .before .before .e .given .1) (c .numbers .ensures)
 
@@ -130,6 +142,12 @@ returns-12 c = rw (c .before .enum-told4 .given .1) (c .numbers11 .ensures)
 returns-13 : tie.Need-returns-13
 returns-13 c = rw (c .before .enum-told5 .given .1) (c .numbers12 .ensures)
 
+returns-14 : tie.Need-returns-14
+returns-14 c = rw (c .before .before .e9 .given .1) (c .numbers13 .ensures)
+
+returns-15 : tie.Need-returns-15
+returns-15 c = rw (c .before .before .e10 .given .1) (c .numbers14 .ensures)
+
 pub of-error-spec : {M : Type 1} → statement M
 of-error-spec =
     tie.close
@@ -163,6 +181,10 @@ of-error-spec =
     numbers-requires-11
     enum-told-5
     numbers-requires-12
+    enum-known-e-9
+    numbers-requires-13
+    enum-known-e-10
+    numbers-requires-14
     returns
     returns-2
     returns-3
@@ -175,4 +197,6 @@ of-error-spec =
     returns-10
     returns-11
     returns-12
-    returns-13)
+    returns-13
+    returns-14
+    returns-15)
