@@ -84,6 +84,10 @@ static void *convert(void *p) {
     struct call *c = p;
     return puigneht_convert(SETTINGS, LENT_RUN, 1, ITEMS(BYTES, uint8_t), ITEMS(COUNTS, uint64_t), ITEMS(CLIPPED, uint64_t), TOLD) ? NULL : p;
 }
+static void *convert_desk(void *p) {
+    struct call *c = p;
+    return puigneht_convert_desk(SETTINGS, LENT_RUN, 1, ITEMS(BYTES, uint8_t), ITEMS(COUNTS, uint64_t), ITEMS(CLIPPED, uint64_t), TOLD) ? NULL : p;
+}
 static void *pack(void *p) {
     struct call *c = p;
     puigneht_pack_s24le(ITEMS(OUT, int32_t), ITEMS(BYTES, uint8_t));
@@ -107,7 +111,7 @@ static const struct {
     const char *name;
     void *(*make)(void *);
 } calls[] = {{"no call", none}, {"gain", gain}, {"open", open_}, {"convert_run", convert_run}, {"convert_frame", convert_frame},
-             {"convert", convert}, {"pack_s24le", pack}, {"dsf calls", dsf}};
+             {"convert", convert}, {"convert_desk", convert_desk}, {"pack_s24le", pack}, {"dsf calls", dsf}};
 enum { CALLS = sizeof calls / sizeof *calls };
 
 /* The call with each list in turn at each offset; gives how many calls were compared. */

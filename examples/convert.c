@@ -70,6 +70,7 @@ static void expect(uint8_t answer) {
     case PUIGNEHT_FRAME_COUNTS: stop("room for the counts of %llu frames, where there are %llu", a, b);
     case PUIGNEHT_BEFORE: stop("the %llu bytes before are not one frame", a);
     case PUIGNEHT_AFTER: stop("the %llu bytes after are not one frame", a);
+    case PUIGNEHT_DESK: stop("too many frames for the listening desk: there may be %d", PUIGNEHT_DESK_FRAMES);
     default: stop("the library answers %u: it did not understand an argument", answer);
     }
 }

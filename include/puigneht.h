@@ -44,6 +44,7 @@ enum {
     PUIGNEHT_NOT_WAV = 12,      /* not a file that puigneht_wav_read takes, or none that it would */
     PUIGNEHT_BEFORE = 13,       /* data: bytes of `before`, which are not one frame */
     PUIGNEHT_AFTER = 14,        /* data: bytes of `after`, which are not one frame */
+    PUIGNEHT_DESK = 16,         /* more than PUIGNEHT_DESK_FRAMES frames, in puigneht_convert_desk */
     PUIGNEHT_SCHEDULE = 19,     /* a number of a simulation of turns outside its range */
     PUIGNEHT_NOT_UNDERSTOOD = 255
 };
@@ -52,6 +53,9 @@ enum { PUIGNEHT_STANDARD = 0, PUIGNEHT_LOW = 1, PUIGNEHT_WIDE = 2 };
 
 /* Bytes of one channel in a frame; the channels' bytes take turns. */
 enum { PUIGNEHT_FRAME_BYTES = 4704 };
+
+/* Frames that puigneht_convert_desk takes. */
+enum { PUIGNEHT_DESK_FRAMES = 8 };
 
 /* The gain of `db` decibels, -120 to 24. Writes `gain` (2 items) if accepted. */
 uint8_t puigneht_gain(double db, double *gain, size_t gain_len, double *decibels, size_t decibels_len);
@@ -88,6 +92,15 @@ uint8_t puigneht_convert(uint32_t rate, uint8_t cutoff, uint8_t channels, const 
                          uint8_t lent, uint8_t *out, size_t out_len, uint64_t *counts, size_t counts_len,
                          uint64_t *clipped, size_t clipped_len, uint64_t *data, size_t data_len, double *decibels,
                          size_t decibels_len);
+
+/* For the listening desk: puigneht_convert of at most PUIGNEHT_DESK_FRAMES frames, with its arguments and answers. More
+ * frames are refused PUIGNEHT_DESK. */
+uint8_t puigneht_convert_desk(uint32_t rate, uint8_t cutoff, uint8_t channels, const double *gain, size_t gain_len,
+                              uint8_t has_before, const uint8_t *before, size_t before_len, const uint8_t *frames,
+                              size_t frames_len, uint8_t has_after, const uint8_t *after, size_t after_len,
+                              uint8_t lent, uint8_t *out, size_t out_len, uint64_t *counts, size_t counts_len,
+                              uint64_t *clipped, size_t clipped_len, uint64_t *data, size_t data_len,
+                              double *decibels, size_t decibels_len);
 
 /* 32-bit samples as three bytes each, their low 24 bits, least first: as many as there are bytes for. Later bytes are
  * kept. */

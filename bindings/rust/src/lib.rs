@@ -12,6 +12,9 @@ pub use turns::{turns, Album, Turns};
 /// Bytes of one channel in a frame.
 pub const FRAME_BYTES: usize = 4704;
 
+/// Frames that [`Converter::convert_desk`] takes.
+pub const DESK_FRAMES: usize = 8;
+
 #[derive(Clone, Copy, Debug, PartialEq, Eq)]
 pub enum PcmRate {
     Hz88200,
@@ -86,6 +89,8 @@ pub enum Error {
     Before(usize),
     /// The bytes of the frame after, which are not one frame.
     After(usize),
+    /// More than 8 frames at the listening desk.
+    Desk,
 }
 
 impl std::fmt::Display for Error {
@@ -157,6 +162,10 @@ impl std::fmt::Display for Error {
                 f,
                 "the {n} bytes after are not one frame: a frame has {FRAME_BYTES} bytes of each channel"
             ),
+            Error::Desk => write!(
+                f,
+                "too many frames for the listening desk: there may be {DESK_FRAMES}"
+            ),
         }
     }
 }
@@ -217,6 +226,7 @@ impl Told {
             12 => Error::NotWav,
             13 => Error::Before(a as usize),
             14 => Error::After(a as usize),
+            16 => Error::Desk,
             19 => Error::Schedule,
             _ => unreachable!("answer {answer}"),
         })
@@ -288,7 +298,7 @@ type ConvertSamples = unsafe extern "C" fn(
     usize,
 ) -> u8;
 
-// `puigneht_convert` and `puigneht_wav_convert` have one type.
+// `puigneht_convert`, `puigneht_convert_desk` and `puigneht_wav_convert` have one type.
 type ConvertBytes = unsafe extern "C" fn(
     u32,
     u8,
@@ -406,6 +416,16 @@ impl Converter {
         counts: Option<&mut [u64]>,
     ) -> Result<Clipped, Error> {
         self.bytes(raw::puigneht_convert, run, out, counts)
+    }
+
+    /// For the listening desk: [`Converter::convert`] of at most [`DESK_FRAMES`] frames.
+    pub fn convert_desk(
+        &self,
+        run: Run<'_>,
+        out: &mut [u8],
+        counts: Option<&mut [u64]>,
+    ) -> Result<Clipped, Error> {
+        self.bytes(raw::puigneht_convert_desk, run, out, counts)
     }
 
     fn bytes(

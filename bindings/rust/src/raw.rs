@@ -98,6 +98,33 @@ extern "C" {
         decibels_len: usize,
     ) -> u8;
 
+    pub fn puigneht_convert_desk(
+        rate: u32,
+        cutoff: u8,
+        channels: u8,
+        gain: *const f64,
+        gain_len: usize,
+        has_before: u8,
+        before: *const u8,
+        before_len: usize,
+        frames: *const u8,
+        frames_len: usize,
+        has_after: u8,
+        after: *const u8,
+        after_len: usize,
+        lent: u8,
+        out: *mut u8,
+        out_len: usize,
+        counts: *mut u64,
+        counts_len: usize,
+        clipped: *mut u64,
+        clipped_len: usize,
+        data: *mut u64,
+        data_len: usize,
+        decibels: *mut f64,
+        decibels_len: usize,
+    ) -> u8;
+
     pub fn puigneht_dsf_read(
         file: *const u8,
         file_len: usize,

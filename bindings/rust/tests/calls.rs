@@ -256,6 +256,43 @@ fn sentences() {
     );
 }
 
+// The listening desk: 0 to 8 frames as `convert` gives them, 9 refused after a wrong length and before a wrong neighbour.
+#[test]
+fn desk() {
+    let conv = Converter {
+        gain: gain(6.0).unwrap(),
+        ..mono()
+    };
+    let nine = noise(9 * FRAME_BYTES);
+    for n in 0..=puigneht::DESK_FRAMES {
+        let run = Run {
+            after: Some(&nine[..FRAME_BYTES]),
+            ..alone(&nine[..n * FRAME_BYTES])
+        };
+        let (mut a, mut b) = (vec![7; n * 3528], vec![9; n * 3528]);
+        let (mut c, mut d) = (vec![7; n], vec![9; n]);
+        let clipped = conv.convert(run, &mut a, Some(&mut c)).unwrap();
+        assert_eq!(conv.convert_desk(run, &mut b, Some(&mut d)), Ok(clipped));
+        assert_eq!((a, c), (b, d));
+    }
+    let mut out = [7; 9 * 3528];
+    let wrong = Run {
+        before: Some(&[]),
+        ..alone(&nine)
+    };
+    assert_eq!(
+        conv.convert_desk(alone(&nine[1..]), &mut out, None),
+        Err(Error::InputLength(9 * FRAME_BYTES - 1, 0))
+    );
+    assert_eq!(conv.convert_desk(wrong, &mut out, None), Err(Error::Desk));
+    assert_eq!(conv.convert(wrong, &mut out, None), Err(Error::Before(0)));
+    assert!(out.iter().all(|&b| b == 7));
+    assert_eq!(
+        Error::Desk.to_string(),
+        "too many frames for the listening desk: there may be 8"
+    );
+}
+
 #[test]
 #[ignore = "asks for 2.5 GB of memory, which it does not touch"]
 fn too_many_frames() {

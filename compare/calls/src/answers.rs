@@ -56,6 +56,11 @@ pub mod port {
             frames: *const u8, framess: usize, has_after: u8, after: *const u8, afters: usize, lent: u8, out: *mut u8, outs: usize,
             counts: *mut u64, countss: usize, clipped: *mut u64, clips: usize, data: *mut u64, datas: usize, decibels: *mut f64, n: usize,
         ) -> u8;
+        fn puigneht_convert_desk(
+            rate: u32, cutoff: u8, channels: u8, gain: *const f64, gains: usize, has_before: u8, before: *const u8, befores: usize,
+            frames: *const u8, framess: usize, has_after: u8, after: *const u8, afters: usize, lent: u8, out: *mut u8, outs: usize,
+            counts: *mut u64, countss: usize, clipped: *mut u64, clips: usize, data: *mut u64, datas: usize, decibels: *mut f64, n: usize,
+        ) -> u8;
         fn puigneht_pack_s24le(samples: *const i32, n: usize, bytes: *mut u8, m: usize);
     }
 
@@ -112,13 +117,14 @@ pub mod port {
         answer(number, b)
     }
 
-    pub fn convert(s: Settings, gain: [f64; 2], i: &Input, out: &mut [u8], counts: Option<&mut [u64]>) -> Answer {
+    pub fn convert(s: Settings, gain: [f64; 2], desk: bool, i: &Input, out: &mut [u8], counts: Option<&mut [u64]>) -> Answer {
         let mut b = back();
+        let call = if desk { puigneht_convert_desk } else { puigneht_convert };
         let (before, after) = (i.before.unwrap_or(&[]), i.after.unwrap_or(&[]));
         let lent = counts.is_some().into();
         let counts = counts.unwrap_or(&mut []);
         let number = unsafe {
-            puigneht_convert(
+            call(
                 RATES[s.rate], s.cutoff as u8, s.channels, gain.as_ptr(), 2, i.before.is_some().into(), before.as_ptr(), before.len(),
                 i.frames.as_ptr(), i.frames.len(), i.after.is_some().into(), after.as_ptr(), after.len(), lent, out.as_mut_ptr(), out.len(),
                 counts.as_mut_ptr(), counts.len(), b.clipped.as_mut_ptr(), 6, b.data.as_mut_ptr(), 2, b.decibels.as_mut_ptr(), 1,

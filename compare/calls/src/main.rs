@@ -35,6 +35,13 @@ enum Kind {
     Run,
     Frame,
     Bytes,
+    Desk,
+}
+
+impl Kind {
+    fn packed(self) -> bool {
+        self == Kind::Bytes || self == Kind::Desk
+    }
 }
 
 // A call: `out` and `counts` are the lengths of what is lent.
@@ -73,7 +80,7 @@ struct Outcome {
 }
 
 fn lent(c: &Case) -> Outcome {
-    let items = if c.kind == Kind::Bytes { 0 } else { c.out };
+    let items = if c.kind.packed() { 0 } else { c.out };
     Outcome {
         answer: Answer::default(),
         items: (0..items).map(|k| k as i32 * 7919).collect(),
@@ -93,16 +100,24 @@ fn as_original(mut answer: Answer) -> Answer {
 fn by_port(c: &Case, gain: [f64; 2]) -> Outcome {
     let mut o = lent(c);
     o.answer = as_original(match c.kind {
-        Kind::Bytes => port::convert(c.settings, gain, &c.input(), &mut o.bytes, c.counts.map(|_| &mut o.counts[..])),
+        Kind::Bytes | Kind::Desk => {
+            port::convert(c.settings, gain, c.kind == Kind::Desk, &c.input(), &mut o.bytes, c.counts.map(|_| &mut o.counts[..]))
+        }
         _ => port::convert_run(c.settings, gain, c.kind == Kind::Frame, &c.input(), &mut o.items),
     });
     o
 }
 
+// The listening desk is `convert` here, but that more than 8 whole frames are refused 16.
 fn by_original(c: &Case, converter: &mut scarletbook_pcm::Converter) -> Outcome {
     let mut o = lent(c);
+    let size = FRAME * usize::from(c.settings.channels);
+    if c.kind == Kind::Desk && c.frames.len() % size == 0 && c.frames.len() / size > 8 {
+        o.answer.number = 16;
+        return o;
+    }
     o.answer = match c.kind {
-        Kind::Bytes => original::convert(converter, &c.input(), &mut o.bytes, c.counts.map(|_| &mut o.counts[..])),
+        Kind::Bytes | Kind::Desk => original::convert(converter, &c.input(), &mut o.bytes, c.counts.map(|_| &mut o.counts[..])),
         _ => original::convert_run(converter, c.kind == Kind::Frame, &c.input(), &mut o.items),
     };
     o
@@ -194,8 +209,8 @@ fn per_frame(s: Settings) -> usize {
 fn right(settings: Settings, kind: Kind, before: Option<Vec<u8>>, frames: Vec<u8>, after: Option<Vec<u8>>, lent: bool) -> Case {
     let n = frames.len() / (FRAME * usize::from(settings.channels.max(1)));
     let items = n * per_frame(settings) * usize::from(settings.channels);
-    let out = if kind == Kind::Bytes { 3 * items } else { items };
-    Case { settings, kind, before, frames, after, out, counts: (lent && kind == Kind::Bytes).then_some(n) }
+    let out = if kind.packed() { 3 * items } else { items };
+    Case { settings, kind, before, frames, after, out, counts: (lent && kind.packed()).then_some(n) }
 }
 
 // Every length of each buffer from 0 to two frames and a byte, mono.
@@ -258,7 +273,7 @@ fn random_case(r: &mut Random) -> Case {
     let db = if r.one_in(3) { decibels(r) } else { r.below(48) as f64 / 2.0 - 12.0 };
     let settings = Settings { rate: r.below(3), cutoff: r.below(3), channels, db };
     let ch = usize::from(channels.clamp(1, 6));
-    let kind = r.pick(&[Kind::Run, Kind::Bytes, Kind::Bytes, Kind::Frame]);
+    let kind = r.pick(&[Kind::Run, Kind::Bytes, Kind::Desk, Kind::Frame]);
     let frames = if kind == Kind::Frame { 1 } else if r.one_in(10) { r.below(13) } else { r.below(4) };
     let mut neighbour = || (!r.one_in(3)).then(|| content(r, ch, 1));
     let (before, after) = (neighbour(), neighbour());
@@ -308,7 +323,8 @@ fn cut(r: &mut Random, t: &mut Tally) {
         };
         let before = junk(&album[at * size..][..size], size - reach..size);
         let after = junk(&album[(at + m + 1) * size..][..size], 0..reach);
-        let piece = by_port(&right(settings, Kind::Bytes, before, album[(at + 1) * size..][..m * size].to_vec(), after, true), gain);
+        let kind = r.pick(&[Kind::Bytes, Kind::Desk]);
+        let piece = by_port(&right(settings, kind, before, album[(at + 1) * size..][..m * size].to_vec(), after, true), gain);
         joined.bytes.extend(&piece.bytes);
         joined.counts.extend(&piece.counts);
         for c in 0..6 {

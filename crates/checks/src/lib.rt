@@ -5,10 +5,11 @@ ghost use Prim.Native.Nat.{_*_, _<_, _≤_};
 ghost use Rattle.reference.specs.Frames.{run, frame-count};
 ghost use Rattle.reference.specs.Output.{samples-per-frame};
 ghost use Rattle.reference.specs.Refusals as table;
-ghost use Rattle.reference.specs.Refusals.{rack, decision, decide, is-accepted, opening-places, held-places, one-frame, input-places, run-lengths, byte-lengths, convert-run-places, convert-frame-places, convert-places};
+ghost use Rattle.reference.specs.Refusals.{decision, decide, is-accepted, opening-places, held-places, one-frame, too-many, input-places, run-lengths, byte-lengths, convert-run-places, convert-frame-places, convert-places};
 use reference::Converter;
 use reference::Cutoff;
 use reference::FRAME_BYTES;
+use reference::Limit;
 use reference::MOST_FRAMES;
 use reference::PcmError;
 use reference::PcmRate;
@@ -89,8 +90,32 @@ fn one(conv: Converter, frames: &[u8]) -> Verdict
     Verdict::Accepted
 }
 
+// Frames of the longest run at the listening desk.
+const DESK_FRAMES: usize = 8;
+
+// No more frames than the call takes.
+fn few(whose: Limit, count: usize) -> Verdict
+    ensures { λ r. ⌜ decision r ≡ decide (too-many whose count ∷ []) ⌝ }
+{
+    match whose {
+        Limit::Rack => {
+            if count > MOST_FRAMES {
+                return Verdict::Refused(PcmError::Frames(count));
+            }
+            Verdict::Accepted
+        }
+        Limit::Desk => {
+            if count > DESK_FRAMES {
+                return Verdict::Refused(PcmError::Desk);
+            }
+            Verdict::Accepted
+        }
+    }
+}
+
 // Run length, before, after.
 pub fn input(
+    whose: Limit,
     conv: Converter,
     has_before: bool,
     before: &[u8],
@@ -99,16 +124,16 @@ pub fn input(
     after: &[u8],
 ) -> Verdict
     requires { ⌜ (0 < conv .channels) × (conv .channels ≤ 6) ⌝ }
-    ensures { λ r. ⌜ decision r ≡ decide (input-places rack conv (run «has_before» (now (before .entry)) (now (frames .entry)) «has_after» (now (after .entry)))) ⌝ }
+    ensures { λ r. ⌜ decision r ≡ decide (input-places whose conv (run «has_before» (now (before .entry)) (now (frames .entry)) «has_after» (now (after .entry)))) ⌝ }
 {
     let size = FRAME_BYTES * (conv.channels as usize);
     let n = frames.len();
     if n % size != 0 {
         return Verdict::Refused(PcmError::InputLength(n, 0));
     }
-    let count = n / size;
-    if count > MOST_FRAMES {
-        return Verdict::Refused(PcmError::Frames(count));
+    let v = few(whose, n / size);
+    if !accepted(v) {
+        return v;
     }
     if has_before {
         let b = before.len();
@@ -150,7 +175,15 @@ fn item_lengths(
     requires { ⌜ (0 < conv .channels) × (conv .channels ≤ 6) ⌝ }
     ensures { λ r. ⌜ decision r ≡ decide (run-lengths conv (run «has_before» (now (before .entry)) (now (frames .entry)) «has_after» (now (after .entry))) (now (out .entry))) ⌝ }
 {
-    let v = input(conv, has_before, before, frames, has_after, after);
+    let v = input(
+        Limit::Rack,
+        conv,
+        has_before,
+        before,
+        frames,
+        has_after,
+        after,
+    );
     if accepted(v) {
         let n = out.len();
         let expected = all_samples(conv, frames);
@@ -163,6 +196,7 @@ fn item_lengths(
 
 // From the run length on, with byte output and the counts if they are lent.
 fn byte_lengths(
+    whose: Limit,
     conv: Converter,
     has_before: bool,
     before: &[u8],
@@ -174,9 +208,9 @@ fn byte_lengths(
     counts: &[u64],
 ) -> Verdict
     requires { ⌜ (0 < conv .channels) × (conv .channels ≤ 6) ⌝ }
-    ensures { λ r. ⌜ decision r ≡ decide (byte-lengths rack conv (run «has_before» (now (before .entry)) (now (frames .entry)) «has_after» (now (after .entry))) (now (out .entry)) lent (now (counts .entry))) ⌝ }
+    ensures { λ r. ⌜ decision r ≡ decide (byte-lengths whose conv (run «has_before» (now (before .entry)) (now (frames .entry)) «has_after» (now (after .entry))) (now (out .entry)) lent (now (counts .entry))) ⌝ }
 {
-    let v = input(conv, has_before, before, frames, has_after, after);
+    let v = input(whose, conv, has_before, before, frames, has_after, after);
     if !accepted(v) {
         return v;
     }
@@ -237,8 +271,9 @@ pub fn frame_call(
     v
 }
 
-// All that `convert` tries.
+// All that a call for bytes tries, the rack's or the desk's.
 pub fn byte_call(
+    whose: Limit,
     conv: Converter,
     has_before: bool,
     before: &[u8],
@@ -249,11 +284,12 @@ pub fn byte_call(
     lent: bool,
     counts: &[u64],
 ) -> Verdict
-    ensures { λ r. ⌜ decision r ≡ decide (convert-places rack conv (run «has_before» (now (before .entry)) (now (frames .entry)) «has_after» (now (after .entry))) (now (out .entry)) lent (now (counts .entry))) ⌝ }
+    ensures { λ r. ⌜ decision r ≡ decide (convert-places whose conv (run «has_before» (now (before .entry)) (now (frames .entry)) «has_after» (now (after .entry))) (now (out .entry)) lent (now (counts .entry))) ⌝ }
 {
     let v = held(conv);
     if accepted(v) {
         return byte_lengths(
+            whose,
             conv,
             has_before,
             before,

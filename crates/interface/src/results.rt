@@ -60,6 +60,7 @@ pub fn of_error(e: PcmError) -> Report
         PcmError::Schedule => numbers(19, 0, 0),
         PcmError::Before(n) => numbers(13, n as u64, 0),
         PcmError::After(n) => numbers(14, n as u64, 0),
+        PcmError::Desk => numbers(16, 0, 0),
     }
 }
 

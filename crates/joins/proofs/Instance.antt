@@ -78,6 +78,7 @@ module _ (conv : Converter) (opens : decide (held-places conv) ≡ accepted) (so
   first-call : ConvertCall conv
   unfolding if-lent
   first-call = record {
+    whose = rack;
     run = first;
     lent = false;
     out = room;
@@ -114,6 +115,7 @@ module _ (conv : Converter) (opens : decide (held-places conv) ≡ accepted) (so
 
   short-call : ConvertCall conv
   short-call = record {
+    whose = rack;
     run = first;
     lent = false;
     out = [];

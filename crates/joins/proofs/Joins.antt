@@ -16,6 +16,7 @@ use Rattle.reference.specs.Refusals.{rack, accepted, decide, decision, is-accep
 use Rattle.reference.specs.Promises.{if-lent, no-clips}
 use Rattle.reference.specs.declared.Converter.{Converter}
 use Rattle.reference.specs.declared.ConvertStats.{ConvertStats}
+use Rattle.reference.specs.declared.Limit.{Limit}
 use Rattle.reference.proofs.Refusals.{decide-first, decide-skip, some-channel, whole-frames, one-before}
 use Rattle.reference.proofs.Promises.{accepted-is, exit-accepted, exit-refused}
 use Rattle.joins.specs.Joins.{read-s24le, Call, convert, convert-run, ConvertCall, ConvertRunCall, run-of, answer-of, samples-of, clips-of, lends, counts-of, lengths, right-lengths, is-answered-accepted, Unchanged, keep, pieces, AllAgree, Decided, add-up, accepted-calls, CutRunsJoin}
@@ -54,16 +55,21 @@ cond-add false x y z h = refl
 
 -- ---- one call
 
+-- the limit of frames that a call has
+abbrev limit-of : {conv : Converter} → Call conv → Limit
+limit-of (convert c) = c .whose
+limit-of (convert-run c) = rack
+
 -- a call with right lengths gives what the definition gives for its piece
 record Gives {conv : Converter} (call : Call conv) : Type 0 where
-  fits : decide (input-places rack conv (run-of call)) ≡ accepted
+  fits : decide (input-places (limit-of call) conv (run-of call)) ≡ accepted
   sampled : samples-of call ≡ samples conv (run-of call)
   clips : (c : ℕ) → c < 6 → clips-of call c ≡ channel-clips conv (run-of call) c
   counts : lends call ≡ true → counts-of call ≡ per-frame-clips conv (run-of call)
 
 module _ (conv : Converter) (opens : decide (held-places conv) ≡ accepted) where
   -- the places from the run length on decide
-  convert-skip : (c : ConvertCall conv) → decide (convert-places rack conv (c .run) (c .out) (c .lent) (c .counts)) ≡ decide (lengths (convert c))
+  convert-skip : (c : ConvertCall conv) → decide (convert-places (c .whose) conv (c .run) (c .out) (c .lent) (c .counts)) ≡ decide (lengths (convert c))
   unfolding convert-places
   convert-skip c = decide-skip (held-places conv) _ opens
 
@@ -110,7 +116,7 @@ module _ (conv : Converter) (opens : decide (held-places conv) ≡ accepted) whe
       let right = accepted-is _ e in
       let yes = convert-skip c ∙ right in
       record {
-        fits = decide-first (input-places rack conv (c .run)) _ right;
+        fits = decide-first (input-places (c .whose) conv (c .run)) _ right;
         sampled = ap read-s24le (c .promise .written ∙ exit-accepted _ _ _ yes) ∙ samples-back conv (c .run);
         clips = clips-at (c .run) _ (c .promise .answered .counted ∙ exit-accepted _ _ _ yes);
         counts = λ lent. c .promise .per-frame ∙ exit-accepted _ _ _ yes ∙ lent-list _ _ _ lent;
@@ -145,7 +151,7 @@ module _ (conv : Converter) where
   unfolding frames-in flatMap
   bytes-length [] g = omega arith
   bytes-length (d ∷ ds) g =
-      omega (arith, length-append (run-of d .frames) (bytes-in ds), whole-frames rack conv (run-of d) (g .0 .fits), bytes-length ds (g .1))
+      omega (arith, length-append (run-of d .frames) (bytes-in ds), whole-frames (limit-of d) conv (run-of d) (g .0 .fits), bytes-length ds (g .1))
 
   -- the calls give what the run has from frame a on
   record From (r : Run) (a : ℕ) (ds : List (Call conv)) : Type 0 where
@@ -167,8 +173,8 @@ module _ (conv : Converter) where
         let cut : PieceOf conv r a n (run-of d) = record {
           some-channel = some-channel conv opens;
           run-before = one-before rack conv r fits;
-          piece-before = one-before rack conv (run-of d) (g .0 .fits);
-          whole = whole-frames rack conv (run-of d) (g .0 .fits);
+          piece-before = one-before (limit-of d) conv (run-of d) (g .0 .fits);
+          whole = whole-frames (limit-of d) conv (run-of d) (g .0 .fits);
           done = done;
           rest = bytes-in ds;
           parts = e;
@@ -176,7 +182,7 @@ module _ (conv : Converter) where
           agree = agree .0;
         } in
         let more : From r (a + n) ds = from ds (g .1) (a + n) (done ++ run-of d .frames) (e ∙ sym (append-assoc done (run-of d .frames) (bytes-in ds)))
-        (omega (arith, length-append done (run-of d .frames), whole-frames rack conv (run-of d) (g .0 .fits))) (agree .1) in
+        (omega (arith, length-append done (run-of d .frames), whole-frames (limit-of d) conv (run-of d) (g .0 .fits))) (agree .1) in
         let at-samples : (a + n) * per * ch ≡ a * per * ch + n * per * ch = omega arith in
         let all-samples : (n + m) * per * ch ≡ n * per * ch + m * per * ch = omega arith in
         let at-channel : (a + n) * per ≡ a * per + n * per = omega arith in

@@ -11,13 +11,16 @@ use Rattle.reference.specs.Frames.{Run, frame-bytes, frame-count, frame, before
 use Rattle.reference.specs.Stages.{reach}
 use Rattle.reference.specs.Output.{samples, channel-clips, per-frame-clips}
 use Rattle.reference.specs.Refusals.{rack, accepted, Place, decide, decision, is-accepted, held-places, input-places, byte-lengths, run-lengths}
-use Rattle.reference.specs.Promises.{ConvertPromise, ConvertRunPromise, no-clips}
+use Rattle.reference.specs.Promises.{BytesPromise, ConvertRunPromise, no-clips}
 use Rattle.reference.specs.declared.Converter.{Converter}
 use Rattle.reference.specs.declared.Converted.{Converted}
+use Rattle.reference.specs.declared.Limit.{Limit}
 
 -- ---- a call: what it was given, what the lent lists held at entry and at exit, its answer, and its promise
 
+-- a call of `convert`, or of the listening desk's entry
 pub record ConvertCall (conv : Converter) : Type 0 where
+  pub whose : Limit
   pub run : Run
   pub lent : Bool
   pub out : List ℕ
@@ -25,7 +28,7 @@ pub record ConvertCall (conv : Converter) : Type 0 where
   pub out' : List ℕ
   pub counts' : List ℕ
   pub answer : Converted
-  pub promise : ConvertPromise conv run lent out counts out' counts' answer
+  pub promise : BytesPromise whose conv run lent out counts out' counts' answer
 
 pub record ConvertRunCall (conv : Converter) : Type 0 where
   pub run : Run
@@ -74,7 +77,7 @@ module _ {conv : Converter} where
 
   -- the places that the call tries from the run length on
   abbrev pub lengths : Call conv → List Place
-  lengths (convert c) = byte-lengths rack conv (c .run) (c .out) (c .lent) (c .counts)
+  lengths (convert c) = byte-lengths (c .whose) conv (c .run) (c .out) (c .lent) (c .counts)
   lengths (convert-run c) = run-lengths conv (c .run) (c .out)
 
   -- document 01's right lengths: the table's condition holds at none of them

@@ -66,6 +66,7 @@ pub fn refusal_number(e: PcmError) -> u64
         PcmError::Schedule => 19,
         PcmError::Before(_) => 13,
         PcmError::After(_) => 14,
+        PcmError::Desk => 16,
     }
 }
 

@@ -10,11 +10,12 @@ use Rattle.reference.specs.Refusals.{Decision, decision, gain-decision, Place}
 use Rattle.reference.specs.Promises.{SamplesPromise}
 use Rattle.reference.specs.declared.Converter.{Converter}
 use Rattle.reference.specs.declared.Converted.{Converted}
+use Rattle.reference.specs.declared.Limit.{Limit}
 use Rattle.reference.specs.declared.Opened.{Opened}
 use Rattle.reference.proofs.Promises.{gain-exact, opening-exact, samples-exact, convert-exact}
 use Rattle.interface.specs.Settings.{CSettings}
 use Rattle.interface.specs.Told.{Told, ToldWhole}
-use Rattle.puigneht.specs.Calls.{Input, Results, Call, GainDone, GainCall, OpenCall, ConversionDone, ConvertRunCall, ConvertFrameCall, ConvertCall}
+use Rattle.puigneht.specs.Calls.{Input, Results, Call, GainDone, GainCall, OpenCall, ConversionDone, ConvertRunCall, ConvertFrameCall, BytesCall}
 
 -- the answers are equal, and what R says holds, if both follow in either case of the call
 pub call-exact : (u : Bool) {a a' : ℕ} {K K' D D' R : Type 0} → Call u a K D → Call u a' K' D' → (K → K' → R) → (D → D' → (a ≡ a') × R) → (a ≡ a') × R
@@ -74,11 +75,11 @@ module _ (s : CSettings) (i : Input) (out o o' : List ℤ) (old n n' : Results) 
   pub convert-frame-call : ConvertFrameCall s i out o old n a → ConvertFrameCall s i out o' old n' a' → (a ≡ a') × ((o ≡ o') × (n ≡ n'))
   convert-frame-call = samples-call _ _ _ _
 
-module _ (s : CSettings) (i : Input) (lent : ℕ) (out o o' counts c c' : List ℕ) (old n n' : Results) (a a' : ℕ) where
-  pub convert-call : ConvertCall s i lent out o counts c old n a → ConvertCall s i lent out o' counts c' old n' a' → (a ≡ a') × ((o ≡ o') × (c ≡ c') × (n ≡ n'))
-  convert-call p q =
+module _ (whose : Limit) (s : CSettings) (i : Input) (lent : ℕ) (out o o' counts c c' : List ℕ) (old n n' : Results) (a a' : ℕ) where
+  pub bytes-call : BytesCall whose s i lent out o counts c old n a → BytesCall whose s i lent out o' counts c' old n' a' → (a ≡ a') × ((o ≡ o') × (c ≡ c') × (n ≡ n'))
+  bytes-call p q =
       call-exact _ p q (λ k l. (k .0 ∙ sym (l .0), k .1 ∙ sym (l .1), k .2 ∙ sym (l .2)))
       (λ x y.
-      let e = convert-exact _ _ _ _ out counts o o' c c' (x .made) (y .made) (x .promise) (y .promise) in
+      let e = convert-exact whose _ _ _ out counts o o' c c' (x .made) (y .made) (x .promise) (y .promise) in
       let t = conversion-exact x y (e .0) in
       (t .0, (e .1, e .2, t .1)))

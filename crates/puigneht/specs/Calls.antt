@@ -11,13 +11,14 @@ use Rattle.reference.specs.Frames.{Run, run}
 use Rattle.reference.specs.Stages.{reach}
 use Rattle.reference.specs.Settings.{converter-of}
 use Rattle.reference.specs.Output.{samples-per-frame}
-use Rattle.reference.specs.Refusals.{decision, gain-decision}
-use Rattle.reference.specs.Promises.{by-decision, GainPromise, OpeningPromise, ConvertRunPromise, ConvertFramePromise, ConvertPromise}
+use Rattle.reference.specs.Refusals.{rack, desk, decision, gain-decision}
+use Rattle.reference.specs.Promises.{by-decision, GainPromise, OpeningPromise, ConvertRunPromise, ConvertFramePromise, BytesPromise}
 use Rattle.reference.specs.declared.Settings.{Settings}
 use Rattle.reference.specs.declared.Converter.{Converter}
 use Rattle.reference.specs.declared.FromDb.{FromDb}
 use Rattle.reference.specs.declared.Opened.{Opened}
 use Rattle.reference.specs.declared.Converted.{Converted}
+use Rattle.reference.specs.declared.Limit.{Limit}
 use Rattle.interface.specs.Codes.{known-flag, flag}
 use Rattle.interface.specs.Settings.{CSettings, known-settings, settings-of}
 use Rattle.interface.specs.Told.{room, room-for-all, Told, ToldWhole, gain-floats}
@@ -118,9 +119,15 @@ ConvertRunCall = SamplesCall ConvertRunPromise
 abbrev pub ConvertFrameCall : CSettings → Input → List ℤ → List ℤ → Results → Results → ℕ → Type 0
 ConvertFrameCall = SamplesCall ConvertFramePromise
 
--- a call for bytes
-abbrev pub ConvertCall : CSettings → Input → ℕ → List ℕ → List ℕ → List ℕ → List ℕ → Results → Results → ℕ → Type 0
-ConvertCall s i lent out out' counts counts' old new answer =
+-- a call for bytes, under a limit of frames
+abbrev pub BytesCall : Limit → CSettings → Input → ℕ → List ℕ → List ℕ → List ℕ → List ℕ → Results → Results → ℕ → Type 0
+BytesCall whose s i lent out out' counts counts' old new answer =
     Call (known-flag lent && conversion-understood s i old) answer
     ((out' ≡ out) × (counts' ≡ counts) × (new ≡ old))
-    (ConversionDone (ConvertPromise (converter-of (settings-of s)) (run-of i) (flag lent) out counts out' counts') old new answer)
+    (ConversionDone (BytesPromise whose (converter-of (settings-of s)) (run-of i) (flag lent) out counts out' counts') old new answer)
+
+abbrev pub ConvertCall : CSettings → Input → ℕ → List ℕ → List ℕ → List ℕ → List ℕ → Results → Results → ℕ → Type 0
+ConvertCall = BytesCall rack
+
+abbrev pub DeskCall : CSettings → Input → ℕ → List ℕ → List ℕ → List ℕ → List ℕ → Results → Results → ℕ → Type 0
+DeskCall = BytesCall desk

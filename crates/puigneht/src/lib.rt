@@ -32,9 +32,11 @@ use interface::understood;
 use reference::Opened;
 use reference::Verdict;
 
+mod desk;
 mod turns;
 mod wav_files;
 
+pub use desk::puigneht_convert_desk;
 pub use turns::puigneht_turns;
 pub use wav_files::puigneht_wav_convert;
 pub use wav_files::puigneht_wav_read;

@@ -6,4 +6,5 @@ pub mod Constant
 pub mod Frames
 pub mod Refusals
 pub mod Promises
+pub mod Limits
 pub mod Figures

@@ -9,7 +9,7 @@ use lib.IntN.{ℤ}
 use lib.ListN.{getD}
 use lib.Ieee.{Float, nan}
 use Rattle.reference.specs.Frames.{Run}
-use Rattle.reference.specs.Refusals.{Datum, number, rate, cutoff, decibels, Decision, accepted, refused, error-decision, decision, is-accepted, Limit, Place}
+use Rattle.reference.specs.Refusals.{Datum, number, rate, cutoff, decibels, Decision, accepted, refused, error-decision, decision, is-accepted, Place}
 use Rattle.reference.specs.Promises.{by-decision, GainPromise, OpeningPromise, Answered, SamplesPromise, BytesPromise}
 use Rattle.reference.specs.declared.PcmRate.{PcmRate}
 use Rattle.reference.specs.declared.PcmRate.the-variants.{Hz88200}
@@ -17,6 +17,7 @@ use Rattle.reference.specs.declared.Cutoff.{Cutoff}
 use Rattle.reference.specs.declared.Cutoff.the-variants.{Wide}
 use Rattle.reference.specs.declared.Settings.{Settings}
 use Rattle.reference.specs.declared.Converter.{Converter}
+use Rattle.reference.specs.declared.Limit.{Limit}
 use Rattle.reference.specs.declared.PcmError.{PcmError}
 use Rattle.reference.specs.declared.PcmError.the-variants as error
 use Rattle.reference.specs.declared.Verdict.{Verdict}
@@ -84,7 +85,8 @@ case-of n a b =
     (cond (eqb n 11) error.DsfLength
     (cond (eqb n 12) error.NotWav
     (cond (eqb n 13) (error.Before (n-of a))
-    (cond (eqb n 14) (error.After (n-of a)) error.Schedule)))))))))))))
+    (cond (eqb n 14) (error.After (n-of a))
+    (cond (eqb n 16) error.Desk error.Schedule))))))))))))))
 
 error-of : Decision → PcmError
 error-of accepted = error.Frames 0
@@ -107,6 +109,7 @@ error-back error.NotWav = refl
 error-back error.Schedule = refl
 error-back (error.Before n) = refl
 error-back (error.After n) = refl
+error-back error.Desk = refl
 
 error-exact : (a b : PcmError) → error-decision a ≡ error-decision b → a ≡ b
 error-exact a b e = sym (error-back a) ∙ ap error-of e ∙ error-back b
@@ -147,7 +150,7 @@ pub samples-exact : (places : List Place) (conv : Converter) (r : Run) (out o o'
     → SamplesPromise places conv r out o a → SamplesPromise places conv r out o' b → (a ≡ b) × (o ≡ o')
 samples-exact places conv r out o o' a b p q = (answered-exact places conv r a b (p .answered) (q .answered), p .written ∙ sym (q .written))
 
-pub convert-exact : (limit : Limit) (conv : Converter) (r : Run) (lent : Bool) (out counts o o' c c' : List ℕ) (a b : Converted)
-    → BytesPromise limit conv r lent out counts o c a → BytesPromise limit conv r lent out counts o' c' b → (a ≡ b) × (o ≡ o') × (c ≡ c')
-convert-exact limit conv r lent out counts o o' c c' a b p q =
+pub convert-exact : (whose : Limit) (conv : Converter) (r : Run) (lent : Bool) (out counts o o' c c' : List ℕ) (a b : Converted)
+    → BytesPromise whose conv r lent out counts o c a → BytesPromise whose conv r lent out counts o' c' b → (a ≡ b) × (o ≡ o') × (c ≡ c')
+convert-exact whose conv r lent out counts o o' c c' a b p q =
     (answered-exact _ conv r a b (p .answered) (q .answered), p .written ∙ sym (q .written), p .per-frame ∙ sym (q .per-frame))

@@ -5,12 +5,14 @@ use mathlib.Core.Bool.{Bool, true, false, cond, _&&_}
 use Prim.Native.Nat.{ℕ, _*_, _%_, _<_, _≤_}
 use native.Mathlib.Nat.{div-add-mod'}
 use native.Mathlib.Omega.{arith}
-use borrow.Author.Tests.{ltb-false, leb-true, eqb-true, not-false}
-use lib.Dec.{leb}
+use borrow.Author.Tests.{ltb-false, lt-ltb, le-ltb, leb-true, eqb-true, not-false}
+use lib.Dec.{leb, lit≤}
 use lib.ListN.{length, length-replicate}
 use Rattle.reference.specs.Frames.{Run, idle, frame-length, frame-count, neighbour, before-frame}
-use Rattle.reference.specs.Refusals.{Datum, accepted, refused, error-decision, is-accepted, Place, decide, opening-places, held-places, run-length, Limit, one-long, if-present, input-places}
+use Rattle.reference.specs.Refusals.{Datum, accepted, refused, error-decision, is-accepted, Place, decide, opening-places, held-places, run-length, most, too-many, one-long, if-present, input-places}
 use Rattle.reference.specs.declared.Converter.{Converter}
+use Rattle.reference.specs.declared.Limit.{Limit}
+use Rattle.reference.specs.declared.Limit.the-variants as limit
 use Rattle.reference.specs.declared.PcmError.{PcmError}
 use Rattle.reference.specs.declared.PcmError.the-variants as error
 
@@ -95,6 +97,7 @@ error-refuses error.NotWav = refl
 error-refuses error.Schedule = refl
 error-refuses (error.Before n) = refl
 error-refuses (error.After n) = refl
+error-refuses error.Desk = refl
 
 -- ---- what an accepted converter and an accepted run have
 
@@ -121,16 +124,34 @@ unfolding if-present one-long neighbour
 neighbour-length n d ch true bytes ps e = eqb-true _ _ (not-false _ (pass _ _ e .0))
 neighbour-length n d ch false bytes ps e = length-replicate (frame-length ch) idle
 
-module _ (limit : Limit) (conv : Converter) (r : Run) (fits : decide (input-places limit conv r) ≡ accepted) where
+-- whether there are too many frames, by their number
+module _ (n : ℕ) where
+  pub over : (whose : Limit) → most whose < n → too-many whose n .holds ≡ true
+  over limit.Rack l = lt-ltb _ _ l
+  over limit.Desk l = lt-ltb _ _ l
+
+  pub within : (whose : Limit) → n ≤ most whose → too-many whose n .holds ≡ false
+  within limit.Rack l = le-ltb _ _ l
+  within limit.Desk l = le-ltb _ _ l
+
+  not-over : (whose : Limit) → too-many whose n .holds ≡ false → n ≤ most whose
+  not-over limit.Rack e = ltb-false _ _ e
+  not-over limit.Desk e = ltb-false _ _ e
+
+pub rack-most : (whose : Limit) → most whose ≤ 540000
+rack-most limit.Rack = lit≤ tt
+rack-most limit.Desk = lit≤ tt
+
+module _ (whose : Limit) (conv : Converter) (r : Run) (fits : decide (input-places whose conv r) ≡ accepted) where
   pub whole-frames : length (r .frames) ≡ frame-count (conv .channels) (r .frames) * frame-length (conv .channels)
   unfolding input-places run-length frame-count
   whole-frames =
       let h : length (r .frames) % frame-length (conv .channels) ≡ 0 = eqb-true _ _ (not-false _ (pass _ _ fits .0)) in
       omega (arith, div-add-mod' (length (r .frames)) (frame-length (conv .channels)))
 
-  pub few-frames : frame-count (conv .channels) (r .frames) ≤ limit .most
+  pub few-frames : frame-count (conv .channels) (r .frames) ≤ most whose
   unfolding input-places run-length
-  few-frames = ltb-false _ _ (pass _ _ (pass _ _ fits .1) .0)
+  few-frames = not-over _ whose (pass _ _ (pass _ _ fits .1) .0)
 
   after-run-length : decide (if-present (r .has-before) (one-long 13 [] (conv .channels) (r .before)) ++ if-present (r .has-after) (one-long 14 [] (conv .channels) (r .after))) ≡ accepted
   unfolding input-places run-length

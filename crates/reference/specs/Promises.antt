@@ -2,18 +2,19 @@
 use mathlib.Core.Path.{_≡_}
 use mathlib.Core.List.{List, _++_}
 use mathlib.Core.Bool.{Bool, true, false}
-use Prim.Native.Nat.{ℕ, _*_, _/_, min}
+use Prim.Native.Nat.{ℕ, _*_, _/_, _≤_, min}
 use lib.IntN.{ℤ}
 use lib.Ieee.{Float}
 use lib.ListN.{length, take, drop, replicate}
-use Rattle.reference.specs.Frames.{Run}
+use Rattle.reference.specs.Frames.{Run, frame-count}
 use Rattle.reference.specs.Scaling.{db-to-linear}
 use Rattle.reference.specs.Settings.{converter-of}
 use Rattle.reference.specs.Output.{samples, stats, per-frame-clips, s24le}
-use Rattle.reference.specs.Refusals.{Limit, rack, Decision, accepted, refused, Place, decide, decision, gain-decision, gain-places, opening-places, convert-run-places, convert-places, convert-frame-places}
+use Rattle.reference.specs.Refusals.{rack, desk, most, Decision, accepted, refused, Place, decide, decision, gain-decision, gain-places, opening-places, convert-run-places, convert-places, convert-frame-places}
 use Rattle.reference.specs.declared.Settings.{Settings}
 use Rattle.reference.specs.declared.Converter.{Converter}
 use Rattle.reference.specs.declared.ConvertStats.{ConvertStats}
+use Rattle.reference.specs.declared.Limit.{Limit}
 use Rattle.reference.specs.declared.FromDb.{FromDb}
 use Rattle.reference.specs.declared.FromDb.the-variants.{Made}
 use Rattle.reference.specs.declared.Opened.{Opened}
@@ -60,14 +61,23 @@ unfoldable pub if-lent : Bool → List ℕ → List ℕ → List ℕ
 if-lent true new old = new
 if-lent false new old = old
 
--- byte output, at most so many frames
-pub record BytesPromise (limit : Limit) (conv : Converter) (r : Run) (lent : Bool) (out counts out' counts' : List ℕ) (answer : Converted) : Type 0 where
-  pub answered : Answered (convert-places limit conv r out lent counts) conv r answer
-  pub written : out' ≡ by-decision (decide (convert-places limit conv r out lent counts)) (s24le (samples conv r)) out
-  pub per-frame : counts' ≡ by-decision (decide (convert-places limit conv r out lent counts)) (if-lent lent (per-frame-clips conv r) counts) counts
+-- byte output, under a limit of frames
+pub record BytesPromise (whose : Limit) (conv : Converter) (r : Run) (lent : Bool) (out counts out' counts' : List ℕ) (answer : Converted) : Type 0 where
+  pub answered : Answered (convert-places whose conv r out lent counts) conv r answer
+  pub written : out' ≡ by-decision (decide (convert-places whose conv r out lent counts)) (s24le (samples conv r)) out
+  pub per-frame : counts' ≡ by-decision (decide (convert-places whose conv r out lent counts)) (if-lent lent (per-frame-clips conv r) counts) counts
 
 abbrev pub ConvertPromise : Converter → Run → Bool → List ℕ → List ℕ → List ℕ → List ℕ → Converted → Type 0
 ConvertPromise = BytesPromise rack
+
+abbrev pub DeskPromise : Converter → Run → Bool → List ℕ → List ℕ → List ℕ → List ℕ → Converted → Type 0
+DeskPromise = BytesPromise desk
+
+-- request 8: as far as the desk takes frames, both entries give the same on the same input, refused calls included. Proved in proofs/Limits
+abbrev pub DeskAsRack : Type 0
+DeskAsRack =
+    (conv : Converter) (r : Run) (lent : Bool) (out counts o o' c c' : List ℕ) (a b : Converted) → frame-count (conv .channels) (r .frames) ≤ most desk
+    → ConvertPromise conv r lent out counts o c a → DeskPromise conv r lent out counts o' c' b → (a ≡ b) × (o ≡ o') × (c ≡ c')
 
 -- ---- `pack_s24le`
 

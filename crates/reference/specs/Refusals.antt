@@ -16,6 +16,8 @@ use Rattle.reference.specs.declared.Cutoff.{Cutoff}
 use Rattle.reference.specs.declared.Cutoff.the-variants.{Standard, Low, Wide}
 use Rattle.reference.specs.declared.Settings.{Settings}
 use Rattle.reference.specs.declared.Converter.{Converter}
+use Rattle.reference.specs.declared.Limit.{Limit}
+use Rattle.reference.specs.declared.Limit.the-variants as limit
 use Rattle.reference.specs.declared.PcmError.{PcmError}
 use Rattle.reference.specs.declared.PcmError.the-variants as error
 use Rattle.reference.specs.declared.Verdict.{Verdict}
@@ -63,6 +65,7 @@ error-decision error.NotWav = refused 12 []
 error-decision error.Schedule = refused 19 []
 error-decision (error.Before n) = refused 13 (number n ∷ [])
 error-decision (error.After n) = refused 14 (number n ∷ [])
+error-decision error.Desk = refused 16 []
 
 abbrev pub decision : Verdict → Decision
 decision verdict.Accepted = accepted
@@ -126,25 +129,34 @@ one-long refusal more channels bytes = place (not (eqb (length bytes) (frame-len
 abbrev pub one-frame : ℕ → List ℕ → Place
 one-frame = one-long 4 (number 1 ∷ [])
 
--- how many frames a call takes, and the number of the refusal of more, which carries the frames
-pub record Limit : Type 0 where
-  pub most : ℕ
-  pub refusal : ℕ
-
+-- the rack's limit, and the listening desk's
 abbrev pub rack : Limit
-rack = record { most = 540000; refusal = 5 }
+rack = limit.Rack
+
+abbrev pub desk : Limit
+desk = limit.Desk
+
+-- how many frames a call takes
+abbrev pub most : Limit → ℕ
+most limit.Rack = 540000
+most limit.Desk = 8
+
+-- the place of more frames
+abbrev pub too-many : Limit → ℕ → Place
+too-many limit.Rack frames = place (ltb (most limit.Rack) frames) 5 (number frames ∷ [])
+too-many limit.Desk frames = place (ltb (most limit.Desk) frames) 16 []
 
 -- run length
 unfoldable pub run-length : Limit → ℕ → List ℕ → List Place
-run-length limit channels frames =
+run-length whose channels frames =
     place (not (eqb (length frames % frame-length channels) 0)) 4 (number (length frames) ∷ number 0 ∷ [])
-    ∷ place (ltb (limit .most) (frame-count channels frames)) (limit .refusal) (number (frame-count channels frames) ∷ [])
+    ∷ too-many whose (frame-count channels frames)
     ∷ []
 
 -- run length, before, after
 unfoldable pub input-places : Limit → Converter → Run → List Place
-input-places limit conv r =
-    run-length limit (conv .channels) (r .frames)
+input-places whose conv r =
+    run-length whose (conv .channels) (r .frames)
     ++ (if-present (r .has-before) (one-long 13 [] (conv .channels) (r .before))
     ++ if-present (r .has-after) (one-long 14 [] (conv .channels) (r .after)))
 
@@ -158,8 +170,8 @@ unfoldable pub run-lengths : Converter → Run → List ℤ → List Place
 run-lengths conv r out = input-places rack conv r ++ (lent-length 6 (length out) (all-samples conv r) ∷ [])
 
 unfoldable pub byte-lengths : Limit → Converter → Run → List ℕ → Bool → List ℕ → List Place
-byte-lengths limit conv r out lent counts =
-    input-places limit conv r
+byte-lengths whose conv r out lent counts =
+    input-places whose conv r
     ++ (lent-length 7 (length out) (3 * all-samples conv r)
     ∷ if-present lent (lent-length 8 (length counts) (frame-count (conv .channels) (r .frames))))
 
@@ -167,7 +179,7 @@ unfoldable pub convert-run-places : Converter → Run → List ℤ → List Plac
 convert-run-places conv r out = held-places conv ++ run-lengths conv r out
 
 unfoldable pub convert-places : Limit → Converter → Run → List ℕ → Bool → List ℕ → List Place
-convert-places limit conv r out lent counts = held-places conv ++ byte-lengths limit conv r out lent counts
+convert-places whose conv r out lent counts = held-places conv ++ byte-lengths whose conv r out lent counts
 
 unfoldable pub convert-frame-places : Converter → Run → List ℤ → List Place
 convert-frame-places conv r out = held-places conv ++ (one-frame (conv .channels) (r .frames) ∷ run-lengths conv r out)

@@ -79,6 +79,12 @@ pub struct ConvertStats {
     pub clipped: [u64; 6],
 }
 
+// Whose limit of frames a call has: the rack's, or the listening desk's.
+pub enum Limit {
+    Rack,
+    Desk,
+}
+
 // Why a call is refused. specs/Refusals.antt gives each case its number and data.
 pub enum PcmError {
     Channels(u8),
@@ -102,6 +108,8 @@ pub enum PcmError {
     // The length of a frame before, or of a frame after, that is not one frame.
     Before(usize),
     After(usize),
+    // More frames than the listening desk takes.
+    Desk,
 }
 
 pub enum Verdict {

@@ -9,12 +9,14 @@ use lib.ListN.{length}
 use Rattle.reference.specs.Frames.{Run, frame-count}
 use Rattle.reference.specs.Output.{all-samples, samples, stats, s24le, per-frame-clips}
 use Rattle.reference.specs.Refusals.{rack, accepted, decision, is-accepted, Place, decide, if-present, lent-length, held-places, input-places, run-lengths, byte-lengths, convert-run-places, convert-frame-places, convert-places}
-use Rattle.reference.specs.Promises.{no-clips, Answered, SamplesPromise, ConvertPromise, if-lent}
+use Rattle.reference.specs.Promises.{no-clips, Answered, SamplesPromise, BytesPromise, if-lent}
 use Rattle.reference.specs.declared.Converter.{Converter}
 use Rattle.reference.specs.declared.ConvertStats.{ConvertStats}
+use Rattle.reference.specs.declared.Limit.{Limit}
 use Rattle.reference.specs.declared.Verdict.{Verdict}
 use Rattle.reference.proofs.Refusals.{pass, decide-first, decide-skip}
 use Rattle.reference.proofs.Promises.{exit-accepted, exit-refused}
+use Rattle.reference.proofs.Limits.{rack-fits}
 use Rattle.scarletbook_pcm.specs.Calls.{AcceptedCall}
 
 both : (ps qs : List Place) → decide (ps ++ qs) ≡ accepted → (decide ps ≡ accepted) × (decide qs ≡ accepted)
@@ -39,13 +41,13 @@ module _ (conv : Converter) (r : Run) (out : List ℤ) where
   unfolding convert-frame-places
   frame-accepted e = let h = both (held-places conv) _ e in items-fit (h .0) (pass _ _ (h .1) .1)
 
-pub bytes-accepted : (conv : Converter) (r : Run) (out : List ℕ) (lent : Bool) (counts : List ℕ) → decide (convert-places rack conv r out lent counts) ≡ accepted
+pub bytes-accepted : (whose : Limit) (conv : Converter) (r : Run) (out : List ℕ) (lent : Bool) (counts : List ℕ) → decide (convert-places whose conv r out lent counts) ≡ accepted
     → AcceptedCall conv r × (length out ≡ 3 * all-samples conv r) × (lent ≡ true → length counts ≡ frame-count (conv .channels) (r .frames))
 unfolding convert-places byte-lengths if-present
-bytes-accepted conv r out lent counts e =
+bytes-accepted whose conv r out lent counts e =
     let h = both (held-places conv) _ e in
-    let k = both (input-places rack conv r) _ (h .1) in
-    (record { opens = h .0; fits = k .0 }, right-length 7 (length out) (3 * all-samples conv r) _ (k .1), λ t. counted lent t (pass _ _ (k .1) .1))
+    let k = both (input-places whose conv r) _ (h .1) in
+    (record { opens = h .0; fits = rack-fits whose conv r (k .0) }, right-length 7 (length out) (3 * all-samples conv r) _ (k .1), λ t. counted lent t (pass _ _ (k .1) .1))
   where
     counted : (b : Bool) → b ≡ true → decide (if-present b (lent-length 8 (length counts) (frame-count (conv .channels) (r .frames)))) ≡ accepted → length counts ≡ frame-count (conv .channels) (r .frames)
     counted true t q = right-length 8 (length counts) _ [] q
@@ -68,12 +70,12 @@ module _ (places : List Place) (conv : Converter) (r : Run) (v : Verdict) (decid
     pub samples-refused : (out : List ℤ) → SamplesPromise places conv r out out (record { verdict = v; stats = told })
     samples-refused out = record { answered = unanswered; written = sym (exit-refused (decide places) (samples conv r) out down) }
 
-module _ (conv : Converter) (r : Run) (lent : Bool) (out counts : List ℕ) (v : Verdict) (decided : decision v ≡ decide (convert-places rack conv r out lent counts)) where
+module _ (whose : Limit) (conv : Converter) (r : Run) (lent : Bool) (out counts : List ℕ) (v : Verdict) (decided : decision v ≡ decide (convert-places whose conv r out lent counts)) where
   abbrev places : List Place
-  places = convert-places rack conv r out lent counts
+  places = convert-places whose conv r out lent counts
 
   pub convert-promise : decide places ≡ accepted → (told : ConvertStats) → told ≡ stats conv r → (out' counts' : List ℕ) → out' ≡ s24le (samples conv r)
-      → counts' ≡ if-lent lent (per-frame-clips conv r) counts → ConvertPromise conv r lent out counts out' counts' (record { verdict = v; stats = told })
+      → counts' ≡ if-lent lent (per-frame-clips conv r) counts → BytesPromise whose conv r lent out counts out' counts' (record { verdict = v; stats = told })
   convert-promise ok told e out' counts' w k =
       record {
         answered = answered places conv r v decided ok told e;
@@ -81,7 +83,7 @@ module _ (conv : Converter) (r : Run) (lent : Bool) (out counts : List ℕ) (v :
         per-frame = k ∙ sym (exit-accepted (decide places) (if-lent lent (per-frame-clips conv r) counts) counts ok);
       }
 
-  pub convert-refused : is-accepted (decide places) ≡ false → (told : ConvertStats) → told ≡ no-clips → ConvertPromise conv r lent out counts out counts (record { verdict = v; stats = told })
+  pub convert-refused : is-accepted (decide places) ≡ false → (told : ConvertStats) → told ≡ no-clips → BytesPromise whose conv r lent out counts out counts (record { verdict = v; stats = told })
   convert-refused down told e =
       record {
         answered = unanswered places conv r v decided down told e;

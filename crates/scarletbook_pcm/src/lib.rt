@@ -3,11 +3,12 @@ ghost use mathlib.Core.Path.{_≡_};
 ghost use Rattle.reference.specs.Frames.{run};
 ghost use Rattle.reference.specs.Output as output;
 ghost use Rattle.reference.specs.Stages.{reach};
-ghost use Rattle.reference.specs.Promises.{OpeningPromise, no-clips, ConvertRunPromise, ConvertFramePromise, ConvertPromise, PackPromise};
+ghost use Rattle.reference.specs.Promises.{OpeningPromise, no-clips, ConvertRunPromise, ConvertFramePromise, BytesPromise, ConvertPromise, DeskPromise, PackPromise};
 use reference::ConvertStats;
 use reference::Converted;
 use reference::Converter;
 use reference::Cutoff;
+use reference::Limit;
 use reference::Opened;
 use reference::PcmRate;
 use reference::Settings;
@@ -18,6 +19,8 @@ mod work;
 // The run record, and the calls over it; the functions `.._of` make it of its fields, and the functions `.._parts` below do without it.
 pub use record::Run;
 pub use record::convert;
+pub use record::convert_desk;
+pub use record::convert_desk_of;
 pub use record::convert_frame;
 pub use record::convert_frame_of;
 pub use record::convert_of;
@@ -112,8 +115,9 @@ pub fn convert_frame_parts<'a>(
     Converted { verdict, stats }
 }
 
-// Samples of a run, three bytes each, and the clips of each frame if a list for them is lent.
-pub fn convert_parts<'a>(
+// Bytes of a run of as many frames as the rack or the desk takes.
+fn bytes_under<'a>(
+    whose: Limit,
     conv: Converter,
     has_before: bool,
     before: &'a [u8],
@@ -124,9 +128,10 @@ pub fn convert_parts<'a>(
     out: &mut [u8],
     counts: &mut [u64],
 ) -> Converted
-    ensures { λ r. ⌜ ConvertPromise conv (run «has_before» (now (before .entry)) (now (frames .entry)) «has_after» (now (after .entry))) lent (now (out .entry)) (now (counts .entry)) (now (out .exit)) (now (counts .exit)) r ⌝ }
+    ensures { λ r. ⌜ BytesPromise whose conv (run «has_before» (now (before .entry)) (now (frames .entry)) «has_after» (now (after .entry))) lent (now (out .entry)) (now (counts .entry)) (now (out .exit)) (now (counts .exit)) r ⌝ }
 {
     let verdict = checks::byte_call(
+        whose,
         conv,
         has_before,
         before,
@@ -156,6 +161,62 @@ pub fn convert_parts<'a>(
     }
     let stats = nothing_counted();
     Converted { verdict, stats }
+}
+
+// Samples of a run, three bytes each, and the clips of each frame if a list for them is lent.
+pub fn convert_parts<'a>(
+    conv: Converter,
+    has_before: bool,
+    before: &'a [u8],
+    frames: &'a [u8],
+    has_after: bool,
+    after: &'a [u8],
+    lent: bool,
+    out: &mut [u8],
+    counts: &mut [u64],
+) -> Converted
+    ensures { λ r. ⌜ ConvertPromise conv (run «has_before» (now (before .entry)) (now (frames .entry)) «has_after» (now (after .entry))) lent (now (out .entry)) (now (counts .entry)) (now (out .exit)) (now (counts .exit)) r ⌝ }
+{
+    bytes_under(
+        Limit::Rack,
+        conv,
+        has_before,
+        before,
+        frames,
+        has_after,
+        after,
+        lent,
+        out,
+        counts,
+    )
+}
+
+// For the listening desk, which takes at most 8 frames.
+pub fn convert_desk_parts<'a>(
+    conv: Converter,
+    has_before: bool,
+    before: &'a [u8],
+    frames: &'a [u8],
+    has_after: bool,
+    after: &'a [u8],
+    lent: bool,
+    out: &mut [u8],
+    counts: &mut [u64],
+) -> Converted
+    ensures { λ r. ⌜ DeskPromise conv (run «has_before» (now (before .entry)) (now (frames .entry)) «has_after» (now (after .entry))) lent (now (out .entry)) (now (counts .entry)) (now (out .exit)) (now (counts .exit)) r ⌝ }
+{
+    bytes_under(
+        Limit::Desk,
+        conv,
+        has_before,
+        before,
+        frames,
+        has_after,
+        after,
+        lent,
+        out,
+        counts,
+    )
 }
 
 // 32-bit samples as three bytes each, their low 24 bits, least first: as many as there are bytes for. Later bytes are kept.

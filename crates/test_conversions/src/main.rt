@@ -1,5 +1,6 @@
 // The conversions beside what the original gives (data/, written by compare/answers.sh; its headers by compare/wav/headers.py), the figures of document 01 and its table of refusals.
 mod call;
+mod desk;
 mod document;
 mod input;
 mod refusals;
@@ -10,4 +11,5 @@ fn main() {
     replay::beside_rust();
     document::figures();
     refusals::refusals();
+    desk::desk();
 }

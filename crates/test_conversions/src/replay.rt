@@ -120,6 +120,51 @@ fn bytes_right<'a>(
     kept && counted(done, row) && same(input::of_bytes(out), row, 9)
 }
 
+// By the listening desk's entry: of plain parameters with the counts lent, else over the run record.
+fn desk_right<'a>(
+    row: &[u64],
+    before: &'a [u8],
+    frames: &'a [u8],
+    after: &'a [u8],
+    out: &mut [u8],
+    counts: &mut [u64],
+) -> bool {
+    let done = scarletbook_pcm::convert_desk_parts(
+        converter(row),
+        has_before(row),
+        before,
+        frames,
+        has_after(row),
+        after,
+        true,
+        out,
+        counts,
+    );
+    counts_right(counts, row) && counted(done, row) && same(input::of_bytes(out), row, 9)
+}
+
+fn desk_of_record_right<'a>(
+    row: &[u64],
+    before: &'a [u8],
+    frames: &'a [u8],
+    after: &'a [u8],
+    out: &mut [u8],
+    counts: &mut [u64],
+) -> bool {
+    let done = scarletbook_pcm::convert_desk_of(
+        converter(row),
+        has_before(row),
+        before,
+        frames,
+        has_after(row),
+        after,
+        false,
+        out,
+        counts,
+    );
+    row::kept(counts) && counted(done, row) && same(input::of_bytes(out), row, 9)
+}
+
 // As a WAV file: the header that Python writes, then those bytes. With the counts lent by the plain call, else over the run record.
 fn file_right<'a>(
     row: &[u64],
@@ -219,8 +264,10 @@ fn right<'a>(
         1 => frame_right(row, before, frames, after, out),
         2 => bytes_right(row, before, frames, after, true, raw, counts),
         3 => bytes_right(row, before, frames, after, false, raw, counts),
-        4 => file_right(row, headers, before, frames, after, raw, counts),
-        5 => file_of_record_right(row, headers, before, frames, after, raw, counts),
+        4 => desk_right(row, before, frames, after, raw, counts),
+        5 => desk_of_record_right(row, before, frames, after, raw, counts),
+        6 => file_right(row, headers, before, frames, after, raw, counts),
+        7 => file_of_record_right(row, headers, before, frames, after, raw, counts),
         _ => no_file(row, before, frames, after, raw, counts),
     }
 }
@@ -270,9 +317,9 @@ struct Score {
 fn asked(question: u8, row: &[u64]) -> bool {
     match question {
         1 => at(row, 3) == 1,
-        4 => at(row, 1) <= 2,
-        5 => at(row, 1) <= 2,
-        6 => at(row, 1) > 2,
+        6 => at(row, 1) <= 2,
+        7 => at(row, 1) <= 2,
+        8 => at(row, 1) > 2,
         _ => true,
     }
 }
@@ -280,7 +327,7 @@ fn asked(question: u8, row: &[u64]) -> bool {
 // Bytes of output: a file has a header in front.
 fn room(question: u8, row: &[u64]) -> u64 {
     let n = times(3, samples(row));
-    if question < 4 {
+    if question < 6 {
         return n;
     }
     if n < 0x1_0000_0000 { 44 + n } else { 0 }
@@ -382,9 +429,11 @@ fn questions(rows: &[u64], headers: &[u64]) {
     print(b"samples of one frame ", count(1, rows, headers));
     print(b"bytes and counts ", count(2, rows, headers));
     print(b"bytes ", count(3, rows, headers));
-    print(b"files and counts ", count(4, rows, headers));
-    print(b"files of the run record ", count(5, rows, headers));
-    print(b"no file of more channels ", count(6, rows, headers));
+    print(b"bytes and counts at the desk ", count(4, rows, headers));
+    print(b"bytes at the desk ", count(5, rows, headers));
+    print(b"files and counts ", count(6, rows, headers));
+    print(b"files of the run record ", count(7, rows, headers));
+    print(b"no file of more channels ", count(8, rows, headers));
 }
 
 pub fn beside_rust() {

@@ -93,6 +93,7 @@ pub fn run(
     tally::with(t, done, n as u64, equal)
 }
 
+// Frame 1 on by the listening desk's entry, every other piece by the rack's.
 fn bytes_call<'a>(
     p: Piece,
     before: &'a [u8],
@@ -105,6 +106,19 @@ fn bytes_call<'a>(
     let f = test_support::of_bytes(bytes_in(p.frames) as u64, frames);
     let o = test_support::of_bytes(sample_bytes_in(p.frames) as u64, out);
     let c = test_support::of_numbers(p.frames as u64, counts);
+    if p.from == 1 {
+        return scarletbook_pcm::convert_desk_parts(
+            call::standard(),
+            p.has_before,
+            before,
+            &frames[..f],
+            p.has_after,
+            after,
+            lent,
+            &mut out[..o],
+            &mut counts[..c],
+        );
+    }
     scarletbook_pcm::convert_parts(
         call::standard(),
         p.has_before,
@@ -118,7 +132,7 @@ fn bytes_call<'a>(
     )
 }
 
-// A piece by `convert_parts`.
+// A piece by a call for bytes.
 pub fn bytes(
     t: Tally,
     p: Piece,
@@ -139,7 +153,7 @@ pub fn bytes(
     tally::with(t, done, n as u64, equal)
 }
 
-// A piece by `convert_parts`, with the counts lent and compared too.
+// With the counts lent and compared too.
 pub fn counted(
     t: Tally,
     p: Piece,

@@ -59,7 +59,7 @@ fn last_two<'a>(
     piece::bytes(u, q, album, bytes, b, f, a, false, raw, counts)
 }
 
-// Calls of both kinds, and refused ones in between.
+// Calls of every kind, and refused ones in between.
 fn mixed<'a>(
     name: &'a [u8],
     album: &'a [u8],

@@ -80,6 +80,7 @@ module _ {conv : Converter} where
 
     as-call : Call conv
     as-call = convert record {
+      whose = rack;
       run = c .run;
       lent = c .lent;
       out = drop 44 (c .out);

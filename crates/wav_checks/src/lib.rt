@@ -6,6 +6,7 @@ ghost use Rattle.reference.specs.Refusals.{decision, decide};
 ghost use Rattle.wav_checks.specs.Places.{too-large, wav-places};
 use reference::Converter;
 use reference::FRAME_BYTES;
+use reference::Limit;
 use reference::PcmError;
 use reference::Verdict;
 
@@ -40,7 +41,15 @@ pub fn call(
     if !checks::accepted(v) {
         return v;
     }
-    let w = checks::input(conv, has_before, before, frames, has_after, after);
+    let w = checks::input(
+        Limit::Rack,
+        conv,
+        has_before,
+        before,
+        frames,
+        has_after,
+        after,
+    );
     if !checks::accepted(w) {
         return w;
     }

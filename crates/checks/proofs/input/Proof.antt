@@ -1,17 +1,17 @@
 -- `input` meets its contract.
-use mathlib.Core.List.{[], _++_, append-nil}
+use mathlib.Core.List.{List, [], _∷_, _++_, append-nil}
 use mathlib.Core.Logic.{⊎-elim}
 use mathlib.Core.Bool.{not}
 use mathlib.Core.Path.{_≡_, ap, sym, _∙_}
-use borrow.Author.Tests.{ne-eqb, eq-eqb, lt-ltb, le-ltb}
+use borrow.Author.Tests.{ne-eqb, eq-eqb, not-true, not-false}
 use borrow.Author.Needs.{needs}
-use Rattle.reference.specs.Refusals.{rack, decide, input-places, run-length, one-long, if-present}
-use Rattle.reference.specs.Frames.{run, frame-count}
+use denote.Ref.{now}
+use Rattle.reference.specs.Refusals.{Place, decide, input-places, run-length, too-many, one-long, if-present}
+use Rattle.reference.specs.Frames.{Run, run, frame-count}
 use Rattle.reference.proofs.Refusals.{at-first, at-next, at-end, present-holds, present-passes, absent-passes}
+use Rattle.checks.proofs.Steps.{stands, goes-on}
 use Rattle.checks.proofs.input.Statement.{statement}
 use Rattle.checks.proofs.input.Tie as tie
-use Rattle.checks.proofs.input.Reads as reads
-use Rattle.checks.proofs.input.Lts as lts
 
 cast-size : tie.Need-cast-size
 cast-size c = search needs
@@ -26,30 +26,56 @@ returns : tie.Need-returns
 unfolding input-places run-length
 returns c = sym (at-first _ _ (ap not (ne-eqb _ _ (c .if1 .taken))))
 
-div-count : tie.Need-div-count
-div-count c = search needs
+div-few : tie.Need-div-few
+div-few c = search needs
+
+few-requires : tie.Need-few-requires
+few-requires c κs = search needs
+
+accepted-requires : tie.Need-accepted-requires
+accepted-requires c κs = search needs
+
+-- the start, and the place of more frames
+abbrev start : tie.Else1 → tie.Start
+start c = c .before .before .before .before .before
+
+abbrev run-of : tie.Start → Run
+run-of s = run (s .args .has-before) (now (s .args .before)) (now (s .args .frames)) (s .args .has-after) (now (s .args .after))
+
+abbrev more : tie.Start → List Place
+more s = too-many (s .args .whose) (frame-count (s .args .conv .channels) (now (s .args .frames))) ∷ []
 
 returns-2 : tie.Need-returns-2
 unfolding input-places run-length frame-count
-returns-2 c = sym (at-next _ _ (ap not (eq-eqb _ _ (c .before .if1 .left))) ∙ at-first _ _ (lt-ltb _ _ (c .if2 .taken)))
+returns-2 c =
+    let e = c .before .before .before in
+    stands (more (start e)) (c .before .before .few .ensures) (c .before .accepted .ensures) _ (not-true _ (c .if2 .taken))
+    ∙ sym (at-next _ _ (ap not (eq-eqb _ _ (e .if1 .left))))
 
--- past the run length and the frame before, by whichever branch
-so-far : (c : lts.Joined3 reads.Pre reads.Post) →
-    let a = c .before .before .before .before .args in
-    decide (input-places rack (a .conv) (run (a .has-before) (a .before .now) (a .frames .now) (a .has-after) (a .after .now)))
-    ≡ decide (if-present (a .has-after) (one-long 14 [] (a .conv .channels) (a .after .now)) ++ [])
-unfolding input-places run-length frame-count one-long
+-- past the run length
+past-length : (c : tie.Else2) →
+    let s = start (c .before .before .before) in
+    decide (input-places (s .args .whose) (s .args .conv) (run-of s))
+    ≡ decide (if-present (s .args .has-before) (one-long 13 [] (s .args .conv .channels) (now (s .args .before))) ++ if-present (s .args .has-after) (one-long 14 [] (s .args .conv .channels) (now (s .args .after))))
+unfolding input-places run-length frame-count
+past-length c =
+    let e = c .before .before .before in
+    at-next _ _ (ap not (eq-eqb _ _ (e .if1 .left)))
+    ∙ goes-on (more (start e)) (c .before .before .few .ensures) (c .before .accepted .ensures) _ (not-false _ (c .if2 .left))
+
+-- past the frame before too, by whichever branch
+so-far : (c : tie.Joined3) →
+    let s = start (c .before .before .before .before) in
+    decide (input-places (s .args .whose) (s .args .conv) (run-of s)) ≡ decide (if-present (s .args .has-after) (one-long 14 [] (s .args .conv .channels) (now (s .args .after))) ++ [])
+unfolding one-long
 so-far c =
-    at-next _ _ (ap not (eq-eqb _ _ (c .before .before .if1 .left)))
-    ∙ at-next _ _ (le-ltb _ _ (c .before .if2 .left))
+    past-length (c .before)
     ∙ ⊎-elim (λ t. present-passes _ _ _ (t .0 .taken) (ap not (eq-eqb _ _ (t .1 .left)))) (λ t. absent-passes _ _ _ (t .left)) (c .if3 .came)
     ∙ ap decide (sym (append-nil _))
 
 returns-3 : tie.Need-returns-3
-unfolding input-places run-length frame-count one-long
-returns-3 c = sym (at-next _ _ (ap not (eq-eqb _ _ (c .before .before .before .if1 .left)))
-    ∙ at-next _ _ (le-ltb _ _ (c .before .before .if2 .left))
-    ∙ present-holds _ _ _ (c .before .if3 .taken) (ap not (ne-eqb _ _ (c .if4 .taken))))
+unfolding one-long
+returns-3 c = sym (past-length (c .before .before) ∙ present-holds _ _ _ (c .before .if3 .taken) (ap not (ne-eqb _ _ (c .if4 .taken))))
 
 returns-4 : tie.Need-returns-4
 unfolding one-long
@@ -70,7 +96,9 @@ input-spec =
     mul-size
     rem-if1
     returns
-    div-count
+    div-few
+    few-requires
+    accepted-requires
     returns-2
     returns-3
     returns-4

@@ -108,6 +108,12 @@ enum-known-e-10 c = search needs
 refusal-requires-15 : tie.Need-refusal-requires-15
 refusal-requires-15 c κs = search needs
 
+enum-told-6 : tie.Need-enum-told-6
+enum-told-6 c = search needs
+
+refusal-requires-16 : tie.Need-refusal-requires-16
+refusal-requires-16 c κs = search needs
+
 returns : tie.Need-returns
 returns c = rw (c .before .before .e .given .1) (c .refusal .ensures)
 
@@ -153,6 +159,9 @@ returns-14 c = rw (c .before .before .e9 .given .1) (c .refusal14 .ensures)
 returns-15 : tie.Need-returns-15
 returns-15 c = rw (c .before .before .e10 .given .1) (c .refusal15 .ensures)
 
+returns-16 : tie.Need-returns-16
+returns-16 c = rw (c .before .enum-told6 .given .1) (c .refusal16 .ensures)
+
 pub error-spec : {M : Type 1} → statement M
 error-spec =
     tie.close
@@ -192,6 +201,8 @@ error-spec =
     refusal-requires-14
     enum-known-e-10
     refusal-requires-15
+    enum-told-6
+    refusal-requires-16
     returns
     returns-2
     returns-3
@@ -206,4 +217,5 @@ error-spec =
     returns-12
     returns-13
     returns-14
-    returns-15)
+    returns-15
+    returns-16)

@@ -103,6 +103,12 @@ enum-known-e-10 c = search needs
 numbers-requires-14 : tie.Need-numbers-requires-14
 numbers-requires-14 c κs = search needs
 
+enum-told-6 : tie.Need-enum-told-6
+enum-told-6 c = search needs
+
+numbers-requires-15 : tie.Need-numbers-requires-15
+numbers-requires-15 c κs = search needs
+
 returns : tie.Need-returns
 returns c = rw (c .before .before .e .given .1) (c .numbers .ensures)
 
@@ -148,6 +154,9 @@ returns-14 c = rw (c .before .before .e9 .given .1) (c .numbers13 .ensures)
 returns-15 : tie.Need-returns-15
 returns-15 c = rw (c .before .before .e10 .given .1) (c .numbers14 .ensures)
 
+returns-16 : tie.Need-returns-16
+returns-16 c = rw (c .before .enum-told6 .given .1) (c .numbers15 .ensures)
+
 pub of-error-spec : {M : Type 1} → statement M
 of-error-spec =
     tie.close
@@ -185,6 +194,8 @@ of-error-spec =
     numbers-requires-13
     enum-known-e-10
     numbers-requires-14
+    enum-told-6
+    numbers-requires-15
     returns
     returns-2
     returns-3
@@ -199,4 +210,5 @@ of-error-spec =
     returns-12
     returns-13
     returns-14
-    returns-15)
+    returns-15
+    returns-16)

@@ -1,15 +1,15 @@
--- `convert_parts` meets its contract.
+-- `bytes_under` meets its contract.
 use mathlib.Core.List.{List}
 use mathlib.Core.Path.{_∙_}
 use borrow.Author.Needs.{needs}
 use denote.Ref.{now}
-use Rattle.reference.specs.Refusals.{rack, Place, convert-places}
+use Rattle.reference.specs.Refusals.{Place, convert-places}
 use Rattle.reference.specs.Output.{per-frame-clips}
 use Rattle.reference.specs.Frames.{Run, run}
 use Rattle.checks.proofs.Steps.{passed, turned-down}
 use Rattle.scarletbook_pcm.proofs.Answers.{bytes-accepted, convert-promise, convert-refused, counts-lent, counts-kept}
-use Rattle.scarletbook_pcm.proofs.convert_parts.Statement.{statement}
-use Rattle.scarletbook_pcm.proofs.convert_parts.Tie as tie
+use Rattle.scarletbook_pcm.proofs.bytes_under.Statement.{statement}
+use Rattle.scarletbook_pcm.proofs.bytes_under.Tie as tie
 
 byte-call-requires : tie.Need-byte-call-requires
 byte-call-requires c κs = search needs
@@ -21,11 +21,11 @@ abbrev run-of : (s : tie.Start) → Run
 run-of s = run (s .args .has-before) (now (s .args .before)) (now (s .args .frames)) (s .args .has-after) (now (s .args .after))
 
 abbrev places : (s : tie.Start) → List Place
-places s = convert-places rack (s .args .conv) (run-of s) (now (s .args .out)) (s .args .lent) (now (s .args .counts))
+places s = convert-places (s .args .whose) (s .args .conv) (run-of s) (now (s .args .out)) (s .args .lent) (now (s .args .counts))
 
 bytes-and-counts-requires : tie.Need-bytes-and-counts-requires
 bytes-and-counts-requires c κs = let s = c .before .before .before .before .before .before .before .before .before .before .before .before .before in
-    let h = bytes-accepted (s .args .conv) (run-of s) (now (s .args .out)) (s .args .lent) (now (s .args .counts)) (passed (places s) (c .before .before .before .before .before .byte-call .ensures) (c .before .before .before .before .accepted .ensures) (c .before .before .before .if1 .taken)) in
+    let h = bytes-accepted (s .args .whose) (s .args .conv) (run-of s) (now (s .args .out)) (s .args .lent) (now (s .args .counts)) (passed (places s) (c .before .before .before .before .before .byte-call .ensures) (c .before .before .before .before .accepted .ensures) (c .before .before .before .if1 .taken)) in
     (h .0, (h .1, h .2 (c .before .before .if2 .taken)))
 
 same-length : tie.Need-same-length
@@ -37,13 +37,13 @@ same-length-2 c = search needs
 returns : tie.Need-returns
 returns c = let s = c .before .before .before .before .before .before .before .before .before .before .before .before .before .before .before .before .before .before in
     let g = c .before .before .before .before .bytes-and-counts in
-    convert-promise (s .args .conv) (run-of s) (s .args .lent) (now (s .args .out)) (now (s .args .counts)) (c .before .before .before .before .before .before .before .before .before .before .byte-call .result) (c .before .before .before .before .before .before .before .before .before .before .byte-call .ensures)
+    convert-promise (s .args .whose) (s .args .conv) (run-of s) (s .args .lent) (now (s .args .out)) (now (s .args .counts)) (c .before .before .before .before .before .before .before .before .before .before .byte-call .result) (c .before .before .before .before .before .before .before .before .before .before .byte-call .ensures)
     (passed (places s) (c .before .before .before .before .before .before .before .before .before .before .byte-call .ensures) (c .before .before .before .before .before .before .before .before .before .accepted .ensures) (c .before .before .before .before .before .before .before .before .if1 .taken)) (g .result) (g .ensures .1 .0) _ _ (g .ensures .0)
     (g .ensures .1 .1 ∙ counts-lent (s .args .lent) (per-frame-clips (s .args .conv) (run-of s)) (now (s .args .counts)) (c .before .before .before .before .before .before .before .if2 .taken))
 
 bytes-requires : tie.Need-bytes-requires
 bytes-requires c κs = let s = c .before .before .before .before .before .before .before .before .before .before .before .before in
-    let h = bytes-accepted (s .args .conv) (run-of s) (now (s .args .out)) (s .args .lent) (now (s .args .counts)) (passed (places s) (c .before .before .before .before .byte-call .ensures) (c .before .before .before .accepted .ensures) (c .before .before .if1 .taken)) in
+    let h = bytes-accepted (s .args .whose) (s .args .conv) (run-of s) (now (s .args .out)) (s .args .lent) (now (s .args .counts)) (passed (places s) (c .before .before .before .before .byte-call .ensures) (c .before .before .before .accepted .ensures) (c .before .before .if1 .taken)) in
     (h .0, h .1)
 
 same-length-3 : tie.Need-same-length-3
@@ -55,7 +55,7 @@ same-length-4 c = search needs
 returns-2 : tie.Need-returns-2
 returns-2 c = let s = c .before .before .before .before .before .before .before .before .before .before .before .before .before .before .before in
     let g = c .before .before .bytes in
-    convert-promise (s .args .conv) (run-of s) (s .args .lent) (now (s .args .out)) (now (s .args .counts)) (c .before .before .before .before .before .before .before .byte-call .result) (c .before .before .before .before .before .before .before .byte-call .ensures)
+    convert-promise (s .args .whose) (s .args .conv) (run-of s) (s .args .lent) (now (s .args .out)) (now (s .args .counts)) (c .before .before .before .before .before .before .before .byte-call .result) (c .before .before .before .before .before .before .before .byte-call .ensures)
     (passed (places s) (c .before .before .before .before .before .before .before .byte-call .ensures) (c .before .before .before .before .before .before .accepted .ensures) (c .before .before .before .before .before .if1 .taken)) (g .result) (g .ensures .1) _ _ (g .ensures .0)
     (counts-kept (s .args .lent) (per-frame-clips (s .args .conv) (run-of s)) (now (s .args .counts)) (c .before .before .before .before .if2 .left))
 
@@ -70,11 +70,11 @@ same-length-6 c = search needs
 
 returns-3 : tie.Need-returns-3
 returns-3 c = let s = c .before .before .before .before .before .before .before .before .before .before .before in
-    convert-refused (s .args .conv) (run-of s) (s .args .lent) (now (s .args .out)) (now (s .args .counts)) (c .before .before .before .byte-call .result) (c .before .before .before .byte-call .ensures)
+    convert-refused (s .args .whose) (s .args .conv) (run-of s) (s .args .lent) (now (s .args .out)) (now (s .args .counts)) (c .before .before .before .byte-call .result) (c .before .before .before .byte-call .ensures)
     (turned-down (places s) (c .before .before .before .byte-call .ensures) (c .before .before .accepted .ensures) (c .before .if1 .left)) (c .nothing-counted .result) (c .nothing-counted .ensures)
 
-pub convert-parts-spec : {M : Type 1} → statement M
-convert-parts-spec =
+pub bytes-under-spec : {M : Type 1} → statement M
+bytes-under-spec =
     tie.close
     (tie.spec
     byte-call-requires
