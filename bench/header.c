@@ -93,6 +93,11 @@ static void *pack(void *p) {
     puigneht_pack_s24le(ITEMS(OUT, int32_t), ITEMS(BYTES, uint8_t));
     return p;
 }
+/* Of the bytes of the run, taken as samples. */
+static void *overs(void *p) {
+    struct call *c = p;
+    return puigneht_overs(ITEMS(RUN, int32_t), c->channels, 0, PUIGNEHT_HIGH_END, 2, (uint64_t *)(void *)c->list[CLIPPED], 3) ? NULL : p;
+}
 /* The run written as a DSF file, at the list's own offset, and its first frame taken out of it again. */
 static void *dsf(void *p) {
     static uint8_t room[16 + 92 + 6 * 4096 * (FRAMES * PUIGNEHT_FRAME_BYTES / 4096 + 1)], frame[6 * PUIGNEHT_FRAME_BYTES];
@@ -111,7 +116,7 @@ static const struct {
     const char *name;
     void *(*make)(void *);
 } calls[] = {{"no call", none}, {"gain", gain}, {"open", open_}, {"convert_run", convert_run}, {"convert_frame", convert_frame},
-             {"convert", convert}, {"convert_desk", convert_desk}, {"pack_s24le", pack}, {"dsf calls", dsf}};
+             {"convert", convert}, {"convert_desk", convert_desk}, {"pack_s24le", pack}, {"overs", overs}, {"dsf calls", dsf}};
 enum { CALLS = sizeof calls / sizeof *calls };
 
 /* The call with each list in turn at each offset; gives how many calls were compared. */

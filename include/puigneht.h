@@ -183,6 +183,18 @@ uint8_t puigneht_dsf_give_up_header(const uint8_t *head, size_t head_len, uint64
 uint8_t puigneht_turns(const uint64_t *frames, size_t frames_len, const uint64_t *dues, size_t dues_len, uint64_t turn,
                        uint64_t *finishes, size_t finishes_len, int32_t *late, size_t late_len);
 
+/* The end of full scale at which the samples just before a place stand: 8388607, or -8388608. */
+enum { PUIGNEHT_NO_END = 0, PUIGNEHT_HIGH_END = 1, PUIGNEHT_LOW_END = 2 };
+
+/* Overs by the studio rule: a run of three or more samples at one end of full scale, clipped or not, as long as it can be, is one
+ * over, counted at its third sample. Counts those of channel `channel` (from 0) in `samples`, which have `channels` channels in turn, from
+ * what is in progress before them: the end at which the samples just before stand and how many; more than 3 count as 3, and no end
+ * or 0 as nothing, as at the start. Writes `told` (3 items): the overs, and what is in progress after the samples, its end and its length
+ * (at most 3), which the call for the samples that follow takes. So overs do not depend on where an album is cut. A channel that is
+ * not there has no samples. Another number for the end is not understood; every other call is accepted. */
+uint8_t puigneht_overs(const int32_t *samples, size_t samples_len, size_t channels, size_t channel, uint8_t end,
+                       uint64_t length, uint64_t *told, size_t told_len);
+
 #ifdef __cplusplus
 }
 #endif

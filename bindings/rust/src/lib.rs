@@ -3,10 +3,12 @@
 //! A frame has [`FRAME_BYTES`] bytes of each channel, the channels in turn. A refused call writes nothing.
 
 pub mod dsf;
+mod overs;
 mod raw;
 pub mod wav;
 mod turns;
 
+pub use overs::{overs, End, Overs, Progress};
 pub use turns::{turns, Album, Turns};
 
 /// Bytes of one channel in a frame.

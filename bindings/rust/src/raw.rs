@@ -217,6 +217,17 @@ extern "C" {
         bytes_len: usize,
     );
 
+    pub fn puigneht_overs(
+        samples: *const i32,
+        samples_len: usize,
+        channels: usize,
+        channel: usize,
+        end: u8,
+        length: u64,
+        told: *mut u64,
+        told_len: usize,
+    ) -> u8;
+
     pub fn puigneht_turns(
         frames: *const u64,
         frames_len: usize,
@@ -314,5 +325,24 @@ mod tests {
         };
         assert_eq!((answer, data, decibels), (4, [4703, 0], [0.0]));
         assert_eq!((clipped, counts, out), ([7; 6], [7], [7; 3528]));
+    }
+
+    // An unknown end, or a list of another length than three, is not understood, and nothing is written.
+    #[test]
+    fn overs_not_understood() {
+        let samples = [8_388_607; 4];
+        let mut told = [7u64; 4];
+        let mut call = |end: u8, n: usize| {
+            // SAFETY: each pointer and length is that of a live array, and the two are apart.
+            let answer = unsafe {
+                super::puigneht_overs(samples.as_ptr(), 4, 1, 0, end, 0, told.as_mut_ptr(), n)
+            };
+            (answer, told)
+        };
+        assert_eq!(call(3, 3), (255, [7; 4]));
+        assert_eq!(call(255, 3), (255, [7; 4]));
+        assert_eq!(call(0, 2), (255, [7; 4]));
+        assert_eq!(call(0, 4), (255, [7; 4]));
+        assert_eq!(call(2, 3), (0, [1, 1, 3, 7]));
     }
 }

@@ -1,4 +1,4 @@
--- Lists of one, of two and of five that are written whole.
+-- Lists of one, of two, of three and of five that are written whole.
 use mathlib.Core.Path.{_≡_, refl}
 use mathlib.Core.List.{List, [], _∷_}
 use native.Mathlib.Omega.{arith}
@@ -13,7 +13,7 @@ pub two-set : {A : Type 0} (l : List A) (a b : A) → length l ≡ 2 → set (se
 two-set [] a b h = absurd (omega arith)
 two-set (x ∷ l) a b h = rw (one-set l b (omega arith))
 
-three-set : {A : Type 0} (l : List A) (a b c : A) → length l ≡ 3 → set (set (set l 0 a) 1 b) 2 c ≡ a ∷ b ∷ c ∷ []
+pub three-set : {A : Type 0} (l : List A) (a b c : A) → length l ≡ 3 → set (set (set l 0 a) 1 b) 2 c ≡ a ∷ b ∷ c ∷ []
 three-set [] a b c h = absurd (omega arith)
 three-set (x ∷ l) a b c h = rw (two-set l b c (omega arith))
 

@@ -2,3 +2,4 @@ pub mod Codes
 pub mod Settings
 pub mod Told
 pub mod Files
+pub mod Progress

@@ -7,6 +7,7 @@ ghost use Rattle.interface.specs.Told.{room-for-all};
 
 mod codes;
 mod files;
+mod progress;
 mod results;
 
 pub use codes::both;
@@ -20,6 +21,9 @@ pub use files::tell_data;
 pub use files::tell_header;
 pub use files::tell_number;
 pub use files::tell_upload;
+pub use progress::in_progress;
+pub use progress::known_end;
+pub use progress::tell_overs;
 pub use results::of_error;
 pub use results::of_verdict;
 pub use results::put_two;

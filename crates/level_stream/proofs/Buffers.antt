@@ -18,7 +18,8 @@ use Rattle.reference.specs.Promises.{by-decision}
 use Rattle.reference.proofs.Promises.{exit-accepted}
 use Rattle.reference.proofs.Refusals.{at-next, at-end, decide-skip, some-channel, few-channels}
 use Rattle.report_lines.specs.Text.{Printed}
-use Rattle.levels.specs.Levels.{frame-lines}
+use Rattle.overs.specs.declared.Progress.{Progress}
+use Rattle.levels.specs.Levels.{piece-lines, piece-states}
 use Rattle.levels.proofs.Frames.{in-all}
 use Rattle.level_input.specs.Moved.{moved-on}
 use Rattle.level_stream.specs.Buffers.{part, at-hand, Moment, moment, told-frame, Told, Turned}
@@ -85,7 +86,7 @@ record Given (conv : Converter) (size : ℕ) (m next : Moment) (filled : List �
   long : length (m .three) ≡ 3 * size
   room : length filled ≡ 3 * size
   same : take (2 * size) filled ≡ take (2 * size) (m .three)
-  told : Told conv size (moment (m .frames) (m .clipped) (m .left) filled) came text next text' n
+  told : Told conv size (moment (m .frames) (m .clipped) (m .states) (m .left) filled) came text next text' n
 
 module _ (conv : Converter) (m next : Moment) (filled : List ℕ) (came n : ℕ) (text text' : List ℕ) (g : Given conv (frame-length (conv .channels)) m next filled came n text text') where
   abbrev long : ℕ
@@ -108,11 +109,12 @@ module _ (conv : Converter) (m next : Moment) (filled : List ℕ) (came n : ℕ)
     kept = ap (part 0 long) (g .told .moved) ∙ moved-front long filled (g .room) ∙ middle-same long (m .three) filled (g .long) (g .room) (g .same);
     frames = g .told .frames;
     clipped = g .told .clipped ∙ ap (λ r. m .clipped + frame-clips conv r 0) told-is;
-    lines = subst (λ r. Printed (frame-lines conv r (m .frames) 0) text 0 text' n) told-is (g .told .lines);
+    lines = subst (λ r. Printed (piece-lines conv (m .frames) (m .states) r) text 0 text' n) told-is (g .told .lines);
+    carried = g .told .carried ∙ ap (piece-states conv (m .states)) told-is;
   }
 
 pub turned : {conv : Converter} {size : ℕ} {m next : Moment} {filled : List ℕ} {came n : ℕ} {text text' : List ℕ}
-    → Told conv size (moment (m .frames) (m .clipped) (m .left) filled) came text next text' n
+    → Told conv size (moment (m .frames) (m .clipped) (m .states) (m .left) filled) came text next text' n
     → size ≡ frame-length (conv .channels) → m .left ≡ size → came ≤ size → length (m .three) ≡ 3 * size → length filled ≡ 3 * size → take (2 * size) filled ≡ take (2 * size) (m .three)
     → Turned conv m text next text' n
 turned {conv} {size} {m} {next} {filled} {came} {n} {text} {text'} told e whole few long room same =
@@ -173,3 +175,6 @@ accepted-lines {d} {t} {old} {new} {n} ok p = subst (λ l. Printed l old 0 new n
 
 pub accepted-clips : {d : Decision} {m : ℕ} (n x : ℕ) → d ≡ accepted → m ≡ by-decision d x 0 → n + m ≡ n + x
 accepted-clips {d} n x ok e = ap (λ k. n + k) (e ∙ exit-accepted d x 0 ok)
+
+pub accepted-states : {d : Decision} {next : List Progress} (after before : List Progress) → d ≡ accepted → next ≡ by-decision d after before → next ≡ after
+accepted-states {d} after before ok e = e ∙ exit-accepted d after before ok

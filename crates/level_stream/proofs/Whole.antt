@@ -7,21 +7,23 @@ use native.Mathlib.Nat.{zero-add, zero-mul, add-zero, suc-mul, mul-add-div-right
 use native.Mathlib.Omega.{arith}
 use borrow.Author.Tests.{lt-ltb, le-ltb, eq-eqb, ne-eqb}
 use lib.Dec.{eqb, ltb}
-use lib.ListN.{length, take, drop, length-append, length-drop}
+use lib.ListN.{length, take, drop, getD-replicate, length-append, length-drop}
 use lib.Seq.{length-take-le, take-all, take-at, drop-at, take-append-le, take-append-seam, drop-append-le}
 use Rattle.numbers.specs.Lists.{tabulate, total}
 use Rattle.numbers.proofs.Lists.{below-or, part-end}
 use Rattle.reference.specs.Frames.{Run, frame-length, frame-count, frame}
-use Rattle.reference.specs.Output.{frame-clips}
+use Rattle.reference.specs.Output.{samples-per-frame, sample, frame-clips}
 use Rattle.reference.specs.Settings.{converter-of}
 use Rattle.reference.specs.Refusals.{accepted, decide, opening-places, held-places}
 use Rattle.reference.specs.declared.Converter.{Converter}
 use Rattle.reference.proofs.Promises.{exit-accepted}
-use Rattle.reference.proofs.Refusals.{some-channel}
+use Rattle.reference.proofs.Refusals.{some-channel, few-channels}
+use Rattle.overs.specs.Overs.{none}
+use Rattle.overs.proofs.Laws.{starts}
 use Rattle.report_lines.specs.Text.{joined, with-text}
 use Rattle.settings_line.specs.declared.LineSettings.{LineSettings}
-use Rattle.levels.specs.Levels.{read-settings, frame-lines, whole-input, FrameOf}
-use Rattle.levels.proofs.Whole.{lines-same, clips-same}
+use Rattle.levels.specs.Levels.{read-settings, whole-input, FrameOf, InProgress, piece-lines}
+use Rattle.levels.proofs.Whole.{lines-same, states-same, clips-same}
 use Rattle.level_stream.specs.Report.{ending, left-over, all-clips, lines-of, text-by, report-text}
 use Rattle.level_stream.specs.Buffers.{part, Moment, told-frame, Turned, First, Turn, LeadTo, texts, Led, ToldWhole, AllTold}
 
@@ -36,6 +38,7 @@ record Come (conv : Converter) (turns : List (Turn conv)) (m : Moment) : Type 0 
   here : drop (m .frames * frame-length (conv .channels)) input ≡ take (m .left) (part (frame-length (conv .channels)) (2 * frame-length (conv .channels)) (m .three))
   told : (rest : List ℕ) → (m .left < frame-length (conv .channels) → rest ≡ []) → texts turns ≡ tabulate (lines-of conv (input ++ rest)) 0 (m .frames)
   counted : (rest : List ℕ) → (m .left < frame-length (conv .channels) → rest ≡ []) → m .clipped ≡ total (frame-clips conv (whole-input (conv .channels) (input ++ rest))) 0 (m .frames)
+  carried : (rest : List ℕ) → (m .left < frame-length (conv .channels) → rest ≡ []) → InProgress conv (whole-input (conv .channels) (input ++ rest)) (m .frames) (m .states)
 
 module _ (ch : ℕ) where
   abbrev size : ℕ
@@ -51,9 +54,9 @@ module _ (ch : ℕ) where
       ap (take size) (drop-append-le (k * size) xs ys (omega arith))
       ∙ take-append-le size (drop (k * size) xs) ys (omega (arith, length-drop (k * size) xs))
 
-begins : (conv : Converter) (m : Moment) → First conv m → Come conv [] m
+begins : (conv : Converter) → conv .channels ≤ 6 → (m : Moment) → First conv m → Come conv [] m
 unfolding texts tabulate total
-begins conv m s =
+begins conv few m s =
     let size = frame-length (conv .channels) in
     let hand = part size (2 * size) (m .three) in
     let n : length (take (m .left) hand) ≡ m .left = length-take-le (m .left) hand (omega (arith, s .came, middle-long (conv .channels) (m .three) (s .room))) in
@@ -67,10 +70,15 @@ begins conv m s =
       here = ap (λ k. drop k (take (m .left) hand)) at;
       told = λ rest ok. rw (s .frames) refl;
       counted = λ rest ok. s .clipped ∙ rw (s .frames) refl;
+      carried = λ rest ok. record {
+        held = λ c l.
+            rw (s .states, s .frames, zero-mul (samples-per-frame (conv .rate)))
+            (getD-replicate 6 c none none (omega arith) ∙ sym (starts (sample conv (whole-input (conv .channels) (take (m .left) hand ++ rest)) c)));
+      };
     }
 
 -- what has come after one turn more
-module _ (conv : Converter) (some : 0 < conv .channels) (ts : List (Turn conv)) (t : Turn conv) (so : Come conv ts (t .from)) where
+module _ (conv : Converter) (some : 0 < conv .channels) (few : conv .channels ≤ 6) (ts : List (Turn conv)) (t : Turn conv) (so : Come conv ts (t .from)) where
   abbrev ch : ℕ
   ch = conv .channels
 
@@ -170,26 +178,37 @@ module _ (conv : Converter) (some : 0 < conv .channels) (ts : List (Turn conv)) 
       after = after-is;
     }
 
+    -- a turn tells a whole frame
+    at-hand-whole : t .from .left < long → fresh ++ rest ≡ []
+    at-hand-whole l = absurd (omega (arith, l, t .turned .whole))
+
+    before-it : InProgress conv (whole-input ch all) f (t .from .states)
+    before-it = so .carried (fresh ++ rest) at-hand-whole
+
     lines-are : take (t .n) (t .text') ≡ lines-of conv all f
     unfolding with-text lines-of
     lines-are =
-        let lines = frame-lines conv piece f 0 in
+        let lines = piece-lines conv f (t .from .states) piece in
         ap₂ take (t .turned .lines .after ∙ zero-add (length lines)) (t .turned .lines .written)
         ∙ take-append-seam lines (drop (0 + length lines) (t .text))
-        ∙ lines-same conv all f piece frame-of f
+        ∙ lines-same conv all f piece frame-of (t .from .states) before-it f
 
     told-more : texts (t ∷ ts) ≡ tabulate (lines-of conv all) 0 (t .to .frames)
     unfolding texts tabulate
     told-more =
         rw one-told
-        (ap₂ (λ l x. l ++ (x ∷ [])) (so .told (fresh ++ rest) (λ l. absurd (omega (arith, l, t .turned .whole)))) (lines-are ∙ ap (lines-of conv all) (sym (zero-add f))))
+        (ap₂ (λ l x. l ++ (x ∷ [])) (so .told (fresh ++ rest) at-hand-whole) (lines-are ∙ ap (lines-of conv all) (sym (zero-add f))))
 
     counted-more : t .to .clipped ≡ total (frame-clips conv (whole-input ch all)) 0 (t .to .frames)
     unfolding total
     counted-more =
         rw one-told
         (t .turned .clipped
-        ∙ ap₂ _+_ (so .counted (fresh ++ rest) (λ l. absurd (omega (arith, l, t .turned .whole)))) (clips-same conv all f piece frame-of ∙ ap (frame-clips conv (whole-input ch all)) (sym (zero-add f))))
+        ∙ ap₂ _+_ (so .counted (fresh ++ rest) at-hand-whole) (clips-same conv all f piece frame-of ∙ ap (frame-clips conv (whole-input ch all)) (sym (zero-add f))))
+
+    carried-more : InProgress conv (whole-input ch all) (t .to .frames) (t .to .states)
+    carried-more =
+        rw one-told (subst (InProgress conv (whole-input ch all) (suc f)) (sym (t .turned .carried)) (states-same conv all f piece frame-of (t .from .states) before-it few))
 
   goes-on : Come conv (t ∷ ts) (t .to)
   goes-on = record {
@@ -201,11 +220,12 @@ module _ (conv : Converter) (some : 0 < conv .channels) (ts : List (Turn conv)) 
     here = ap (λ n. drop (n * long) (so .input ++ fresh)) one-told ∙ drop-at (so .input) fresh (suc f * long) in-frames;
     told = λ rest ok. subst (λ w. texts (t ∷ ts) ≡ tabulate (lines-of conv w) 0 (t .to .frames)) (sym (append-assoc (so .input) fresh rest)) (told-more rest ok);
     counted = λ rest ok. subst (λ w. t .to .clipped ≡ total (frame-clips conv (whole-input ch w)) 0 (t .to .frames)) (sym (append-assoc (so .input) fresh rest)) (counted-more rest ok);
+    carried = λ rest ok. subst (λ w. InProgress conv (whole-input ch w) (t .to .frames) (t .to .states)) (sym (append-assoc (so .input) fresh rest)) (carried-more rest ok);
   }
 
-come : (conv : Converter) → 0 < conv .channels → (turns : List (Turn conv)) (m : Moment) → LeadTo turns m → Come conv turns m
-come conv some [] m l = begins conv m l
-come conv some (t ∷ ts) m l = subst (Come conv (t ∷ ts)) (l .0) (goes-on conv some ts t (come conv some ts (t .from) (l .1)))
+come : (conv : Converter) → 0 < conv .channels → conv .channels ≤ 6 → (turns : List (Turn conv)) (m : Moment) → LeadTo turns m → Come conv turns m
+come conv some few [] m l = begins conv few m l
+come conv some few (t ∷ ts) m l = subst (Come conv (t ∷ ts)) (l .0) (goes-on conv some few ts t (come conv some few ts (t .from) (l .1)))
 
 -- the input has ended
 module _ (conv : Converter) (some : 0 < conv .channels) (turns : List (Turn conv)) (m : Moment) (few : m .left < frame-length (conv .channels)) (so : Come conv turns m) where
@@ -243,8 +263,8 @@ module _ (conv : Converter) (some : 0 < conv .channels) (turns : List (Turn conv
   }
 
 -- the texts that turns passed on, with the end of what they counted, are the text of the bytes that have come
-pub told-whole : (conv : Converter) → 0 < conv .channels → (turns : List (Turn conv)) (m : Moment) → LeadTo turns m → m .left < frame-length (conv .channels) → ToldWhole conv turns m
-told-whole conv some turns m l few = ended conv some turns m few (come conv some turns m l)
+pub told-whole : (conv : Converter) → 0 < conv .channels → conv .channels ≤ 6 → (turns : List (Turn conv)) (m : Moment) → LeadTo turns m → m .left < frame-length (conv .channels) → ToldWhole conv turns m
+told-whole conv some six turns m l few = ended conv some turns m few (come conv some six turns m l)
 
 -- one turn more
 pub led-more : {conv : Converter} {m next : Moment} {text text' : List ℕ} {n : ℕ} → Led conv m → Turned conv m text next text' n → Led conv next
@@ -252,7 +272,7 @@ led-more {conv} {m} {next} {text} {text'} {n} l t = record { turns = record { fr
 
 pub all-told : (conv : Converter) (size : ℕ) (m : Moment) → decide (held-places conv) ≡ accepted → size ≡ frame-length (conv .channels) → Led conv m → m .left < size → AllTold conv m
 all-told conv size m opens e l few =
-    record { turns = l .turns; led = l .led; told = told-whole conv (some-channel conv opens) (l .turns) m (l .led) (subst (λ k. m .left < k) e few) }
+    record { turns = l .turns; led = l .led; told = told-whole conv (some-channel conv opens) (few-channels conv opens) (l .turns) m (l .led) (subst (λ k. m .left < k) e few) }
 
 -- over the settings
 pub told-report : (s : LineSettings) (turns : List (Turn (converter-of (read-settings s)))) (m : Moment) → decide (opening-places (read-settings s)) ≡ accepted

@@ -13,13 +13,15 @@ ghost use Rattle.level_stream.specs.Buffers.{at-hand, moment, Told, Turn
 use level_input::fill;
 use level_input::move_on;
 use levels::Reported;
+use overs::Progress;
 use reference::Converter;
 
-// Frames that are told, their clips, bytes that have come of the frame at hand, bytes of the text to pass on, and whether every read and
-// write has succeeded.
+// Frames that are told, their clips, what is in progress after them in each channel, bytes that have come of the frame at hand, bytes of the
+// text to pass on, and whether every read and write has succeeded.
 struct State {
     frames: u64,
     clipped: u64,
+    states: [Progress; 6],
     left: usize,
     length: usize,
     going: bool,
@@ -29,6 +31,7 @@ struct State {
 fn one_frame<'a>(
     conv: Converter,
     number: u64,
+    states: [Progress; 6],
     has_after: bool,
     size: usize,
     three: &'a [u8],
@@ -36,7 +39,7 @@ fn one_frame<'a>(
     text: &mut [u8],
 ) -> Reported
     requires { ⌜ (length (now three) ≡ 3 * size) × (864 ≤ length (now text)) ⌝ }
-    ensures { λ r. ⌜ FrameReported conv number (at-hand number «has_after» size (now (three .entry))) (now (samples .entry)) (now (samples .exit)) (now (text .entry)) (now (text .exit)) r ⌝ }
+    ensures { λ r. ⌜ FrameReported conv number states (at-hand number «has_after» size (now (three .entry))) (now (samples .entry)) (now (samples .exit)) (now (text .entry)) (now (text .exit)) r ⌝ }
     ensures { λ r. ⌜ (r .length ≤ 864) × (r .clipped ≤ 28224) ⌝ }
 {
     let end = 2 * size;
@@ -44,6 +47,7 @@ fn one_frame<'a>(
     levels::frame_report(
         conv,
         number,
+        states,
         number > 0,
         &three[0..size],
         &three[size..end],
@@ -72,11 +76,13 @@ fn write_first(to: i32, text: &[u8], n: usize) -> bool
 
 // What is left to do after a read or a write that failed: nothing.
 fn stopped(s: State) -> State
-    ensures { λ r. ⌜ r ≡ record { frames = s .frames; clipped = s .clipped; left = s .left; length = s .length; going = false } ⌝ }
+    ensures { λ r. ⌜ r ≡ record { frames = s .frames; clipped = s .clipped; states = s .states; left = s .left; length = s .length; going = false } ⌝ }
 {
+    let states = s.states;
     State {
         frames: s.frames,
         clipped: s.clipped,
+        states,
         left: s.left,
         length: s.length,
         going: false,
@@ -96,15 +102,27 @@ fn told(
     requires { ⌜ (length (now three) ≡ 3 * size) × (864 ≤ length (now text)) ⌝ }
     requires { ⌜ (s .frames < 100000000000000) × (s .clipped ≤ 28224 * s .frames) ⌝ }
     requires { ⌜ decide (convert-frame-places conv (at-hand (s .frames) (eqb next size) size (now three)) (now samples)) ≡ accepted ⌝ }
-    ensures { λ r. ⌜ Told conv size (moment (s .frames) (s .clipped) (s .left) (now (three .entry))) next (now (text .entry)) (moment (r .frames) (r .clipped) (r .left) (now (three .exit))) (now (text .exit)) (r .length) ⌝ }
+    ensures { λ r. ⌜ Told conv size (moment (s .frames) (s .clipped) (s .states) (s .left) (now (three .entry))) next (now (text .entry)) (moment (r .frames) (r .clipped) (r .states) (r .left) (now (three .exit))) (now (text .exit)) (r .length) ⌝ }
     ensures { λ r. ⌜ (r .clipped ≤ 28224 * r .frames) × (r .length ≤ 864) ⌝ }
 {
     let frames = s.frames;
-    let r = one_frame(conv, frames, next == size, size, three, samples, text);
+    let states = s.states;
+    let r = one_frame(
+        conv,
+        frames,
+        states,
+        next == size,
+        size,
+        three,
+        samples,
+        text,
+    );
+    let carried = r.states;
     move_on(three, size);
     State {
         frames: frames + 1,
         clipped: s.clipped + r.clipped,
+        states: carried,
         left: next,
         length: r.length,
         going: true,
@@ -126,7 +144,7 @@ fn turn(
     requires { ⌜ (s .frames < 100000000000000) × (s .clipped ≤ 28224 * s .frames) ⌝ }
     requires { ⌜ (decide (held-places conv) ≡ accepted) × (size ≡ 4704 * conv .channels) × (length (now samples) ≡ samples-per-frame (conv .rate) * conv .channels) ⌝ }
     ensures { λ r. ⌜ (r .frames ≤ s .frames + 1) × (r .clipped ≤ 28224 * r .frames) ⌝ }
-    ensures { λ r. ⌜ (r .going ≡ true → Turned conv (moment (s .frames) (s .clipped) (s .left) (now (three .entry))) (now (text .entry)) (moment (r .frames) (r .clipped) (r .left) (now (three .exit))) (now (text .exit)) (r .length)) ⌝ }
+    ensures { λ r. ⌜ (r .going ≡ true → Turned conv (moment (s .frames) (s .clipped) (s .states) (s .left) (now (three .entry))) (now (text .entry)) (moment (r .frames) (r .clipped) (r .states) (r .left) (now (three .exit))) (now (text .exit)) (r .length)) ⌝ }
 {
     let end = 2 * size;
     let next = fill(from, &mut three[end..]);
@@ -164,13 +182,16 @@ fn turns(
 ) -> State
     requires { ⌜ (length (now three) ≡ 3 * size) × (864 ≤ length (now text)) ⌝ }
     requires { ⌜ (decide (held-places conv) ≡ accepted) × (size ≡ 4704 * conv .channels) × (length (now samples) ≡ samples-per-frame (conv .rate) * conv .channels) ⌝ }
-    ensures { λ r. ⌜ (r .going ≡ true → r .left < size → AllTold conv (moment (r .frames) (r .clipped) (r .left) (now (three .exit)))) ⌝ }
+    ensures { λ r. ⌜ (r .going ≡ true → r .left < size → AllTold conv (moment (r .frames) (r .clipped) (r .states) (r .left) (now (three .exit)))) ⌝ }
 {
     let end = 2 * size;
     let first = fill(from, &mut three[size..end]);
+    let none = overs::none();
+    let states = [none; 6];
     let mut s = State {
         frames: 0,
         clipped: 0,
+        states,
         left: first.n,
         length: 0,
         going: !first.failed,

@@ -17,6 +17,8 @@ use Rattle.reference.specs.Scaling.{clips}
 use Rattle.reference.specs.declared.Converter.{Converter}
 use Rattle.reference.proofs.Frames.{some-samples, frame-samples}
 use Rattle.gain.proofs.Tallies.{tally-clipped, tally-few}
+use Rattle.overs.specs.Overs.{overs-of}
+use Rattle.overs.specs.declared.Progress.{Progress}
 use Rattle.levels.specs.Levels.{extreme, level, level-of}
 
 -- extremes of numbers that are the same
@@ -52,9 +54,9 @@ module _ (conv : Converter) (r : Run) (some : 0 < conv .channels) (few : conv .c
       getD-tabulate (channel-clips conv r) 0 6 c 0 (omega arith)
       ∙ rw (zero-add c, lt-ltb c ch l, one, one-mul per, zero-mul per) refl
 
-  pub level-is : (c : ℕ) → c < ch → level-of (stats conv r .clipped) (samples conv r) ch c ≡ level conv r 0 c
+  pub level-is : (c : ℕ) → c < ch → (p : Progress) → level-of (stats conv r .clipped) (samples conv r) ch c p ≡ level conv r (overs-of (samples conv r) ch c p .count) 0 c
   unfolding level level-of
-  level-is c l =
+  level-is c l p =
       let pick : (p : ℤ → ℤ → ℤ) → extreme p (λ n. getD (samples conv r) (n * ch + c) (pos 0)) 0 per ≡ extreme p (sample conv r c) (0 * per) per =
       λ p. extreme-same p (λ n. getD (samples conv r) (n * ch + c) (pos 0)) (sample conv r c) 0 (0 * per) per (some-samples (conv .rate)) (λ k h. rw (zero-mul per, zero-add k) (sample-at c l k h)) in
       rw (clips-at c l, each, pick lesser, pick greater) refl

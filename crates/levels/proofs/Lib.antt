@@ -1,3 +1,4 @@
 pub mod Frames
+mod Quiet
 pub mod Whole
 pub mod Reports

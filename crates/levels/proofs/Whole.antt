@@ -2,26 +2,32 @@
 use mathlib.Core.Path.{_≡_, refl, sym, ap, _∙_}
 use mathlib.Core.List.{List, _++_}
 use mathlib.Core.Logic.{⊎-elim}
-use Prim.Native.Nat.{ℕ, zero, suc, _+_, _-_, _*_, _≤_, _<_}
-use native.Mathlib.Nat.{one-mul, zero-add, zero-mul, div-mul-le-self}
+use Prim.Native.Nat.{ℕ, zero, suc, _+_, _-_, _*_, _/_, _≤_, _<_}
+use native.Mathlib.Nat.{one-mul, zero-add, zero-mul, div-self, div-mul-le-self}
 use native.Mathlib.Omega.{arith}
 use borrow.Author.Tests.{lt-ltb, le-ltb}
 use lib.IntN.{ℤ}
-use lib.ListN.{length, take, drop, length-drop, replicate, length-replicate, take-append-drop}
+use lib.ListN.{length, getD, take, drop, length-drop, replicate, length-replicate, take-append-drop}
 use lib.Seq.{length-take-le, take-append-le, drop-append-le}
 use Rattle.numbers.specs.Extremes.{lesser, greater}
-use Rattle.numbers.specs.Lists.{count}
-use Rattle.numbers.proofs.Lists.{tabulate-same, total-same, below-or, part-end}
+use Rattle.numbers.specs.Lists.{tabulate, count}
+use Rattle.numbers.proofs.Lists.{getD-tabulate, tabulate-same, total-same, below-or, part-end}
 use Rattle.reference.specs.Frames.{Run, frame-length, frame-count, frame, idle, neighbour, before-frame, after-frame, sequence, channel-byte}
 use Rattle.reference.specs.Scaling.{clamp}
-use Rattle.reference.specs.Output.{samples-per-frame, sample, clipped, frame-clips}
+use Rattle.reference.specs.Output.{samples-per-frame, sample, clipped, samples, frame-clips}
 use Rattle.reference.specs.declared.Converter.{Converter}
 use Rattle.reference.proofs.Frames.{some-samples, channel-left, channel-right, channel-frame}
 use Rattle.reference.proofs.Locality.{reach-small}
 use Rattle.joins.proofs.Pieces.{PieceOf, unclamped-same, piece-clips}
+use Rattle.overs.specs.Overs.{in-progress, none, channel, overs-of}
+use Rattle.overs.specs.Joins.{frame-overs}
+use Rattle.overs.specs.declared.Progress.{Progress}
+use Rattle.overs.specs.declared.OverCount.{OverCount}
+use Rattle.overs.proofs.Laws.{answer-is}
+use Rattle.overs.proofs.Joins.{run-channel}
 use Rattle.report_lines.specs.Text.{joined}
 use Rattle.report_lines.specs.Lines.{level-line}
-use Rattle.levels.specs.Levels.{extreme, level, frame-lines, whole-input, FrameOf}
+use Rattle.levels.specs.Levels.{extreme, level, lines-with, frame-lines, states-after, whole-input, FrameOf, InProgress, piece-lines, piece-states}
 use Rattle.levels.proofs.Frames.{extreme-same}
 
 module _ (ch : ℕ) (input : List ℕ) where
@@ -33,11 +39,11 @@ module _ (ch : ℕ) (input : List ℕ) where
   frames = take (N * frame-length ch) input
 
   -- an absent neighbour
-  abbrev none : List ℕ
-  none = replicate (frame-length ch) idle
+  abbrev absent : List ℕ
+  absent = replicate (frame-length ch) idle
 
-  none-long : length none ≡ 1 * frame-length ch
-  none-long = length-replicate (frame-length ch) idle ∙ omega arith
+  absent-long : length absent ≡ 1 * frame-length ch
+  absent-long = length-replicate (frame-length ch) idle ∙ omega arith
 
   fit : N * frame-length ch ≤ length input
   unfolding frame-count
@@ -65,8 +71,8 @@ module _ (ch : ℕ) (input : List ℕ) where
   inside : (c q : ℕ) → c < ch → q < 4704 * N → channel-byte ch (sequence ch (whole-input ch input)) c (4704 * 1 + q) ≡ channel-byte ch input c q
   unfolding sequence whole-input neighbour
   inside c q l h =
-      channel-right ch c none (frames ++ none) 1 none-long q
-      ∙ channel-left ch c frames none N long q l h
+      channel-right ch c absent (frames ++ absent) 1 absent-long q
+      ∙ channel-left ch c frames absent N long q l h
       ∙ sym (channel-left ch c frames (drop (N * frame-length ch) input) N long q l h)
       ∙ ap (λ z. channel-byte ch z c q) split
 
@@ -86,7 +92,7 @@ module _ (conv : Converter) (input : List ℕ) (f : ℕ) (piece : Run) (here : F
   before-same zero e c p l h =
       rw (here .has-before, le-ltb 0 f (omega arith))
       (sym (channel-frame ch c (sequence ch whole) f p l h
-      ∙ rw (e, zero-add p) (channel-left ch c (none ch input) (frames ch input ++ none ch input) 1 (none-long ch input) p l (omega arith))))
+      ∙ rw (e, zero-add p) (channel-left ch c (absent ch input) (frames ch input ++ absent ch input) 1 (absent-long ch input) p l (omega arith))))
   before-same (suc g) e c p l h =
       let some : 0 < f = omega arith in
       let i : 4704 * f + p ≡ 4704 * 1 + (4704 * (f - 1) + p) = omega arith in
@@ -110,7 +116,7 @@ module _ (conv : Converter) (input : List ℕ) (f : ℕ) (piece : Run) (here : F
           let i : 4704 * suc (f + 1) + p ≡ 4704 * 1 + (4704 * N ch input + p) = omega (arith, here .inside) in
           rw (here .has-after, le-ltb (suc f) (N ch input) end)
           (sym (channel-frame ch c (sequence ch whole) (suc (f + 1)) p l h
-          ∙ rw i (channel-right ch c (none ch input) (frames ch input ++ none ch input) 1 (none-long ch input) _ ∙ channel-right ch c (frames ch input) (none ch input) (N ch input) (long ch input) p)))
+          ∙ rw i (channel-right ch c (absent ch input) (frames ch input ++ absent ch input) 1 (absent-long ch input) _ ∙ channel-right ch c (frames ch input) (absent ch input) (N ch input) (long ch input) p)))
 
   pub piece-of : PieceOf conv whole f 1 piece
   unfolding whole-input neighbour frame
@@ -151,17 +157,46 @@ module _ (conv : Converter) (input : List ℕ) (f : ℕ) (piece : Run) (here : F
   channel-same : (c : ℕ) → c < ch → count (clipped conv piece c) (0 * per) per ≡ count (clipped conv whole c) (f * per) per
   channel-same c l = rw zero-mul (rw one-mul at (piece-clips conv whole f 1 piece piece-of c l))
 
-  level-same : (c : ℕ) → c < ch → level conv piece 0 c ≡ level conv whole f c
-  unfolding level sample
-  level-same c l =
+  sample-same : (c k : ℕ) → c < ch → k < per → sample conv piece c k ≡ sample conv whole c (f * per + k)
+  unfolding sample
+  sample-same c k l h = ap clamp (unclamped-same conv whole f 1 piece piece-of c k l (omega arith))
+
+  level-same : (over c : ℕ) → c < ch → level conv piece over 0 c ≡ level conv whole over f c
+  unfolding level
+  level-same over c l =
       let pick : (p : ℤ → ℤ → ℤ) → extreme p (sample conv piece c) (0 * per) per ≡ extreme p (sample conv whole c) (f * per) per =
       λ p. extreme-same p (sample conv piece c) (sample conv whole c) (0 * per) (f * per) per (some-samples (conv .rate))
-      (λ k h. rw (zero-mul per, zero-add k) (ap clamp (unclamped-same conv whole f 1 piece piece-of c k l (omega arith)))) in
+      (λ k h. rw (zero-mul per, zero-add k) (sample-same c k l h)) in
       rw (pick lesser, pick greater, channel-same c l) refl
 
-  pub lines-same : (number : ℕ) → frame-lines conv piece number 0 ≡ frame-lines conv whole number f
-  unfolding frame-lines
-  lines-same number = ap joined (tabulate-same _ _ 0 0 ch (λ c l. rw zero-add (ap (level-line number c) (level-same c l))))
+  -- the piece's samples of a channel are the frame's
+  frame-channel : (c : ℕ) → c < ch → channel (samples conv piece) ch c ≡ tabulate (sample conv whole c) (f * per) per
+  unfolding frame-count
+  frame-channel c l =
+      let one : length (piece .frames) / frame-length ch * per ≡ per = rw (here .frames, frame-long ch input f (here .inside), div-self {n = frame-length ch} (omega (arith, here .some-channel))) (one-mul per) in
+      run-channel conv piece c l
+      ∙ ap (tabulate (sample conv piece c) 0) one
+      ∙ tabulate-same (sample conv piece c) (sample conv whole c) 0 (f * per) per (λ k h. rw zero-add (sample-same c k l h))
+
+  module _ (states : List Progress) (before : InProgress conv whole f states) where
+    overs-same : (c : ℕ) → c < ch
+        → overs-of (samples conv piece) ch c (getD states c none) ≡ record { count = frame-overs conv whole c f; next = in-progress (sample conv whole c) (suc f * per) }
+    unfolding frame-overs
+    overs-same c l =
+        let place : f * per + per ≡ suc f * per = omega arith in
+        rw (before .held c l, ← place) (answer-is (sample conv whole c) (samples conv piece) ch c (f * per) per (frame-channel c l))
+
+    pub lines-same : (number : ℕ) → piece-lines conv number states piece ≡ frame-lines conv whole number f
+    unfolding piece-lines frame-lines lines-with
+    lines-same number =
+        ap joined (tabulate-same _ _ 0 0 ch (λ c l.
+        rw zero-add (ap (level-line number c) (ap (λ (o : OverCount). level conv piece (o .count) 0 c) (overs-same c l) ∙ level-same (frame-overs conv whole c f) c l))))
+
+    pub states-same : ch ≤ 6 → InProgress conv whole (suc f) (piece-states conv states piece)
+    unfolding piece-states states-after
+    states-same few = record {
+      held = λ c l. getD-tabulate _ 0 6 c none (omega arith) ∙ rw (zero-add c, lt-ltb c ch l) (ap (λ (o : OverCount). o .next) (overs-same c l));
+    }
 
   pub clips-same : frame-clips conv piece 0 ≡ frame-clips conv whole f
   unfolding frame-clips

@@ -10,8 +10,11 @@ ghost use Rattle.report_lines.specs.Text.{joined, Printed};
 ghost use Rattle.report_lines.specs.Lines.{level-line};
 ghost use Rattle.reference.specs.Refusals.{error-decision, refusal-number};
 ghost use Rattle.reference.specs.Promises.{OpeningPromise};
+ghost use Rattle.overs.specs.Overs.{none, overs-of};
 ghost use Rattle.levels.specs.Levels as levels;
 ghost use Rattle.levels.specs.Levels.{FrameReported};
+use overs::OverCount;
+use overs::Progress;
 use reference::ConvertStats;
 use reference::Converter;
 use reference::Gain;
@@ -22,11 +25,13 @@ use reference::Verdict;
 use report_lines::Level;
 use settings_line::LineSettings;
 
-// What is told of a frame: how the call was decided, how long its lines are, and its clips over all channels.
+// What is told of a frame: how the call was decided, how long its lines are, its clips over all channels, and what is in progress after it
+// in each channel.
 pub struct Reported {
     pub verdict: Verdict,
     pub length: usize,
     pub clipped: u64,
+    pub states: [Progress; 6],
 }
 
 // Opens the converter of a line's settings.
@@ -106,27 +111,45 @@ fn extremes_of(samples: &[i32], ch: usize, c: usize) -> Extremes
     Extremes { low, high }
 }
 
-// A later rule for an over changes this function alone.
-fn over(clips: u64) -> u64
-    ensures { λ r. ⌜ r ≡ levels.over-of clips ⌝ }
+// Overs of channel c from what is in progress before it: none where its lowest and highest sample lie between the ends of full scale.
+fn overs_of(samples: &[i32], ch: usize, c: usize, e: Extremes, p: Progress) -> OverCount
+    requires { ⌜ (c < ch) × (ch ≤ length (now samples)) × (length (now samples) ≡ length (now samples) / ch * ch) ⌝ }
+    requires { ⌜ e .low ≡ levels.extreme extremes.lesser (λ n. getD (now samples) (n * ch + c) (pos 0)) 0 (length (now samples) / ch) ⌝ }
+    requires { ⌜ e .high ≡ levels.extreme extremes.greater (λ n. getD (now samples) (n * ch + c) (pos 0)) 0 (length (now samples) / ch) ⌝ }
+    ensures { λ r. ⌜ r ≡ overs-of (now (samples .entry)) ch c p ⌝ }
 {
-    if clips > 0 { 1 } else { 0 }
+    if -8388608 < e.low {
+        if e.high < 8388607 {
+            let next = overs::none();
+            return OverCount { count: 0, next };
+        }
+    }
+    overs::overs(samples, ch, c, p)
 }
 
-fn level(stats: ConvertStats, samples: &[i32], ch: usize, c: usize) -> Level
-    requires { ⌜ (c < ch) × (ch ≤ 6) × (ch ≤ length (now samples)) ⌝ }
-    ensures { λ r. ⌜ r ≡ levels.level-of (stats .clipped) (now (samples .entry)) ch c ⌝ }
+// What is told of a channel of a frame, and what is in progress after it.
+struct ChannelTold {
+    level: Level,
+    next: Progress,
+}
+
+fn level(stats: ConvertStats, samples: &[i32], ch: usize, c: usize, p: Progress) -> ChannelTold
+    requires { ⌜ (c < ch) × (ch ≤ 6) × (ch ≤ length (now samples)) × (length (now samples) ≡ length (now samples) / ch * ch) ⌝ }
+    ensures { λ r. ⌜ r .level ≡ levels.level-of (stats .clipped) (now (samples .entry)) ch c p ⌝ }
+    ensures { λ r. ⌜ r .next ≡ overs-of (now (samples .entry)) ch c p .next ⌝ }
 {
     let counts = stats.clipped;
     let clipped = counts[c];
     let e = extremes_of(samples, ch, c);
-    let over = over(clipped);
-    Level {
+    let over = overs_of(samples, ch, c, e, p);
+    let next = over.next;
+    let level = Level {
         clipped,
         low: e.low,
         high: e.high,
-        over,
-    }
+        over: over.count,
+    };
+    ChannelTold { level, next }
 }
 
 // Clips over all channels.
@@ -145,26 +168,49 @@ fn clips(stats: ConvertStats, ch: usize) -> u64
     sum
 }
 
-// The lines of all channels, from the start of `out` on.
-fn lines(stats: ConvertStats, samples: &[i32], ch: usize, number: u64, out: &mut [u8]) -> usize
-    requires { ⌜ (0 < ch) × (ch ≤ 6) × (ch ≤ length (now samples)) × (864 ≤ length (now out)) ⌝ }
-    ensures { λ r. ⌜ Printed (joined (tabulate (λ c. level-line number c (levels.level-of (stats .clipped) (now (samples .entry)) ch c)) 0 ch)) (now (out .entry)) 0 (now (out .exit)) r ⌝ }
-    ensures { λ r. ⌜ r ≤ 864 ⌝ }
+// How long the lines of a frame are, and what is in progress after it in each channel.
+struct LinesTold {
+    length: usize,
+    states: [Progress; 6],
+}
+
+// The lines of all channels, from the start of `out` on; `states` is what is in progress before the frame.
+fn lines(
+    stats: ConvertStats,
+    samples: &[i32],
+    ch: usize,
+    number: u64,
+    states: [Progress; 6],
+    out: &mut [u8],
+) -> LinesTold
+    requires { ⌜ (0 < ch) × (ch ≤ 6) × (ch ≤ length (now samples)) × (length (now samples) ≡ length (now samples) / ch * ch) × (864 ≤ length (now out)) ⌝ }
+    ensures { λ r. ⌜ Printed (joined (tabulate (λ c. level-line number c (levels.level-of (stats .clipped) (now (samples .entry)) ch c (getD states c none))) 0 ch)) (now (out .entry)) 0 (now (out .exit)) (r .length) ⌝ }
+    ensures { λ r. ⌜ (r .length ≤ 864) × (r .states ≡ levels.states-after (now (samples .entry)) ch ch states) ⌝ }
 {
+    let none = overs::none();
+    let mut next = [none; 6];
     let mut at = 0usize;
     let mut c = 0usize;
     while c < ch {
-        let l = level(stats, samples, ch, c);
+        let p = states[c];
+        let told = level(stats, samples, ch, c, p);
+        let after = told.next;
+        next[c] = after;
+        let l = told.level;
         at = report_lines::level_line(out, at, number, c as u64, l);
         c += 1;
     }
-    at
+    LinesTold {
+        length: at,
+        states: next,
+    }
 }
 
-// Converts one frame and prints its lines; a refused frame prints nothing.
+// Converts one frame and prints its lines, `states` being what is in progress before it in each channel; a refused frame prints nothing.
 pub fn frame_report<'a>(
     conv: Converter,
     number: u64,
+    states: [Progress; 6],
     has_before: bool,
     before: &'a [u8],
     frame: &'a [u8],
@@ -174,7 +220,7 @@ pub fn frame_report<'a>(
     out: &mut [u8],
 ) -> Reported
     requires { ⌜ 864 ≤ length (now out) ⌝ }
-    ensures { λ r. ⌜ FrameReported conv number (run «has_before» (now (before .entry)) (now (frame .entry)) «has_after» (now (after .entry))) (now (samples .entry)) (now (samples .exit)) (now (out .entry)) (now (out .exit)) r ⌝ }
+    ensures { λ r. ⌜ FrameReported conv number states (run «has_before» (now (before .entry)) (now (frame .entry)) «has_after» (now (after .entry))) (now (samples .entry)) (now (samples .exit)) (now (out .entry)) (now (out .exit)) r ⌝ }
     ensures { λ r. ⌜ (r .length ≤ 864) × (r .clipped ≤ 28224) ⌝ }
 {
     let done = scarletbook_pcm::convert_frame_parts(
@@ -191,18 +237,21 @@ pub fn frame_report<'a>(
         Verdict::Accepted => {
             let stats = done.stats;
             let ch = conv.channels as usize;
-            let length = lines(stats, samples, ch, number, out);
+            let told = lines(stats, samples, ch, number, states, out);
             let clipped = clips(stats, ch);
+            let next = told.states;
             Reported {
                 verdict,
-                length,
+                length: told.length,
                 clipped,
+                states: next,
             }
         }
         Verdict::Refused(_) => Reported {
             verdict,
             length: 0,
             clipped: 0,
+            states,
         },
     }
 }

@@ -4,3 +4,4 @@ mod Done
 mod WavFiles
 pub mod ExactWav
 pub mod ExactTurns
+pub mod ExactOvers

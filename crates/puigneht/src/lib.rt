@@ -33,10 +33,12 @@ use reference::Opened;
 use reference::Verdict;
 
 mod desk;
+mod studio;
 mod turns;
 mod wav_files;
 
 pub use desk::puigneht_convert_desk;
+pub use studio::puigneht_overs;
 pub use turns::puigneht_turns;
 pub use wav_files::puigneht_wav_convert;
 pub use wav_files::puigneht_wav_read;

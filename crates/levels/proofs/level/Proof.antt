@@ -1,9 +1,10 @@
 -- `level` meets its contract.
 use borrow.Author.Needs.{needs}
-use mathlib.Core.Path.{_≡_, refl}
+use mathlib.Core.Path.{_≡_, refl, ap}
 use mir.Syntax.{w32}
 use mir.Val.{toZ, ofZ}
 use mir.Facts.{toZ-ofZ}
+use Rattle.overs.specs.declared.OverCount.{OverCount}
 use Rattle.levels.specs.Levels.{level-of}
 use Rattle.levels.proofs.level.Statement.{statement}
 use Rattle.levels.proofs.level.Tie as tie
@@ -17,16 +18,18 @@ array-read-clipped c = search needs
 extremes-of-requires : tie.Need-extremes-of-requires
 extremes-of-requires c κs = search needs
 
-over-requires : tie.Need-over-requires
-over-requires c κs = search needs
+overs-of-requires : tie.Need-overs-of-requires
+overs-of-requires c κs = search needs
 
 returns : tie.Need-returns
 unfolding level-of
-returns c = let e = c .before .before .extremes-of in
+returns c =
+    let o = c .before .before .overs-of in
+    let e = c .before .before .before .extremes-of in
     let low : toZ w32 (ofZ w32 (e .result .low)) ≡ e .result .low = toZ-ofZ (record { sfits = c .struct-told .given .0 .1 }) in
     let high : toZ w32 (ofZ w32 (e .result .high)) ≡ e .result .high = toZ-ofZ (record { sfits = c .struct-told .given .1 .0 .1 }) in
-    rw (low, high, e .ensures .0, e .ensures .1, c .before .over .ensures) refl
+    (rw (low, high, e .ensures .0, e .ensures .1, o .ensures) refl, ap (λ (o : OverCount). o .next) (o .ensures))
 
 pub level-spec : {M : Type 1} → statement M
 level-spec =
-    tie.close (tie.spec mul-clipped array-read-clipped extremes-of-requires over-requires returns)
+    tie.close (tie.spec mul-clipped array-read-clipped extremes-of-requires overs-of-requires returns)

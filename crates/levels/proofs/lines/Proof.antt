@@ -1,16 +1,25 @@
 -- `lines` meets its contract.
+use mathlib.Core.Bool.{Bool, true, false, cond}
 use mathlib.Core.Path.{_≡_, refl, sym, ap, _∙_}
 use mathlib.Core.List.{List, [], _∷_, _++_, append-nil, append-assoc}
-use Prim.Native.Nat.{ℕ, suc, _+_, _-_, _*_, _≤_}
+use Prim.Native.Nat.{ℕ, suc, _+_, _-_, _*_, _≤_, _<_}
 use native.Mathlib.Omega.{arith}
 use borrow.Author.Needs.{needs}
+use borrow.Author.Tests.{lt-ltb, le-ltb, eqb-true, eqb-false}
+use mathlib.Core.Logic.{⊎-elim}
 use native.Mathlib.Nat.{zero-add}
-use lib.ListN.{length}
+use lib.Dec.{eqb, ltb}
+use lib.IntN.{ℤ}
+use lib.ListN.{length, getD, set, replicate, length-set}
+use lib.Seq.{getD-set-same, getD-set-other}
 use Rattle.numbers.specs.Lists.{tabulate}
+use Rattle.numbers.proofs.Lists.{getD-tabulate, length-tabulate, is-tabulate, below-or}
 use Rattle.report_lines.specs.Text.{joined, Printed}
 use Rattle.report_lines.specs.Lines.{level-line}
 use Rattle.report_lines.proofs.Printing.{then}
-use Rattle.levels.specs.Levels.{level-of}
+use Rattle.overs.specs.Overs.{none, overs-of}
+use Rattle.overs.specs.declared.Progress.{Progress}
+use Rattle.levels.specs.Levels.{level-of, states-after}
 use Rattle.levels.proofs.Reports.{none-printed}
 use Rattle.levels.proofs.lines.Statement.{statement}
 use Rattle.levels.proofs.lines.Tie as tie
@@ -28,18 +37,67 @@ more f n p q e =
     let i : n + 1 ≡ suc n = omega arith in
     rw (i, zero-add n, joined-last (tabulate f 0 n) (f n), ← e) (then p q)
 
+-- the states after n channels, and one more
+module _ (items : List ℤ) (ch : ℕ) (states : List Progress) where
+  abbrev next-of : ℕ → Progress
+  next-of c = overs-of items ch c (getD states c none) .next
+
+  states-none : replicate 6 none ≡ states-after items ch 0 states
+  unfolding states-after tabulate
+  states-none = refl
+
+  states-more : (n : ℕ) {p : Progress} → n < 6 → p ≡ next-of n → set (states-after items ch n states) n p ≡ states-after items ch (n + 1) states
+  unfolding states-after
+  states-more n {p} l e = is-tabulate (λ c. cond (ltb c (n + 1)) (next-of c) none) 0 6 none (set so-far n p) (length-set so-far n p ∙ length-tabulate _ 0 6) (λ i m. at i m (eqb i n) refl)
+    where
+      so-far : List Progress
+      so-far = tabulate (λ c. cond (ltb c n) (next-of c) none) 0 6
+
+      kept : (i : ℕ) → i < 6 → (i ≡ n → ⊥) → getD (set so-far n p) i none ≡ cond (ltb i n) (next-of i) none
+      kept i m h = getD-set-other so-far n i p none h ∙ getD-tabulate _ 0 6 i none m ∙ rw zero-add
+
+      at : (i : ℕ) → i < 6 → (b : Bool) → eqb i n ≡ b → getD (set so-far n p) i none ≡ cond (ltb (0 + i) (n + 1)) (next-of (0 + i)) none
+      at i m true h =
+          let j : i ≡ n = eqb-true i n h in
+          rw (zero-add i, lt-ltb i (n + 1) (omega arith), j) (getD-set-same so-far n p none (omega (arith, length-tabulate (λ c. cond (ltb c n) (next-of c) none) 0 6)) ∙ e)
+      at i m false h =
+          let o = eqb-false i n h in
+          kept i m o
+          ∙ rw zero-add (⊎-elim
+          (λ less. rw (lt-ltb i n less, lt-ltb i (n + 1) (omega arith)))
+          (λ more. rw (le-ltb i n more, le-ltb i (n + 1) (⊎-elim (λ less. absurd (o (omega arith))) (λ past. past) (below-or i (n + 1)))))
+          (below-or i n))
+
 abbrev Inv-loop : tie.InvT-loop
-Inv-loop stats samples ch number out₀ at₀ c₀ out at c = (c ≤ ch) × (at ≤ 144 * c) × (length out ≡ length out₀) × Printed (joined (tabulate (λ c. level-line number c (level-of (stats .clipped) samples ch c)) 0 c)) out₀ 0 out at
+Inv-loop stats samples ch number out₀ states next₀ at₀ c₀ out next at c =
+    (c ≤ ch) × (at ≤ 144 * c) × (length out ≡ length out₀) × (next ≡ states-after samples ch c states)
+    × Printed (joined (tabulate (λ c. level-line number c (level-of (stats .clipped) samples ch c (getD states c none))) 0 c)) out₀ 0 out at
 
 abbrev μ-loop : tie.MeasureT-loop
-μ-loop stats samples ch number out₀ at₀ c₀ out at c = ch - c
+μ-loop stats samples ch number out₀ states next₀ at₀ c₀ out next at c = ch - c
 
 loop-holds : tie.Need-loop-holds Inv-loop μ-loop
 unfolding tabulate joined
-loop-holds c = (omega arith, omega arith, refl, none-printed (denote.Ref.now (c .before .args .out)))
+loop-holds c = let a = c .before .before .args in
+    (omega arith, omega arith, refl, rw (c .none .ensures) (states-none (denote.Ref.now (a .samples)) (a .ch) (a .t5)), none-printed (denote.Ref.now (a .out)))
+
+none-requires : tie.Need-none-requires Inv-loop μ-loop
+none-requires c κs = search needs
+
+mul-p : tie.Need-mul-p Inv-loop μ-loop
+mul-p c = search needs
+
+array-copy-out-p : tie.Need-array-copy-out-p Inv-loop μ-loop
+array-copy-out-p c = search needs
 
 level-requires : tie.Need-level-requires Inv-loop μ-loop
 level-requires c κs = search needs
+
+mul-next : tie.Need-mul-next Inv-loop μ-loop
+mul-next c = search needs
+
+array-set-from-next : tie.Need-array-set-from-next Inv-loop μ-loop
+array-set-from-next c = search needs
 
 level-line-requires : tie.Need-level-line-requires Inv-loop μ-loop
 level-line-requires c κs = search needs
@@ -51,14 +109,17 @@ loop-less : tie.Need-loop-less Inv-loop μ-loop
 loop-less c = search needs
 
 loop-again : tie.Need-loop-again Inv-loop μ-loop
-loop-again c = let l = c .before .before .before .before .before .before .loop in
-    let a = c .before .before .before .before .before .before .before .before .args in
-    let p = c .before .before .level-line in
-    let told = c .before .before .before .before .level .ensures in (
+loop-again c = let printed = c .before .before in
+    let put = printed .level-line in
+    let told = printed .before .before .before .before in
+    let at-loop = told .before .before .before in
+    let l = at-loop .loop in
+    let a = at-loop .before .before .before .args in (
       omega arith,
-      omega (arith, p .ensures .1),
-      p .kept .0 ∙ l .inv .2,
-      more (λ c. level-line (a .number) c (level-of (a .stats .clipped) (denote.Ref.now (a .samples)) (a .ch) c)) (l .c) (l .inv .3) (p .ensures .0) (ap (level-line (a .number) (l .c)) told),
+      omega (arith, put .ensures .1),
+      put .kept .0 ∙ l .inv .2,
+      rw (l .inv .3) (states-more (denote.Ref.now (a .samples)) (a .ch) (a .t5) (l .c) (omega arith) (told .level .ensures .1)),
+      more (λ c. level-line (a .number) c (level-of (a .stats .clipped) (denote.Ref.now (a .samples)) (a .ch) c (getD (a .t5) c none))) (l .c) (l .inv .4) (put .ensures .0) (ap (level-line (a .number) (l .c)) (told .level .ensures .0)),
     )
 
 same-length : tie.Need-same-length Inv-loop μ-loop
@@ -66,7 +127,8 @@ same-length c = search needs
 
 returns : tie.Need-returns Inv-loop μ-loop
 returns c = let l = c .before .loop in
-    let e : l .c ≡ c .before .before .before .args .ch = omega arith in (rw e at (l .inv .3), omega arith)
+    let e : l .c ≡ c .before .before .before .before .args .ch = omega arith in
+    (rw e at (l .inv .4), (omega arith, rw e at (l .inv .3)))
 
 pub lines-spec : {M : Type 1} → statement M
 lines-spec =
@@ -74,8 +136,13 @@ lines-spec =
     (tie.spec
     Inv-loop
     μ-loop
+    none-requires
     loop-holds
+    mul-p
+    array-copy-out-p
     level-requires
+    mul-next
+    array-set-from-next
     level-line-requires
     add-c
     loop-less

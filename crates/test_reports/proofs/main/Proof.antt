@@ -5,10 +5,10 @@ use Rattle.test_reports.proofs.main.Statement.{statement}
 use Rattle.test_reports.proofs.main.Tie as tie
 
 abbrev Inv-loop : tie.InvT-loop
-Inv-loop k₀ t2 t3 t4 t5 k = k ≤ 66
+Inv-loop k₀ t2 t3 t4 t5 k = k ≤ 84
 
 abbrev μ-loop : tie.MeasureT-loop
-μ-loop k₀ t2 t3 t4 t5 k = 66 - k
+μ-loop k₀ t2 t3 t4 t5 k = 84 - k
 
 loop-holds : tie.Need-loop-holds Inv-loop μ-loop
 loop-holds c = search needs

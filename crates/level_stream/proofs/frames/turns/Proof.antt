@@ -1,13 +1,13 @@
 -- `turns` meets its contract.
-use mathlib.Core.Path.{_≡_, refl}
+use mathlib.Core.Path.{_≡_, refl, ap}
 use mathlib.Core.Bool.{true}
-use mathlib.Core.List.{[], _∷_}
-use Prim.Native.Nat.{_+_, _*_, _≤_}
+use mathlib.Core.List.{[]}
+use Prim.Native.Nat.{_+_, _*_, _≤_, _<_}
 use native.Mathlib.Omega.{arith}
 use borrow.Author.Needs.{needs}
 use borrow.Author.Tests.{eqb-true}
-use lib.ListN.{length}
-use Rattle.level_stream.specs.Buffers.{moment, Led}
+use lib.ListN.{length, replicate}
+use Rattle.level_stream.specs.Buffers.{moment, Led, AllTold}
 use Rattle.level_stream.proofs.Whole.{led-more, all-told}
 use Rattle.level_stream.proofs.frames.turns.Statement.{statement}
 use Rattle.level_stream.proofs.frames.turns.Tie as tie
@@ -15,7 +15,7 @@ use Rattle.level_stream.proofs.frames.turns.Tie as tie
 abbrev Inv-loop : tie.InvT-loop
 Inv-loop conv size from to three₀ samples₀ text₀ end s₀ more₀ three samples text s more =
     (length three ≡ length three₀) × (length text ≡ length text₀) × (length samples ≡ length samples₀) × (s .frames + more ≤ 100000000000000) × (s .clipped ≤ 28224 * s .frames)
-    × (s .going ≡ true → Led conv (moment (s .frames) (s .clipped) (s .left) three))
+    × (s .going ≡ true → Led conv (moment (s .frames) (s .clipped) (s .states) (s .left) three))
 
 abbrev μ-loop : tie.MeasureT-loop
 μ-loop conv size from to three₀ samples₀ text₀ end s₀ more₀ three samples text s more = more
@@ -35,8 +35,11 @@ part-fill-end c = search needs
 fill-requires : tie.Need-fill-requires Inv-loop μ-loop
 fill-requires c κs = search needs
 
+none-requires : tie.Need-none-requires Inv-loop μ-loop
+none-requires c κs = search needs
+
 loop-holds : tie.Need-loop-holds Inv-loop μ-loop
-loop-holds c = (search needs, search needs, search needs, omega arith, omega arith, λ _. record { turns = []; led = record { came = omega arith; room = omega arith; frames = refl; clipped = refl } })
+loop-holds c = (search needs, search needs, search needs, omega arith, omega arith, λ _. record { turns = []; led = record { came = omega arith; room = omega arith; frames = refl; clipped = refl; states = ap (replicate 6) (c .before .none .ensures) } })
 
 turn-requires : tie.Need-turn-requires Inv-loop μ-loop
 turn-requires c κs = ((omega arith, omega arith, omega (arith, eqb-true)), ((omega arith, omega arith), (search needs, search needs, search needs)))
@@ -48,9 +51,19 @@ loop-less : tie.Need-loop-less Inv-loop μ-loop
 loop-less c = search needs
 
 loop-again : tie.Need-loop-again Inv-loop μ-loop
-loop-again c = let t = c .before .before .before .before .before .turn in
-    let l = c .before .before .before .before .before .before .before .before .before .before .before .before .before .loop in
-    (search needs, search needs, search needs, omega arith, omega arith, λ g. led-more (l .inv .5 (c .before .before .before .before .before .before .before .before .before .before .before .if1 .taken)) (t .ensures .1 g))
+loop-again c = let turned = c .before .before .before .before .before in
+    let full = turned .before .before .before .before .before in
+    let going = full .before in
+    let l = going .before .before .loop in
+    (search needs, search needs, search needs, omega arith, omega arith, λ g. led-more (l .inv .5 (going .if1 .taken)) (turned .turn .ensures .1 g))
+
+-- what the loop left, from its place
+ended : (c : tie.At-loop Inv-loop μ-loop) → let read = c .before .before .before .before in
+    let a = read .before .before .before .before .before .args in
+    c .loop .s .going ≡ true → c .loop .s .left < a .size → AllTold (a .conv) (moment (c .loop .s .frames) (c .loop .s .clipped) (c .loop .s .states) (c .loop .s .left) (c .loop .three))
+ended c g few = let read = c .before .before .before .before in
+    let s = read .before .before .before .before .before in
+    all-told (s .args .conv) (s .args .size) _ (s .pre .1 .0) (s .pre .1 .1) (c .loop .inv .5 g) few
 
 same-length : tie.Need-same-length Inv-loop μ-loop
 same-length c = search needs
@@ -62,7 +75,7 @@ same-length-3 : tie.Need-same-length-3 Inv-loop μ-loop
 same-length-3 c = search needs
 
 returns : tie.Need-returns Inv-loop μ-loop
-returns c = let s = c .before .before .before .before .before .before .before .before .before .before .before .before in λ g few. all-told (s .args .conv) (s .args .size) _ (s .pre .1 .0) (s .pre .1 .1) (c .before .before .before .before .loop .inv .5 g) few
+returns c = ended (c .before .before .before .before)
 
 same-length-4 : tie.Need-same-length-4 Inv-loop μ-loop
 same-length-4 c = search needs
@@ -74,7 +87,7 @@ same-length-6 : tie.Need-same-length-6 Inv-loop μ-loop
 same-length-6 c = search needs
 
 returns-2 : tie.Need-returns-2 Inv-loop μ-loop
-returns-2 c = let s = c .before .before .before .before .before .before .before .before .before .before in λ g few. all-told (s .args .conv) (s .args .size) _ (s .pre .1 .0) (s .pre .1 .1) (c .before .before .loop .inv .5 g) few
+returns-2 c = ended (c .before .before)
 
 same-length-7 : tie.Need-same-length-7 Inv-loop μ-loop
 same-length-7 c = search needs
@@ -86,7 +99,7 @@ same-length-9 : tie.Need-same-length-9 Inv-loop μ-loop
 same-length-9 c = search needs
 
 returns-3 : tie.Need-returns-3 Inv-loop μ-loop
-returns-3 c = let s = c .before .before .before .before .before .before .before .before .before in λ g few. all-told (s .args .conv) (s .args .size) _ (s .pre .1 .0) (s .pre .1 .1) (c .before .loop .inv .5 g) few
+returns-3 c = ended (c .before)
 
 pub turns-spec : {M : Type 1} → statement M
 turns-spec =
@@ -99,6 +112,7 @@ turns-spec =
     part-fill-start
     part-fill-end
     fill-requires
+    none-requires
     loop-holds
     turn-requires
     sub-more

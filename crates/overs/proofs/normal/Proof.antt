@@ -1,0 +1,29 @@
+-- `normal` meets its contract.
+use mathlib.Core.Path.{refl, _∙_}
+use borrow.Author.Needs.{needs}
+use borrow.Author.Tests.{eq-eqb, ne-eqb}
+use Rattle.overs.specs.Overs.{normal}
+use Rattle.overs.proofs.normal.Statement.{statement}
+use Rattle.overs.proofs.normal.Tie as tie
+
+none-requires : tie.Need-none-requires
+none-requires c κs = search needs
+
+at-most-3-requires : tie.Need-at-most-3-requires
+at-most-3-requires c κs = search needs
+
+standing-requires : tie.Need-standing-requires
+standing-requires c κs = search needs
+
+returns : tie.Need-returns
+unfolding normal
+returns c = c .none .ensures ∙ rw (eq-eqb (c .before .before .args .p .length) 0 (c .before .if1 .taken)) refl
+
+returns-2 : tie.Need-returns-2
+unfolding normal
+returns-2 c =
+    rw (ne-eqb (c .before .before .before .args .p .length) 0 (c .before .before .if1 .left), c .standing .ensures, c .before .at-most-3 .ensures) refl
+
+pub normal-spec : {M : Type 1} → statement M
+normal-spec =
+    tie.close (tie.spec none-requires at-most-3-requires standing-requires returns returns-2)
