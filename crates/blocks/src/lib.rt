@@ -1,233 +1,148 @@
-// Blocks of samples of one channel, and the channel of a frame. Samples n count from the run's start.
+// The channel of a frame, a block of samples at a time: gathered, filtered, scaled and stored. Samples n count from the run's start.
 ghost use mathlib.Core.Path.{_≡_};
-ghost use Prim.Native.Nat.{_+_, _*_, _≤_, _<_, _%_};
+ghost use mathlib.Core.Bool.{true, false};
+ghost use Prim.Native.Nat.{ℕ, _+_, _*_, _%_, _^_, _≤_, _<_};
+ghost use lib.Dec.{T};
+ghost use lib.IntN.{ℤ, pos, natAbs};
 ghost use lib.ListN.{length};
-ghost use Rattle.reference.specs.Output.{samples-per-frame};
-ghost use Rattle.channel_bytes.specs.Lent.{lent-run};
-ghost use Rattle.route_states.specs.Routes.{block-length};
-ghost use Rattle.output.specs.Fills.{Room};
-ghost use Rattle.blocks.specs.Blocks.{Ready, Sized, Staged, Scaled, Made};
+ghost use Rattle.numbers.specs.Sums.{at0};
+ghost use Rattle.numbers.specs.Lists.{Held};
+ghost use Rattle.reference.specs.Frames.{frame-count};
+ghost use Rattle.reference.specs.Scaling.{scaled, clamp};
+ghost use Rattle.reference.specs.Output.{samples-per-frame, channel-samples, all-samples};
+ghost use Rattle.channel_bytes.specs.Lent.{Lent, lent-run, byte-at};
+ghost use Rattle.route_states.specs.Routes.{stride, around};
+ghost use Rattle.gain.specs.Scale.{bounded};
+ghost use Rattle.gain.specs.Tallies.{tally};
+ghost use Rattle.output.specs.Fills.{Drawn, Room};
+ghost use Rattle.blocks.specs.Blocks.{Ready, Made};
 use gain::Tally;
 use reference::Converter;
-use reference::PcmRate;
+use reference::FRAME_BYTES;
 
-// Samples of a block.
-pub fn block_length(rate: PcmRate) -> usize
-    ensures { λ r. ⌜ (r ≡ block-length rate) × (0 < r) × (r ≤ 336) ⌝ }
-{
-    match rate {
-        PcmRate::Hz88200 => 168,
-        PcmRate::Hz176400 => 168,
-        PcmRate::Hz352800 => 336,
-    }
-}
-
-// A block's samples of channel c from sample n on, as numbers.
-fn scaled<'a>(
+// The bytes of a channel that `values` values of the last filter's input depend on, from position `at` on, to the front of `bytes`. The bytes of
+// the values after them start at the position that comes back.
+fn gather<'a>(
     conv: Converter,
     before: &'a [u8],
     frames: &'a [u8],
     after: &'a [u8],
-    count: usize,
-    tables: &[i32],
-    hb: &[i64],
-    h: &[i64],
-    he: &[i64],
-    ho: &[i64],
-    c: usize,
-    n: usize,
+    channel: usize,
+    at: usize,
+    values: usize,
     bytes: &mut [u8],
-    even: &mut [i64],
-    odd: &mut [i64],
-    s: &mut [i64],
-    t: &mut [i64],
-    y: &mut [i64],
-    samples: &mut [i32],
-) -> Tally
-    requires { ⌜ Ready conv count (now before) (now frames) (now after) (now tables) (now hb) (now h) (now he) (now ho) ⌝ }
-    requires { ⌜ (c < conv .channels) × (n ≤ count * samples-per-frame (conv .rate)) ⌝ }
-    requires { ⌜ Sized (conv .rate) (now bytes) (now even) (now odd) (now s) (now t) (now y) (now samples) ⌝ }
-    requires { ⌜ Staged conv (now before) (now frames) (now after) (now h) c n (now s) (now t) ⌝ }
-    ensures { λ r. ⌜ Scaled conv (lent-run (now (before .entry)) (now (frames .entry)) (now (after .entry))) c n (block-length (conv .rate)) (now (samples .exit)) r ⌝ }
-    ensures { λ r. ⌜ Staged conv (now (before .entry)) (now (frames .entry)) (now (after .entry)) (now (h .entry)) c (n + block-length (conv .rate)) (now (s .exit)) (now (t .exit)) ⌝ }
+) -> usize
+    requires { ⌜ Lent (conv .channels) (frame-count (conv .channels) (now frames)) (now before) (now frames) (now after) ⌝ }
+    requires { ⌜ (channel < conv .channels) × (at < 2 ^ 62) × (values ≤ 336) × (stride (conv .cutoff) * values + around (conv .cutoff) ≤ length (now bytes)) ⌝ }
+    ensures { λ r. ⌜ r ≡ at + stride (conv .cutoff) * values ⌝ }
+    ensures { λ r. ⌜ Held 0 (byte-at (conv .channels) (now (before .entry)) (now (frames .entry)) (now (after .entry)) channel) at (stride (conv .cutoff) * values + around (conv .cutoff)) (now (bytes .exit)) ⌝ }
 {
-    let rate = conv.rate;
     let cutoff = conv.cutoff;
+    let channels = conv.channels as usize;
+    let frame_count = frames.len() / (FRAME_BYTES * channels);
+    let step = kernel::stride(cutoff) * values;
+    let n = step + kernel::around(cutoff);
+    channel_bytes::gather(
+        before,
+        frames,
+        after,
+        channels,
+        frame_count,
+        channel,
+        at,
+        &mut bytes[0..n],
+    );
+    at + step
+}
+
+// The first m numbers as samples.
+fn scale(conv: Converter, y: &[i64], m: usize, samples: &mut [i32]) -> Tally
+    requires { ⌜ (m ≤ length (now y)) × (m ≤ length (now samples)) ⌝ }
+    requires { ⌜ T (bounded (conv .gain .linear)) ⌝ }
+    requires { ⌜ ((k : ℕ) → k < m → natAbs (at0 (now y) k) < 2 ^ 32) ⌝ }
+    ensures { λ r. ⌜ Held (pos 0) (λ k. clamp (scaled (conv .gain .linear) (at0 (now (y .entry)) k))) 0 m (now (samples .exit)) ⌝ }
+    ensures { λ r. ⌜ r ≡ tally (λ k. scaled (conv .gain .linear) (at0 (now (y .entry)) k)) 0 m ⌝ }
+{
     let gain = conv.gain;
     let factor = gain.linear;
-    let ch = conv.channels as usize;
-    let first = reference::samples_per_frame(rate) + n;
-    kernel::step(
-        rate,
-        cutoff,
-        before,
-        frames,
-        after,
-        ch,
-        count,
-        c,
-        first,
-        tables,
-        hb,
-        h,
-        he,
-        ho,
-        bytes,
-        even,
-        odd,
-        s,
-        t,
-        y,
-    );
-    gain::scale_block(y, factor, samples)
+    gain::scale_block(&y[0..m], factor, &mut samples[0..m])
 }
 
-// The same, written to the output.
-fn block<'a>(
+// The first m samples, as samples n, n + 1, .. of a channel, to their places in the output that is asked for.
+fn store(
     conv: Converter,
-    before: &'a [u8],
-    frames: &'a [u8],
-    after: &'a [u8],
-    count: usize,
-    tables: &[i32],
-    hb: &[i64],
-    h: &[i64],
-    he: &[i64],
-    ho: &[i64],
-    c: usize,
-    n: usize,
-    bytes: &mut [u8],
-    even: &mut [i64],
-    odd: &mut [i64],
-    s: &mut [i64],
-    t: &mut [i64],
-    y: &mut [i64],
-    samples: &mut [i32],
     packed: bool,
+    samples: &[i32],
+    m: usize,
+    n: usize,
+    channel: usize,
     out: &mut [i32],
     raw: &mut [u8],
-) -> Tally
-    requires { ⌜ Ready conv count (now before) (now frames) (now after) (now tables) (now hb) (now h) (now he) (now ho) ⌝ }
-    requires { ⌜ (c < conv .channels) × (n + block-length (conv .rate) ≤ count * samples-per-frame (conv .rate)) × Room packed (count * samples-per-frame (conv .rate) * conv .channels) (length (now out)) (length (now raw)) ⌝ }
-    requires { ⌜ Sized (conv .rate) (now bytes) (now even) (now odd) (now s) (now t) (now y) (now samples) ⌝ }
-    requires { ⌜ Staged conv (now before) (now frames) (now after) (now h) c n (now s) (now t) ⌝ }
-    ensures { λ r. ⌜ Made packed conv (lent-run (now (before .entry)) (now (frames .entry)) (now (after .entry))) c n (block-length (conv .rate)) r (now (out .entry)) (now (out .exit)) (now (raw .entry)) (now (raw .exit)) ⌝ }
-    ensures { λ r. ⌜ Staged conv (now (before .entry)) (now (frames .entry)) (now (after .entry)) (now (h .entry)) c (n + block-length (conv .rate)) (now (s .exit)) (now (t .exit)) ⌝ }
+)
+    requires { ⌜ (channel < conv .channels) × (m ≤ length (now samples)) × (packed ≡ false → (n + m) * conv .channels ≤ length (now out)) × (packed ≡ true → 3 * ((n + m) * conv .channels) ≤ length (now raw)) ⌝ }
+    ensures { λ _. ⌜ ((S : ℕ → ℕ → ℤ) → Held (pos 0) (S channel) n m (now (samples .entry)) → Drawn packed S (conv .channels) n (n + m) channel (channel + 1) (now (out .entry)) (now (out .exit)) (now (raw .entry)) (now (raw .exit))) ⌝ }
 {
-    let ch = conv.channels as usize;
-    let told = scaled(
-        conv,
-        before,
-        frames,
-        after,
-        count,
-        tables,
-        hb,
-        h,
-        he,
-        ho,
-        c,
-        n,
-        bytes,
-        even,
-        odd,
-        s,
-        t,
-        y,
-        samples,
-    );
+    let channels = conv.channels as usize;
     if packed {
-        output::store24(samples, n, ch, c, raw);
-        return told;
+        output::store24(&samples[0..m], n, channels, channel, raw);
+        return;
     }
-    output::store(samples, n, ch, c, out);
-    told
+    output::store(&samples[0..m], n, channels, channel, out);
 }
 
-// Channel c of the frame whose first sample is n.
+// A channel of the frame whose first sample is n.
 pub fn channel<'a>(
     conv: Converter,
     before: &'a [u8],
     frames: &'a [u8],
     after: &'a [u8],
-    count: usize,
     tables: &[i32],
-    hb: &[i64],
-    h: &[i64],
-    he: &[i64],
-    ho: &[i64],
-    c: usize,
+    taps: &[i64],
+    channel: usize,
     n: usize,
-    bytes: &mut [u8],
-    even: &mut [i64],
-    odd: &mut [i64],
-    s: &mut [i64],
-    t: &mut [i64],
-    y: &mut [i64],
-    samples: &mut [i32],
     packed: bool,
     out: &mut [i32],
     raw: &mut [u8],
 ) -> Tally
-    requires { ⌜ Ready conv count (now before) (now frames) (now after) (now tables) (now hb) (now h) (now he) (now ho) ⌝ }
-    requires { ⌜ (c < conv .channels) × (n + samples-per-frame (conv .rate) ≤ count * samples-per-frame (conv .rate)) × Room packed (count * samples-per-frame (conv .rate) * conv .channels) (length (now out)) (length (now raw)) × (n % 2 ≡ 0) ⌝ }
-    requires { ⌜ Sized (conv .rate) (now bytes) (now even) (now odd) (now s) (now t) (now y) (now samples) ⌝ }
-    ensures { λ r. ⌜ Made packed conv (lent-run (now (before .entry)) (now (frames .entry)) (now (after .entry))) c n (samples-per-frame (conv .rate)) r (now (out .entry)) (now (out .exit)) (now (raw .entry)) (now (raw .exit)) ⌝ }
+    requires { ⌜ Ready conv (frame-count (conv .channels) (now frames)) (now before) (now frames) (now after) (now tables) (now taps) ⌝ }
+    requires { ⌜ (channel < conv .channels) × (n + samples-per-frame (conv .rate) ≤ channel-samples conv (lent-run (now before) (now frames) (now after))) × Room packed (all-samples conv (lent-run (now before) (now frames) (now after))) (length (now out)) (length (now raw)) × (n % 2 ≡ 0) ⌝ }
+    ensures { λ r. ⌜ Made packed conv (lent-run (now (before .entry)) (now (frames .entry)) (now (after .entry))) channel n (samples-per-frame (conv .rate)) r (now (out .entry)) (now (out .exit)) (now (raw .entry)) (now (raw .exit)) ⌝ }
 {
     let rate = conv.rate;
     let cutoff = conv.cutoff;
-    let ch = conv.channels as usize;
     let spf = reference::samples_per_frame(rate);
-    let first = spf + n;
-    kernel::prime(
-        rate,
-        cutoff,
-        before,
-        frames,
-        after,
-        ch,
-        count,
-        c,
-        first,
-        tables,
-        hb,
-        h,
-        he,
-        ho,
-        bytes,
-        even,
-        odd,
-        s,
-        t,
-    );
-    let m = y.len();
+    let m = kernel::block_length(rate, cutoff);
+    let last = taps.len() - 1;
+    let margin = 2 * last;
+    let mut bytes = [0u8; 512];
+    let mut odd = [0i64; 247];
+    let mut x = [0i64; 512];
+    let mut kept = [0i64; 184];
+    let mut y = [0i64; 336];
+    let mut samples = [0i32; 336];
+    let mut at = kernel::start(rate, cutoff, last, spf + n);
+    at = gather(conv, before, frames, after, channel, at, margin, &mut bytes);
+    kernel::margin(cutoff, tables, &bytes, margin, &mut odd, &mut x);
     let mut told = gain::no_tally();
     let mut k: usize = 0;
     while k < spf {
-        let more = block(
-            conv,
-            before,
-            frames,
-            after,
-            count,
+        let first = k == 0;
+        let new = kernel::fresh(rate, cutoff, first);
+        at = gather(conv, before, frames, after, channel, at, new, &mut bytes);
+        kernel::block(
+            rate,
+            cutoff,
             tables,
-            hb,
-            h,
-            he,
-            ho,
-            c,
-            n + k,
-            bytes,
-            even,
-            odd,
-            s,
-            t,
-            y,
-            samples,
-            packed,
-            out,
-            raw,
+            taps,
+            &bytes,
+            first,
+            &mut odd,
+            &mut x,
+            &mut kept,
+            &mut y,
         );
+        let more = scale(conv, &y, m, &mut samples);
+        store(conv, packed, &samples, m, n + k, channel, out, raw);
         let both = gain::join_tally(told, more);
         told = both;
         k += m;

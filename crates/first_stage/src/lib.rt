@@ -1,32 +1,11 @@
 // Module 4: sums of look-ups in byte tables, over windows of bytes. Of the tables of S1 or S1_WIDE they are u: crate stages.
 ghost use mathlib.Core.Path.{_≡_};
-ghost use Prim.Native.Nat.{_+_, _*_, _≤_, _<_};
-ghost use lib.IntN.{pos, natAbs, _+ℤ_};
+ghost use Prim.Native.Nat.{_+_, _*_, _≤_};
+ghost use lib.IntN.{pos};
 ghost use lib.ListN.{length, getD};
 ghost use Rattle.numbers.specs.Sums.{sumTo, at0};
 ghost use Rattle.numbers.specs.Lists.{Held};
 ghost use Rattle.first_stage.specs.Windows.{window-sum};
-
-fn look(tables: &[i32], i: usize) -> i64
-    requires { ⌜ i < length (now tables) ⌝ }
-    ensures { λ r. ⌜ (r ≡ at0 (now (tables .entry)) i) × (natAbs r ≤ 2147483648) ⌝ }
-{
-    tables[i] as i64
-}
-
-fn byte(window: &[u8], i: usize) -> usize
-    requires { ⌜ i < length (now window) ⌝ }
-    ensures { λ r. ⌜ (r ≡ getD (now (window .entry)) i 0) × (r < 256) ⌝ }
-{
-    window[i] as usize
-}
-
-fn plus(a: i64, b: i64) -> i64
-    requires { ⌜ natAbs a + natAbs b < 9223372036854775808 ⌝ }
-    ensures { λ r. ⌜ r ≡ a +ℤ b ⌝ }
-{
-    a + b
-}
 
 // One table for each byte of the window.
 fn table_sum(tables: &[i32], window: &[u8]) -> i64
@@ -36,7 +15,8 @@ fn table_sum(tables: &[i32], window: &[u8]) -> i64
     let mut sum: i64 = 0;
     let mut j: usize = 0;
     while j < window.len() {
-        sum = plus(sum, look(tables, 256 * j + byte(window, j)));
+        let b = window[j] as usize;
+        sum += tables[256 * j + b] as i64;
         j += 1;
     }
     sum

@@ -1,150 +1,162 @@
-// Modules 3 to 5 together: from the bytes of a channel to y, a block at a time.
+// Modules 4 and 5: from a block of a channel's bytes to y. x is what the last filter reads, v of Standard and Low, u of Wide; `kept` has the values
+// of w that are woven at 352,800. Both keep their margin, the values before a block that its filters read, from block to block. `odd` is scratch.
 ghost use mathlib.Core.Path.{_≡_};
-ghost use Prim.Native.Nat.{_+_, _%_, _≤_, _<_};
-ghost use lib.IntN.{pos};
-ghost use lib.ListN.{length};
+ghost use Prim.Native.Nat.{ℕ, _+_, _*_, _%_, _^_, _≤_, _<_};
+ghost use mathlib.Core.List.{List};
+ghost use mathlib.Core.Bool.{true, false};
+ghost use lib.IntN.{ℤ, pos};
+ghost use lib.ListN.{length, getD};
 ghost use Rattle.numbers.specs.Lists.{Held};
-ghost use Rattle.reference.specs.Output.{samples-per-frame};
-ghost use Rattle.channel_bytes.specs.Lent.{Lent, byte-at};
-ghost use Rattle.route_states.specs.Routes.{Route, y-of, block-length, State};
+ghost use Rattle.lanes.specs.Filters.{Small};
+ghost use Rattle.route_states.specs.Routes as Routes;
+ghost use Rattle.route_states.specs.Routes.{SomeTaps, Taps, FirstTables, State, Brought, y-of, input, block-length, first-byte, margin-from};
 use reference::Cutoff;
 use reference::PcmRate;
 
-// Fills the stage arrays s and t with what the block that starts at sample n of channel c reads around it. Samples count from the frame before the run.
-pub fn prime<'a>(
-    rate: PcmRate,
-    cutoff: Cutoff,
-    before: &'a [u8],
-    frames: &'a [u8],
-    after: &'a [u8],
-    ch: usize,
-    count: usize,
-    c: usize,
-    n: usize,
-    tables: &[i32],
-    hb: &[i64],
-    h: &[i64],
-    he: &[i64],
-    ho: &[i64],
-    bytes: &mut [u8],
-    even: &mut [i64],
-    odd: &mut [i64],
-    s: &mut [i64],
-    t: &mut [i64],
-)
-    requires { ⌜ Lent ch count (now before) (now frames) (now after) ⌝ }
-    requires { ⌜ (c < ch) × (samples-per-frame rate ≤ n) × (n < 1000000000000000000) × (n % 2 ≡ 0) ⌝ }
-    requires { ⌜ Route rate cutoff (now h) (now tables) (now hb) (now h) (now he) (now ho) ⌝ }
-    requires { ⌜ (length (now bytes) ≡ 512) × (length (now even) ≡ 512) × (length (now odd) ≡ 512) × (length (now s) ≡ 512) × (length (now t) ≡ 512) ⌝ }
-    ensures { λ _. ⌜ State rate cutoff (now (h .entry)) (byte-at ch (now (before .entry)) (now (frames .entry)) (now (after .entry)) c) n (now (s .exit)) (now (t .exit)) ⌝ }
+// Samples of a block.
+pub fn block_length(rate: PcmRate, cutoff: Cutoff) -> usize
+    ensures { λ r. ⌜ (r ≡ block-length rate cutoff) × (0 < r) × (r ≤ 336) ⌝ }
 {
-    match cutoff {
-        Cutoff::Standard | Cutoff::Low => narrow::prime_narrow(
-            rate,
-            before,
-            frames,
-            after,
-            ch,
-            count,
-            c,
-            n,
-            tables,
-            hb,
-            h,
-            ho,
-            bytes,
-            even,
-            odd,
-            s,
-            t,
-        ),
-        Cutoff::Wide => wide::prime_wide(
-            rate,
-            before,
-            frames,
-            after,
-            ch,
-            count,
-            c,
-            n,
-            tables,
-            bytes,
-            s,
-            t,
-        ),
+    match rate {
+        PcmRate::Hz88200 => 84,
+        PcmRate::Hz176400 => match cutoff {
+            Cutoff::Standard | Cutoff::Low => 168,
+            Cutoff::Wide => 84,
+        },
+        PcmRate::Hz352800 => 336,
     }
 }
 
-// A block of y from sample n of channel c on; the stage arrays go on to the next block.
-pub fn step<'a>(
-    rate: PcmRate,
-    cutoff: Cutoff,
-    before: &'a [u8],
-    frames: &'a [u8],
-    after: &'a [u8],
-    ch: usize,
-    count: usize,
-    c: usize,
-    n: usize,
-    tables: &[i32],
-    hb: &[i64],
-    h: &[i64],
-    he: &[i64],
-    ho: &[i64],
-    bytes: &mut [u8],
-    even: &mut [i64],
-    odd: &mut [i64],
-    s: &mut [i64],
-    t: &mut [i64],
-    y: &mut [i64],
-)
-    requires { ⌜ Lent ch count (now before) (now frames) (now after) ⌝ }
-    requires { ⌜ (c < ch) × (samples-per-frame rate ≤ n) × (n < 1000000000000000000) ⌝ }
-    requires { ⌜ Route rate cutoff (now h) (now tables) (now hb) (now h) (now he) (now ho) ⌝ }
-    requires { ⌜ (length (now bytes) ≡ 512) × (length (now even) ≡ 512) × (length (now odd) ≡ 512) × (length (now s) ≡ 512) × (length (now t) ≡ 512) × (length (now y) ≡ block-length rate) ⌝ }
-    requires { ⌜ State rate cutoff (now h) (byte-at ch (now before) (now frames) (now after) c) n (now s) (now t) ⌝ }
-    ensures { λ _. ⌜ Held (pos 0) (y-of rate cutoff (now (h .entry)) (byte-at ch (now (before .entry)) (now (frames .entry)) (now (after .entry)) c)) n (block-length rate) (now (y .exit)) ⌝ }
-    ensures { λ _. ⌜ State rate cutoff (now (h .entry)) (byte-at ch (now (before .entry)) (now (frames .entry)) (now (after .entry)) c) (n + block-length rate) (now (s .exit)) (now (t .exit)) ⌝ }
+// Values of x that a block brings. At 352,800 a frame's first block of Standard or Low brings also the 16 of w before it.
+pub fn fresh(rate: PcmRate, cutoff: Cutoff, first: bool) -> usize
+    ensures { λ r. ⌜ (r ≡ Routes.fresh rate cutoff first) × (r ≤ 336) ⌝ }
+{
+    match rate {
+        PcmRate::Hz88200 | PcmRate::Hz176400 => 168,
+        PcmRate::Hz352800 => match cutoff {
+            Cutoff::Standard | Cutoff::Low => {
+                if first {
+                    return 184;
+                }
+                168
+            }
+            Cutoff::Wide => 336,
+        },
+    }
+}
+
+// Bytes from one value of x to the next, and bytes around a value beside its own.
+pub fn stride(cutoff: Cutoff) -> usize
+    ensures { λ r. ⌜ (r ≡ Routes.stride cutoff) × (r ≤ 2) ⌝ }
 {
     match cutoff {
-        Cutoff::Standard | Cutoff::Low => narrow::step_narrow(
-            rate,
-            before,
-            frames,
-            after,
-            ch,
-            count,
-            c,
-            n,
-            tables,
-            hb,
-            h,
-            he,
-            ho,
-            bytes,
-            even,
-            odd,
-            s,
-            t,
-            y,
-        ),
-        Cutoff::Wide => wide::step_wide(
-            rate,
-            before,
-            frames,
-            after,
-            ch,
-            count,
-            c,
-            n,
-            tables,
-            h,
-            he,
-            ho,
-            bytes,
-            s,
-            t,
-            y,
-        ),
+        Cutoff::Standard | Cutoff::Low => 2,
+        Cutoff::Wide => 1,
+    }
+}
+
+pub fn around(cutoff: Cutoff) -> usize
+    ensures { λ r. ⌜ (r ≡ Routes.around cutoff) × (r ≤ 36) ⌝ }
+{
+    match cutoff {
+        Cutoff::Standard | Cutoff::Low => 36,
+        Cutoff::Wide => 11,
+    }
+}
+
+// The first byte that the margin of a frame depends on: as many before the byte of the frame's first sample n as document 01's reach. The last
+// filter has taps up to place m.
+pub fn start(rate: PcmRate, cutoff: Cutoff, m: usize, n: usize) -> usize
+    requires { ⌜ (m ≤ 116) × (1000 ≤ n) × (n < 1000000000000) × (n % 2 ≡ 0) ⌝ }
+    ensures { λ r. ⌜ r ≡ first-byte cutoff (margin-from rate cutoff m true n) ⌝ }
+{
+    match rate {
+        PcmRate::Hz88200 => match cutoff {
+            Cutoff::Standard | Cutoff::Low => 4 * n - (2 * m + 19),
+            Cutoff::Wide => 2 * n - (m + 6),
+        },
+        PcmRate::Hz176400 => match cutoff {
+            Cutoff::Standard | Cutoff::Low => 2 * n - (2 * m + 19),
+            Cutoff::Wide => 2 * n - (m + 6),
+        },
+        PcmRate::Hz352800 => match cutoff {
+            Cutoff::Standard | Cutoff::Low => n - (2 * m + 35),
+            Cutoff::Wide => n - (m + 6),
+        },
+    }
+}
+
+// The margin of x: n values from the front of `bytes`.
+pub fn margin(
+    cutoff: Cutoff,
+    tables: &[i32],
+    bytes: &[u8],
+    n: usize,
+    odd: &mut [i64],
+    x: &mut [i64],
+)
+    requires { ⌜ FirstTables cutoff (now tables) ⌝ }
+    requires { ⌜ (n ≤ 232) × (length (now bytes) ≡ 512) × (length (now odd) ≡ 247) × (length (now x) ≡ 512) ⌝ }
+    requires { ⌜ Small (2 ^ 27) (now x) ⌝ }
+    ensures { λ _. ⌜ Small (2 ^ 27) (now (x .exit)) ⌝ }
+    ensures { λ _. ⌜ ((β : ℕ → ℕ) (i : ℕ) → 10 ≤ i → Held 0 β (first-byte cutoff i) (Routes.stride cutoff * n + Routes.around cutoff) (now (bytes .entry)) → Held (pos 0) (input cutoff β) i n (now (x .exit))) ⌝ }
+{
+    match cutoff {
+        Cutoff::Standard | Cutoff::Low => {
+            let b = 2 * n + 36;
+            let o = n + 15;
+            stages::half_band(tables, &bytes[0..b], &mut odd[0..o], &mut x[0..n])
+        }
+        Cutoff::Wide => {
+            let b = n + 11;
+            first_stage::first_stage(tables, 6, &bytes[0..b], 0, 1, &mut x[0..n])
+        }
+    }
+}
+
+// A block of y, at its front, from the front of `bytes`; the arrays go on to the next block.
+pub fn block(
+    rate: PcmRate,
+    cutoff: Cutoff,
+    tables: &[i32],
+    h: &[i64],
+    bytes: &[u8],
+    first: bool,
+    odd: &mut [i64],
+    x: &mut [i64],
+    kept: &mut [i64],
+    y: &mut [i64],
+)
+    requires { ⌜ FirstTables cutoff (now tables) ⌝ }
+    requires { ⌜ SomeTaps rate cutoff (now h) ⌝ }
+    requires { ⌜ (length (now bytes) ≡ 512) × (length (now odd) ≡ 247) × (length (now x) ≡ 512) × (length (now kept) ≡ 184) × (length (now y) ≡ 336) ⌝ }
+    requires { ⌜ Small (2 ^ 27) (now x) ⌝ }
+    requires { ⌜ Small (2 ^ 29) (now kept) ⌝ }
+    ensures { λ _. ⌜ Small (2 ^ 27) (now (x .exit)) ⌝ }
+    ensures { λ _. ⌜ Small (2 ^ 29) (now (kept .exit)) ⌝ }
+    ensures { λ _. ⌜ ((F : List ℤ) (β : ℕ → ℕ) (n : ℕ) → Taps rate cutoff F (now (h .entry)) → 1000 ≤ n → Brought rate cutoff F first β n (now (bytes .entry)) → State rate cutoff F first β n (now (x .entry)) (now (kept .entry)) → Held (pos 0) (y-of rate cutoff F β) n (block-length rate cutoff) (now (y .exit)) × State rate cutoff F false β (n + block-length rate cutoff) (now (x .exit)) (now (kept .exit))) ⌝ }
+{
+    match cutoff {
+        Cutoff::Standard | Cutoff::Low => match rate {
+            PcmRate::Hz88200 => narrow::narrow88(tables, h, &bytes[0..372], odd, x, &mut y[0..84]),
+            PcmRate::Hz176400 => narrow::narrow176(
+                tables,
+                h,
+                &bytes[0..372],
+                odd,
+                x,
+                &mut y[0..168],
+            ),
+            PcmRate::Hz352800 => {
+                let k = fresh(rate, cutoff, first);
+                let b = 2 * k + 36;
+                narrow::narrow352(tables, h, &bytes[0..b], k, odd, x, kept, y)
+            }
+        },
+        Cutoff::Wide => match rate {
+            PcmRate::Hz88200 => {}
+            PcmRate::Hz176400 => wide::wide176(tables, h, &bytes[0..179], x, &mut y[0..84]),
+            PcmRate::Hz352800 => wide::wide352(tables, h, &bytes[0..347], x, y),
+        },
     }
 }

@@ -6,3 +6,5 @@ pub mod Bias
 pub mod Signals
 pub mod Totals
 pub mod Tables
+pub mod Bands
+pub mod Seconds

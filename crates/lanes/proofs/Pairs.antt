@@ -162,10 +162,6 @@ unfolding between-by
 between-same h s r c e =
     sum-same (length h) _ _ (λ j m. ap₂ (λ (y z : ℤ). tap h j *ℤ (y +ℤ z)) (e (c - j) (omega arith) (omega arith)) (e (c + 1 + j) (omega arith) (omega arith)))
 
-pub lifted-size : (x : List ℤ) → Small (2 ^ 29) x → (k : ℕ) → natAbs (lifted x k) ≤ 2 ^ 30
-unfolding lifted
-lifted-size x s k = omega (arith, abs-add (at0 x k) (pos (2 ^ 29)), s .size k)
-
 -- ---- the lift adds the taps' sum times 2^29
 sum-lift : (n : ℕ) (g s u : ℕ → ℤ) (c : ℤ) → sumTo n (λ k. g k *ℤ (s k +ℤ u k *ℤ c)) ≡ sumTo n (λ k. g k *ℤ s k) +ℤ sumTo n (λ k. g k *ℤ u k) *ℤ c
 unfolding sumTo

@@ -2,7 +2,7 @@
 use mathlib.Core.Path.{_≡_, refl, sym, _∙_, ap}
 use mathlib.Core.List.{List}
 use mathlib.Core.Logic.{⊎-elim}
-use Prim.Native.Nat.{ℕ, _+_, _<_, _≤_, _^_}
+use Prim.Native.Nat.{ℕ, _+_, _-_, _*_, _/_, _<_, _≤_, _^_}
 use native.Mathlib.Nat.{eq-or-lt-of-le}
 use native.Mathlib.Omega.{arith}
 use lib.IntN.{ℤ, pos, natAbs, _+ℤ_, +ℤ-assoc, +ℤ-idr}
@@ -10,8 +10,8 @@ use lib.ListN.{length, getD, set, replicate, length-set, length-replicate, getD-
 use lib.Seq.{getD-set-same, getD-set-other}
 use Rattle.numbers.specs.Sums.{at0}
 use Rattle.numbers.proofs.Integers.{abs-add}
-use Rattle.numbers.proofs.Lists.{below-or}
-use Rattle.lanes.specs.Filters.{Small, Filled}
+use Rattle.numbers.proofs.Lists.{below-or, length-tabulate, getD-tabulate}
+use Rattle.lanes.specs.Filters.{seconds, Small, Filled}
 use Rattle.lanes.specs.Lanes.{lifted, raised, Low, Raised, Written, Added, Hold, Lanes}
 
 pub written-none : {f : ℕ → ℤ} {a b : ℕ} {old : List ℤ} → b ≤ a → Written f a b old old
@@ -123,3 +123,16 @@ raised-more {i} {j} {x} {v} {r} a m e b next =
 
     after : (k : ℕ) → i < k → getD (set v i r) k 0 ≡ getD v k 0
     after k n = getD-set-other v i k r 0 (λ q. omega arith)
+
+-- ---- every second value
+pub length-seconds : (f : ℕ) (x : List ℤ) → length (seconds f x) ≡ (length x + 1 - f) / 2
+unfolding seconds
+length-seconds f x = length-tabulate (λ k. at0 x (2 * k + f)) 0 ((length x + 1 - f) / 2)
+
+pub second-at : (f : ℕ) (x : List ℤ) (k : ℕ) → k < (length x + 1 - f) / 2 → at0 (seconds f x) k ≡ at0 x (2 * k + f)
+unfolding seconds
+second-at f x k m = getD-tabulate (λ j. at0 x (2 * j + f)) 0 ((length x + 1 - f) / 2) k (pos 0) m ∙ ap (λ (j : ℕ). at0 x (2 * j + f)) (omega arith)
+
+pub second-lifted : (f : ℕ) (x : List ℤ) (k : ℕ) → k < (length x + 1 - f) / 2 → lifted x (2 * k + f) ≡ lifted (seconds f x) k
+unfolding lifted
+second-lifted f x k m = ap (λ (z : ℤ). z +ℤ pos (2 ^ 29)) (sym (second-at f x k m))

@@ -45,9 +45,6 @@ module _ {S : ℕ → ℤ} {base n : ℕ} {x : List ℤ} (h : List ℤ) (b : Hel
   pub same-held : {old new : List ℤ} → Filled (λ i. R (same-rate h x i) 24) old new → length old + 2 * M h ≤ n → Held (pos 0) (λ k. R (fir h S k) 24) (base + M h) (length old) new
   same-held u l = filled-held u (λ i m. ap (λ (z : ℤ). R z 24) (same-signal i (omega arith) ∙ ap (fir h S) (omega arith)))
 
-  pub same-fit : (m : ℕ) → m + 2 * M h ≤ n → ((c : ℕ) → natAbs (fir h S c) ≤ 2 ^ 53) → Fit (same-rate h x) m
-  same-fit m l s = record { fits = λ i a. rw (same-signal i (omega arith)) (s (base + i + M h)) }
-
 -- ---- between the places of x
 module _ {S : ℕ → ℤ} {base n : ℕ} {x : List ℤ} (h : List ℤ) (b : Held (pos 0) S base n x) where
   pub middle-signal : (i : ℕ) → i + 2 * length h ≤ n → middle h x i ≡ between-by h S (base + i + length h - 1)
@@ -59,9 +56,6 @@ module _ {S : ℕ → ℤ} {base n : ℕ} {x : List ℤ} (h : List ℤ) (b : Hel
   pub middle-held : {old new : List ℤ} → Filled (λ i. R (middle h x i) 23) old new → 0 < length h → length old + 2 * length h ≤ n + 1
       → Held (pos 0) (λ k. R (between-by h S k) 23) (base + length h - 1) (length old) new
   middle-held u some l = filled-held u (λ i m. ap (λ (z : ℤ). R z 23) (middle-signal i (omega arith) ∙ ap (between-by h S) (omega arith)))
-
-  pub middle-fit : (m : ℕ) → m + 2 * length h ≤ n + 1 → ((k : ℕ) → natAbs (between-by h S k) ≤ 2 ^ 53) → Fit (middle h x) m
-  middle-fit m l s = record { fits = λ i a. rw (middle-signal i (omega arith)) (s (base + i + length h - 1)) }
 
 -- ---- half the rate: he and ho are the even and the odd taps of h
 pub record Halves (h he ho : List ℤ) : Type 0 where
@@ -176,20 +170,10 @@ module _ {h he ho : List ℤ} (t : Halves h he ho) where
     pub half-fit : (m : ℕ) → m + 2 * M he ≤ n → m + 2 * length ho ≤ o + 1 → ((c : ℕ) → natAbs (fir h S c) ≤ 2 ^ 53) → Fit (half-rate he ho xe xo) m
     half-fit m l r s = record { fits = λ i a. rw (half-signal i (omega arith) (omega arith)) (s (2 * (E + M he + i))) }
 
-    -- the output holds the next signal; in two parts, its even and its odd places
+    -- the output holds the next signal
     pub half-held : {old new : List ℤ} → Filled (λ i. R (half-rate he ho xe xo i) 24) old new → length old + 2 * M he ≤ n → length old + 2 * length ho ≤ o + 1
         → Held (pos 0) (λ k. R (fir h S (2 * k)) 24) (E + M he) (length old) new
     half-held u l m = filled-held u (λ i a. ap (λ (z : ℤ). R z 24) (half-signal i (omega arith) (omega arith)))
-
-    at-place : (j c : ℕ) → j + 2 * M he < n → j + 2 * length ho ≤ o → E + M he + j ≡ c → R (half-rate he ho xe xo j) 24 ≡ R (fir h S (2 * c)) 24
-    at-place j c l m a = ap (λ (z : ℤ). R z 24) (half-signal j l m ∙ ap (λ (z : ℕ). fir h S (2 * z)) a)
-
-    module _ (c : ℕ) (two : E + M he ≡ 2 * c) {old new : List ℤ} (l : 2 * length old + 2 * M he ≤ n) (m : 2 * length old + 2 * length ho ≤ o + 1) where
-      pub even-held : Filled (λ i. R (half-rate he ho xe xo (2 * i)) 24) old new → Held (pos 0) (λ k. R (fir h S (2 * (2 * k))) 24) c (length old) new
-      even-held u = filled-held u (λ i a. at-place (2 * i) (2 * (c + i)) (omega arith) (omega arith) (omega arith))
-
-      pub odd-held : Filled (λ i. R (half-rate he ho xe xo (2 * i + 1)) 24) old new → Held (pos 0) (λ k. R (fir h S (2 * (2 * k + 1))) 24) c (length old) new
-      odd-held u = filled-held u (λ i a. at-place (2 * i + 1) (2 * (c + i) + 1) (omega arith) (omega arith) (omega arith))
 
   -- a filter's halves are as its taps are
   pub halves-phases : Filter h → Phases he ho

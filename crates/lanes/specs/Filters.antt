@@ -39,6 +39,10 @@ middle h x i = between-by h (at0 x) (i + length h - 1)
 unfoldable pub half-rate : List ℤ → List ℤ → List ℤ → List ℤ → ℕ → ℤ
 half-rate he ho xe xo i = same-rate he xe i +ℤ middle ho xo i
 
+-- every second value of x, from place f on
+unfoldable pub seconds : ℕ → List ℤ → List ℤ
+seconds f x = tabulate (λ k. at0 x (2 * k + f)) 0 ((length x + 1 - f) / 2)
+
 -- ---- what is asked
 
 -- no number is over B in size

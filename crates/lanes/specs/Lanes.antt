@@ -64,3 +64,12 @@ pub record Written (f : ℕ → ℤ) (a b : ℕ) (old new : List ℤ) : Type 0 w
   pub done : (k : ℕ) → a ≤ k → k < b → at0 new k ≡ f k
   pub below : (k : ℕ) → k < a → at0 new k ≡ at0 old k
   pub above : (k : ℕ) → b ≤ k → at0 new k ≡ at0 old k
+
+-- the half band's sum at place k: the centre over y, the odd taps over the copy
+unfoldable pub band-sum : List ℤ → List ℤ → List ℕ → ℕ → ℤ
+band-sum h y v k = pos 8388608 *ℤ lifted y k +ℤ arms h (raised v) 0 (8 + k - 1) (8 + k) 8
+
+-- of the sums from place i to n - 1 none is negative, or over 2^54
+pub record Whole (S : ℕ → ℤ) (i n : ℕ) : Type 0 where
+  pub is : (k : ℕ) → i ≤ k → k < n → S k ≡ pos (natAbs (S k))
+  pub size : (k : ℕ) → i ≤ k → k < n → natAbs (S k) ≤ 2 ^ 54

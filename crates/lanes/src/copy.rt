@@ -1,9 +1,9 @@
 // Taps, widened to i64.
 ghost use mathlib.Core.Path.{_≡_};
-ghost use Prim.Native.Nat.{_+_, _*_, _/_, _≤_};
+ghost use Prim.Native.Nat.{_+_, _*_, _≤_};
 ghost use lib.ListN.{length};
 ghost use Rattle.numbers.specs.Sums.{at0};
-ghost use Rattle.lanes.specs.Filters.{even-taps, odd-taps, Filled};
+ghost use Rattle.lanes.specs.Filters.{Filled};
 
 pub fn widen_taps(h: &[i32], out: &mut [i64])
     requires { ⌜ length (now out) ≡ length (now h) ⌝ }
@@ -17,7 +17,7 @@ pub fn widen_taps(h: &[i32], out: &mut [i64])
 }
 
 // Every second tap, from place `from` on.
-fn every_second(h: &[i32], from: usize, out: &mut [i64])
+pub fn every_second(h: &[i32], from: usize, out: &mut [i64])
     requires { ⌜ 2 * length (now out) + from ≤ length (now h) + 1 ⌝ }
     ensures { λ _. ⌜ Filled (λ k. at0 (now (h .entry)) (2 * k + from)) (now (out .entry)) (now (out .exit)) ⌝ }
 {
@@ -26,14 +26,4 @@ fn every_second(h: &[i32], from: usize, out: &mut [i64])
         out[k] = h[2 * k + from] as i64;
         k += 1;
     }
-}
-
-// The taps at even and at odd places.
-pub fn split_taps(h: &[i32], even: &mut [i64], odd: &mut [i64])
-    requires { ⌜ (length (now even) ≡ (length (now h) + 1) / 2) × (length (now odd) ≡ length (now h) / 2) ⌝ }
-    ensures { λ _. ⌜ now (even .exit) ≡ even-taps (now (h .entry)) ⌝ }
-    ensures { λ _. ⌜ now (odd .exit) ≡ odd-taps (now (h .entry)) ⌝ }
-{
-    every_second(h, 0, even);
-    every_second(h, 1, odd);
 }

@@ -80,7 +80,7 @@ fn tap14(acc: [i64; 14], h: i64, v: &[u64], down: usize, up: usize) -> [i64; 14]
 }
 
 // Two taps, two places apart: two values at a time are loaded, so most of those that the second tap takes are there from the first.
-fn two14(acc: [i64; 14], a: i64, b: i64, v: &[u64], down: usize, up: usize) -> [i64; 14]
+pub fn two14(acc: [i64; 14], a: i64, b: i64, v: &[u64], down: usize, up: usize) -> [i64; 14]
     requires { ⌜ (down + 16 ≤ length (now v)) × (up + 16 ≤ length (now v)) × (natAbs a ≤ 2 ^ 25) × (natAbs b ≤ 2 ^ 25) ⌝ }
     requires { ⌜ Low (now v) ⌝ }
     requires { ⌜ Lanes (125 * 2 ^ 56) acc ⌝ }
@@ -182,7 +182,7 @@ fn put14(y: &mut [i64], i: usize, s: [i64; 14])
 }
 
 // One place, as `pairs14` has fourteen.
-fn pairs1(acc: i64, h: &[i64], from: usize, v: &[u64], end: usize, up: usize) -> i64
+pub fn pairs1(acc: i64, h: &[i64], from: usize, v: &[u64], end: usize, up: usize) -> i64
     requires { ⌜ (from ≤ length (now h)) × (length (now h) ≤ 117) × (length (now h) ≤ end) × (end ≤ length (now v)) × (up + length (now h) ≤ length (now v)) ⌝ }
     requires { ⌜ Small (2 ^ 25) (now h) ⌝ }
     requires { ⌜ Low (now v) ⌝ }

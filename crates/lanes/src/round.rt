@@ -1,6 +1,6 @@
 // The sums to the output: the nearest whole number, a tie to the even one, with no branch, and the lift of 2^53 taken away.
 ghost use mathlib.Core.Path.{_≡_};
-ghost use Prim.Native.Nat.{_+_, _*_, _-_, _/_, _%_, _^_, _≤_};
+ghost use Prim.Native.Nat.{_+_, _-_, _/_, _%_, _^_, _≤_};
 ghost use lib.IntN.{pos, natAbs, _-ℤ_};
 ghost use lib.ListN.{length};
 ghost use Rattle.reference.specs.Rounding.{R};
@@ -35,7 +35,7 @@ fn near23(w: u64) -> u64
     (w + 4194303 + w / 8388608 % 2) / 8388608
 }
 
-fn round24(s: i64) -> i64
+pub fn round24(s: i64) -> i64
     requires { ⌜ (s ≡ pos (natAbs s)) × (natAbs s ≤ 2 ^ 54) ⌝ }
     ensures { λ r. ⌜ r ≡ R (s -ℤ pos (2 ^ 53)) 24 ⌝ }
 {
@@ -70,23 +70,6 @@ pub fn all23(y: &mut [i64])
     while k < y.len() {
         let r = round23(y[k]);
         y[k] = r;
-        k += 1;
-    }
-}
-
-// The even and the odd places of z, rounded, into two outputs.
-pub fn parts24(z: &[i64], ye: &mut [i64], yo: &mut [i64])
-    requires { ⌜ (length (now yo) ≡ length (now ye)) × (length (now z) ≡ 2 * length (now ye)) ⌝ }
-    requires { ⌜ Sums (2 * length (now ye)) (now z) ⌝ }
-    ensures { λ _. ⌜ Filled (λ k. rounded 24 (now (z .entry)) (2 * k)) (now (ye .entry)) (now (ye .exit)) ⌝ }
-    ensures { λ _. ⌜ Filled (λ k. rounded 24 (now (z .entry)) (2 * k + 1)) (now (yo .entry)) (now (yo .exit)) ⌝ }
-{
-    let mut k: usize = 0;
-    while k < ye.len() {
-        let a = round24(z[2 * k]);
-        ye[k] = a;
-        let b = round24(z[2 * k + 1]);
-        yo[k] = b;
         k += 1;
     }
 }

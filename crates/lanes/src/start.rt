@@ -1,11 +1,11 @@
 // What the sums start with: the centre's products, or as much as the taps' own lift is short of 2^53. And the copy of a block that the taps
 // read: each value is below 2^29 in size, and lifted by that.
 ghost use mathlib.Core.Path.{_≡_};
-ghost use Prim.Native.Nat.{_+_, _^_, _≤_};
+ghost use Prim.Native.Nat.{_+_, _-_, _/_, _^_, _≤_};
 ghost use lib.IntN.{pos, natAbs, _+ℤ_, _*ℤ_};
 ghost use lib.ListN.{length};
-ghost use Rattle.lanes.specs.Filters.{Small, Filled};
-ghost use Rattle.lanes.specs.Lanes.{lifted, raised, Low, Raised};
+ghost use Rattle.lanes.specs.Filters.{seconds, Small, Filled};
+ghost use Rattle.lanes.specs.Lanes.{raised, Low, Raised};
 use crate::lane;
 
 // A value lifted.
@@ -26,6 +26,22 @@ pub fn raise(x: &[i64], v: &mut [u64])
     let mut k: usize = 0;
     while k < x.len() {
         let r = lift(x[k]);
+        v[k] = r;
+        k += 1;
+    }
+}
+
+// Every second value of x, from place `from` on, lifted.
+pub fn raise_second(x: &[i64], from: usize, v: &mut [u64])
+    requires { ⌜ (from ≤ 1) × (length (now x) ≤ 400) × (200 ≤ length (now v)) ⌝ }
+    requires { ⌜ Small (2 ^ 29) (now x) ⌝ }
+    requires { ⌜ Low (now v) ⌝ }
+    ensures { λ _. ⌜ Raised ((length (now (x .entry)) + 1 - from) / 2) (seconds from (now (x .entry))) (now (v .exit)) ⌝ }
+{
+    let n = (x.len() + 1 - from) / 2;
+    let mut k: usize = 0;
+    while k < n {
+        let r = lift(x[2 * k + from]);
         v[k] = r;
         k += 1;
     }
@@ -54,25 +70,11 @@ pub fn centre(y: &mut [i64], h: i64, v: &[u64], at: usize)
 }
 
 // 2^23 times a, lifted.
-fn halved(a: i64) -> i64
+pub fn halved(a: i64) -> i64
     requires { ⌜ natAbs a ≤ 2 ^ 29 ⌝ }
     ensures { λ r. ⌜ r ≡ pos 8388608 *ℤ (a +ℤ pos (2 ^ 29)) ⌝ }
 {
     8388608 * (a + 536870912)
-}
-
-// The centre of a half band, 2^23, over the block itself.
-pub fn half_centre(y: &mut [i64], x: &[i64])
-    requires { ⌜ length (now y) ≤ length (now x) ⌝ }
-    requires { ⌜ Small (2 ^ 29) (now x) ⌝ }
-    ensures { λ _. ⌜ Filled (λ k. pos 8388608 *ℤ lifted (now (x .entry)) k) (now (y .entry)) (now (y .exit)) ⌝ }
-{
-    let mut k: usize = 0;
-    while k < y.len() {
-        let r = halved(x[k]);
-        y[k] = r;
-        k += 1;
-    }
 }
 
 // 2^52 everywhere.

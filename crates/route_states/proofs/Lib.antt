@@ -1,4 +1,3 @@
 pub mod Arrays
 pub mod Filters
 pub mod Routes
-pub mod Blocks

@@ -13,7 +13,7 @@ use lib.IntN.{ℤ}
 use lib.ListN.{length, getD, set, length-set, replicate, getD-replicate, List·getD-eq-default}
 use lib.Seq.{getD-set-same, getD-set-other}
 use Rattle.numbers.specs.Lists.{total, count}
-use Rattle.numbers.proofs.Lists.{below-or, is-tabulate, tabulate-same}
+use Rattle.numbers.proofs.Lists.{getD-any, below-or, is-tabulate, tabulate-same}
 use Rattle.reference.specs.Frames.{Run, frame-length, frame-count}
 use Rattle.reference.specs.Stages.{y}
 use Rattle.reference.specs.Output.{samples-per-frame, unclamped, sample, clipped, item, channel-samples, all-samples, samples, channel-clips, stats, frame-clips}
@@ -24,7 +24,8 @@ use Rattle.gain.specs.declared.Tally.{Tally}
 use Rattle.gain.proofs.Tallies.{tally-none, tally-join, tally-fits, tally-clipped, tally-few}
 use Rattle.output.specs.Fills.{Drawn, Room}
 use Rattle.output.proofs.Boxes.{all-items, all-bytes}
-use Rattle.blocks.specs.Blocks.{Made}
+use Rattle.channel_bytes.specs.Lent.{Lent, lent-run}
+use Rattle.blocks.specs.Blocks.{Ready, Made}
 use Rattle.reference.proofs.Frames.{frame-samples}
 use Rattle.blocks.proofs.Sums.{made-drawn, none-drawn, no-columns, drawn-rows, drawn-cols}
 use Rattle.runs.specs.Loops.{channel-tally, Tallied, clips-below, stats-of, Ran}
@@ -79,11 +80,12 @@ module _ {conv : Converter} {r : Run} where
     sum-so-far : getD l c none ≡ tally (unclamped conv r c) 0 n
     sum-so-far = f .rest c (le-refl c) ∙ tally-in conv r n c h
 
-    pub tallied-fits : n + m < 2 ^ 64 → Joins (getD l c none) t
-    tallied-fits b = rw (sum-so-far, g) (tally-fits (unclamped conv r c) (unclamped conv r c) 0 n n m b)
+    -- d is what a place past the end would read
+    pub tallied-fits : (d : Tally) → c < 6 → n + m < 2 ^ 64 → Joins (getD l c d) t
+    tallied-fits d i b = rw (getD-any l c d none (omega (arith, f .six)), sum-so-far, g) (tally-fits (unclamped conv r c) (unclamped conv r c) 0 n n m b)
 
-    pub tallied-more : {both : Tally} → c < 6 → both ≡ joined (getD l c none) t → Tallied conv r n m (c + 1) (set l c both)
-    tallied-more {both} b j =
+    pub tallied-more : {both : Tally} (d : Tally) → c < 6 → both ≡ joined (getD l c d) t → Tallied conv r n m (c + 1) (set l c both)
+    tallied-more {both} d b j =
         record {
           six = length-set l c both ∙ f .six;
           done = λ i q. ⊎-elim (λ p. getD-set-other l c i both none (λ e. omega arith) ∙ f .done i p) (λ p.
@@ -95,7 +97,7 @@ module _ {conv : Converter} {r : Run} where
         whole : both ≡ channel-tally conv r (n + m) c
         whole =
             let z : 0 + n ≡ n = omega arith in
-            j ∙ rw (sum-so-far, g) (ap (λ (k : ℕ). joined (tally (unclamped conv r c) 0 n) (tally (unclamped conv r c) k m)) (sym z) ∙ tally-join (unclamped conv r c) 0 n m) ∙ sym (tally-in conv r (n + m) c h)
+            j ∙ rw (getD-any l c d none (omega (arith, f .six)), sum-so-far, g) (ap (λ (k : ℕ). joined (tally (unclamped conv r c) 0 n) (tally (unclamped conv r c) k m)) (sym z) ∙ tally-join (unclamped conv r c) 0 n m) ∙ sym (tally-in conv r (n + m) c h)
 
   -- all the channels: the tallies of n + m samples
   pub tallied-all : {n m k : ℕ} {l : List Tally} → Tallied conv r n m (conv .channels) l → Tallied conv r (n + m) k 0 l
@@ -118,13 +120,13 @@ module _ {packed : Bool} {conv : Converter} {r : Run} {n : ℕ} {x : List ℤ} {
   columns-none t = record { within = omega arith; box = no-columns; tallied = t; sum = sym (clips-none conv r n (samples-per-frame (conv .rate))) }
 
   module _ {c clips : ℕ} {y : List ℤ} {v : List ℕ} {l : List Tally} (f : Columns packed conv r n c clips x y u v l) where
-    pub columns-more : {z : List ℤ} {w : List ℕ} {more both : Tally} → c < conv .channels → conv .channels ≤ 6 → Made packed conv r c n (samples-per-frame (conv .rate)) more y z v w
-        → both ≡ joined (getD l c none) more → Columns packed conv r n (c + 1) (clips + more .clipped) x z u w (set l c both)
-    columns-more h b g j =
+    pub columns-more : {z : List ℤ} {w : List ℕ} {more both : Tally} (d : Tally) → c < conv .channels → conv .channels ≤ 6 → Made packed conv r c n (samples-per-frame (conv .rate)) more y z v w
+        → both ≡ joined (getD l c d) more → Columns packed conv r n (c + 1) (clips + more .clipped) x z u w (set l c both)
+    columns-more d h b g j =
         record {
           within = omega arith;
           box = drawn-cols (f .box) (made-drawn g);
-          tallied = tallied-more (f .tallied) h (g .is-told) (omega arith) j;
+          tallied = tallied-more (f .tallied) h (g .is-told) d (omega arith) j;
           sum = omega (arith, f .sum, clips-more conv r n (samples-per-frame (conv .rate)) c (g .is-told));
         }
 
@@ -154,34 +156,38 @@ module _ {packed : Bool} {conv : Converter} {r : Run} {x : List ℤ} {u s : List
         counted = λ j h b. absurd (omega arith);
       }
 
-  module _ {k : ℕ} {y z : List ℤ} {v w t : List ℕ} {l m : List Tally} (a : Frames packed conv r k x y u v l s t)
-      (g : Drawn packed (sample conv r) (conv .channels) (k * samples-per-frame (conv .rate)) (k * samples-per-frame (conv .rate) + samples-per-frame (conv .rate)) 0 (conv .channels) y z v w)
-      (b : Tallied conv r (k * samples-per-frame (conv .rate) + samples-per-frame (conv .rate)) (samples-per-frame (conv .rate)) 0 m) where
-    next : k * samples-per-frame (conv .rate) + samples-per-frame (conv .rate) ≡ (k + 1) * samples-per-frame (conv .rate)
+  -- frame k, whose first sample is n
+  module _ {k : ℕ} {y z : List ℤ} {v w t : List ℕ} {l m : List Tally} (a : Frames packed conv r k x y u v l s t) {n : ℕ} (begins : n ≡ k * samples-per-frame (conv .rate))
+      (g : Drawn packed (sample conv r) (conv .channels) n (n + samples-per-frame (conv .rate)) 0 (conv .channels) y z v w)
+      (b : Tallied conv r (n + samples-per-frame (conv .rate)) (samples-per-frame (conv .rate)) 0 m) where
+    next : n + samples-per-frame (conv .rate) ≡ (k + 1) * samples-per-frame (conv .rate)
     next = omega arith
+
+    box : Drawn packed (sample conv r) (conv .channels) 0 ((k + 1) * samples-per-frame (conv .rate)) 0 (conv .channels) x z u w
+    box = rw next at (drawn-rows (rw (sym begins) at (a .box)) g)
 
     -- one frame more, whose count is not asked for
     pub frames-past : length t ≤ k → Frames packed conv r (k + 1) x z u w m s t
     frames-past h =
         record {
-          box = rw next at (drawn-rows (a .box) g);
+          box = box;
           tallied = rw next at b;
           same = a .same;
           counted = λ j i e. a .counted j (omega arith) e;
         }
 
     -- one frame more, with its count
-    pub frames-more : (o : ℕ) → k < length t → o ≡ clips-below conv r (k * samples-per-frame (conv .rate)) (samples-per-frame (conv .rate)) (conv .channels)
+    pub frames-more : (o : ℕ) → k < length t → o ≡ clips-below conv r n (samples-per-frame (conv .rate)) (conv .channels)
         → Frames packed conv r (k + 1) x z u w m s (set t k o)
     unfolding frame-clips clips-below
     frames-more o h i =
         record {
-          box = rw next at (drawn-rows (a .box) g);
+          box = box;
           tallied = rw next at b;
           same = length-set t k o ∙ a .same;
           counted = λ j q e. ⊎-elim (λ p. getD-set-other t k j o 0 (λ n. omega arith) ∙ a .counted j p (omega (arith, length-set t k o))) (λ p.
-              let n : j ≡ k = omega arith in
-              rw n (getD-set-same t k o 0 h ∙ i)) (below-or j k);
+              let e : j ≡ k = omega arith in
+              rw e (getD-set-same t k o 0 h ∙ rw begins at i)) (below-or j k);
         }
 
 -- ---- the whole run
@@ -191,6 +197,22 @@ unfolding frame-count
 frames-of ch n f p e =
     let z : n * frame-length ch ≡ n * frame-length ch + 0 = omega arith in
     rw (e, z) (digits-div n (omega arith))
+
+-- the slices of a run of `count` frames hold so many: what a frame asks
+module _ (conv : Converter) {count : ℕ} {b f a : List ℕ} (slices : Lent (conv .channels) count b f a) where
+  counted : frame-count (conv .channels) f ≡ count
+  counted = frames-of (conv .channels) count f (slices .some) (slices .whole)
+
+  pub ready-counted : {tables taps : List ℤ} → Ready conv count b f a tables taps → Ready conv (frame-count (conv .channels) f) b f a tables taps
+  ready-counted r = rw counted r
+
+  pub in-run : {n : ℕ} → n ≤ count * samples-per-frame (conv .rate) → n ≤ channel-samples conv (lent-run b f a)
+  unfolding channel-samples lent-run
+  in-run l = rw counted l
+
+  pub room-counted : {packed : Bool} {out raw : ℕ} → Room packed (count * samples-per-frame (conv .rate) * conv .channels) out raw → Room packed (all-samples conv (lent-run b f a)) out raw
+  unfolding all-samples channel-samples lent-run
+  room-counted o = rw counted o
 
 module _ {packed : Bool} {conv : Converter} {r : Run} {k : ℕ} {x y : List ℤ} {u v : List ℕ} {l : List Tally} {s t : List ℕ} (a : Frames packed conv r k x y u v l s t)
     (some : 0 < conv .channels) (whole : length (r .frames) ≡ k * frame-length (conv .channels)) where

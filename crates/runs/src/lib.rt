@@ -2,10 +2,11 @@
 ghost use mathlib.Core.Path.{_≡_};
 ghost use Prim.Native.Nat.{_+_, _*_, _≤_, _<_, _%_};
 ghost use lib.ListN.{length};
-ghost use Rattle.reference.specs.Output.{samples-per-frame, sample};
+ghost use Rattle.reference.specs.Frames.{frame-count};
+ghost use Rattle.reference.specs.Output.{samples-per-frame, sample, channel-samples, all-samples};
 ghost use Rattle.channel_bytes.specs.Lent.{lent-run};
 ghost use Rattle.output.specs.Fills.{Drawn, Room};
-ghost use Rattle.blocks.specs.Blocks.{Ready, Sized};
+ghost use Rattle.blocks.specs.Blocks.{Ready};
 ghost use Rattle.runs.specs.Loops.{Tallied, clips-below, stats-of, Ran};
 use gain::Tally;
 use reference::ConvertStats;
@@ -23,67 +24,44 @@ fn frame<'a>(
     before: &'a [u8],
     frames: &'a [u8],
     after: &'a [u8],
-    count: usize,
     tables: &[i32],
-    hb: &[i64],
-    h: &[i64],
-    he: &[i64],
-    ho: &[i64],
+    taps: &[i64],
     n: usize,
-    bytes: &mut [u8],
-    even: &mut [i64],
-    odd: &mut [i64],
-    s: &mut [i64],
-    t: &mut [i64],
-    y: &mut [i64],
-    samples: &mut [i32],
     packed: bool,
     out: &mut [i32],
     raw: &mut [u8],
     tallies: [Tally; 6],
 ) -> Framed
-    requires { ⌜ Ready conv count (now before) (now frames) (now after) (now tables) (now hb) (now h) (now he) (now ho) ⌝ }
-    requires { ⌜ (n + samples-per-frame (conv .rate) ≤ count * samples-per-frame (conv .rate)) × Room packed (count * samples-per-frame (conv .rate) * conv .channels) (length (now out)) (length (now raw)) × (n % 2 ≡ 0) ⌝ }
-    requires { ⌜ Sized (conv .rate) (now bytes) (now even) (now odd) (now s) (now t) (now y) (now samples) ⌝ }
+    requires { ⌜ Ready conv (frame-count (conv .channels) (now frames)) (now before) (now frames) (now after) (now tables) (now taps) ⌝ }
+    requires { ⌜ (n + samples-per-frame (conv .rate) ≤ channel-samples conv (lent-run (now before) (now frames) (now after))) × Room packed (all-samples conv (lent-run (now before) (now frames) (now after))) (length (now out)) (length (now raw)) × (n % 2 ≡ 0) ⌝ }
     requires { ⌜ Tallied conv (lent-run (now before) (now frames) (now after)) n (samples-per-frame (conv .rate)) 0 tallies ⌝ }
     ensures { λ r. ⌜ Drawn packed (sample conv (lent-run (now (before .entry)) (now (frames .entry)) (now (after .entry)))) (conv .channels) n (n + samples-per-frame (conv .rate)) 0 (conv .channels) (now (out .entry)) (now (out .exit)) (now (raw .entry)) (now (raw .exit)) ⌝ }
     ensures { λ r. ⌜ Tallied conv (lent-run (now (before .entry)) (now (frames .entry)) (now (after .entry))) (n + samples-per-frame (conv .rate)) (samples-per-frame (conv .rate)) 0 (r .tallies) ⌝ }
     ensures { λ r. ⌜ r .clips ≡ clips-below conv (lent-run (now (before .entry)) (now (frames .entry)) (now (after .entry))) n (samples-per-frame (conv .rate)) (conv .channels) ⌝ }
 {
-    let ch = conv.channels as usize;
+    let channels = conv.channels as usize;
     let mut sums = tallies;
     let mut clips: u64 = 0;
-    let mut c: usize = 0;
-    while c < ch {
+    let mut channel: usize = 0;
+    while channel < channels {
         let more = blocks::channel(
             conv,
             before,
             frames,
             after,
-            count,
             tables,
-            hb,
-            h,
-            he,
-            ho,
-            c,
+            taps,
+            channel,
             n,
-            bytes,
-            even,
-            odd,
-            s,
-            t,
-            y,
-            samples,
             packed,
             out,
             raw,
         );
-        let sum = sums[c];
+        let sum = sums[channel];
         let both = gain::join_tally(sum, more);
-        sums[c] = both;
+        sums[channel] = both;
         clips += more.clipped;
-        c += 1;
+        channel += 1;
     }
     Framed {
         tallies: sums,
@@ -111,27 +89,16 @@ pub fn every<'a>(
     before: &'a [u8],
     frames: &'a [u8],
     after: &'a [u8],
-    count: usize,
+    frame_count: usize,
     tables: &[i32],
-    hb: &[i64],
-    h: &[i64],
-    he: &[i64],
-    ho: &[i64],
-    bytes: &mut [u8],
-    even: &mut [i64],
-    odd: &mut [i64],
-    s: &mut [i64],
-    t: &mut [i64],
-    y: &mut [i64],
-    samples: &mut [i32],
+    taps: &[i64],
     packed: bool,
     out: &mut [i32],
     raw: &mut [u8],
     counts: &mut [u64],
 ) -> ConvertStats
-    requires { ⌜ Ready conv count (now before) (now frames) (now after) (now tables) (now hb) (now h) (now he) (now ho) ⌝ }
-    requires { ⌜ Room packed (count * samples-per-frame (conv .rate) * conv .channels) (length (now out)) (length (now raw)) × (length (now counts) ≤ count) ⌝ }
-    requires { ⌜ Sized (conv .rate) (now bytes) (now even) (now odd) (now s) (now t) (now y) (now samples) ⌝ }
+    requires { ⌜ Ready conv «frame_count» (now before) (now frames) (now after) (now tables) (now taps) ⌝ }
+    requires { ⌜ Room packed («frame_count» * samples-per-frame (conv .rate) * conv .channels) (length (now out)) (length (now raw)) × (length (now counts) ≤ «frame_count») ⌝ }
     ensures { λ r. ⌜ Ran packed conv (lent-run (now (before .entry)) (now (frames .entry)) (now (after .entry))) r (now (out .entry)) (now (out .exit)) (now (raw .entry)) (now (raw .exit)) (now (counts .entry)) (now (counts .exit)) ⌝ }
 {
     let rate = conv.rate;
@@ -139,26 +106,15 @@ pub fn every<'a>(
     let zero = gain::no_tally();
     let mut tallies = [zero; 6];
     let mut f: usize = 0;
-    while f < count {
+    while f < frame_count {
         let told = frame(
             conv,
             before,
             frames,
             after,
-            count,
             tables,
-            hb,
-            h,
-            he,
-            ho,
+            taps,
             f * spf,
-            bytes,
-            even,
-            odd,
-            s,
-            t,
-            y,
-            samples,
             packed,
             out,
             raw,

@@ -1,329 +1,29 @@
-// u and v from the bytes of a channel: as many values as the output has places. The arrays bytes, even and odd are scratch.
+// Steps that the routes share: v from bytes, half the rate, and arrays moved and woven.
 ghost use mathlib.Core.Path.{_≡_};
-ghost use Prim.Native.Nat.{ℕ, _+_, _-_, _*_, _%_, _≤_, _<_};
-ghost use lib.IntN.{pos};
+ghost use Prim.Native.Nat.{ℕ, _+_, _-_, _*_, _^_, _≤_, _<_};
+ghost use mathlib.Core.List.{List};
+ghost use lib.IntN.{ℤ, pos};
 ghost use lib.ListN.{length, getD};
 ghost use Rattle.numbers.specs.Lists.{Held};
-ghost use Rattle.reference.specs.Taps.{S1, S1-WIDE, HB};
-ghost use Rattle.reference.specs.Stages.{u, v};
+ghost use Rattle.numbers.specs.Parts.{woven};
+ghost use Rattle.reference.specs.Rounding.{R};
+ghost use Rattle.reference.specs.Taps.{S1};
+ghost use Rattle.reference.specs.Stages.{v};
 ghost use Rattle.tables.specs.Tables.{ByteTables};
-ghost use Rattle.channel_bytes.specs.Lent.{Lent, byte-at};
-ghost use Rattle.lanes.specs.Filters.{odd-taps};
-ghost use Rattle.numbers.specs.Parts.{evens, odds, woven};
+ghost use Rattle.lanes.specs.Filters.{same-rate, Small, Filled};
+ghost use Rattle.route_states.specs.Routes.{HalvedFilter, halves-of};
 
-// What the half band reads for v(i) and the values after it: u(2i), u(2i + 2), ..; and u(2i - 15), u(2i - 13), .., 15 values more.
-fn u_around<'a>(
-    before: &'a [u8],
-    frames: &'a [u8],
-    after: &'a [u8],
-    ch: usize,
-    count: usize,
-    c: usize,
-    i: usize,
-    tables: &[i32],
-    bytes: &mut [u8],
-    even: &mut [i64],
-    odd: &mut [i64],
-)
-    requires { ⌜ Lent ch count (now before) (now frames) (now after) ⌝ }
-    requires { ⌜ c < ch ⌝ }
+// v(i), v(i + 1), .., from the bytes around them, those from position 2i - 19 on: u(2i), u(2i + 2), .. go to the same places first, u(2i - 15),
+// u(2i - 13), .. to `odd`.
+pub fn half_band(tables: &[i32], bytes: &[u8], odd: &mut [i64], out: &mut [i64])
     requires { ⌜ ByteTables S1 8 (now tables) ⌝ }
-    requires { ⌜ (10 ≤ i) × (i < 9000000000000000000) × (length (now even) ≤ 238) × (length (now odd) ≡ length (now even) + 15) × (length (now bytes) ≡ 2 * length (now even) + 36) ⌝ }
-    ensures { λ _. ⌜ Held (pos 0) (evens (u S1 (byte-at ch (now (before .entry)) (now (frames .entry)) (now (after .entry)) c))) i (length (now (even .entry))) (now (even .exit)) ⌝ }
-    ensures { λ _. ⌜ Held (pos 0) (odds (u S1 (byte-at ch (now (before .entry)) (now (frames .entry)) (now (after .entry)) c))) (i - 8) (length (now (odd .entry))) (now (odd .exit)) ⌝ }
+    requires { ⌜ (length (now out) ≤ 232) × (length (now odd) ≡ length (now out) + 15) × (length (now bytes) ≡ 2 * length (now out) + 36) ⌝ }
+    ensures { λ _. ⌜ Small (2 ^ 27) (now (out .exit)) ⌝ }
+    ensures { λ _. ⌜ ((β : ℕ → ℕ) (i : ℕ) → 10 ≤ i → Held 0 β (2 * i - 19) (length (now (bytes .entry))) (now (bytes .entry)) → Held (pos 0) (v β) i (length (now (out .entry))) (now (out .exit))) ⌝ }
 {
-    channel_bytes::gather(before, frames, after, ch, count, c, 2 * i - 19, bytes);
-    first_stage::first_stage(tables, 4, bytes, 15, 2, even);
+    first_stage::first_stage(tables, 4, bytes, 15, 2, out);
     first_stage::first_stage(tables, 4, bytes, 0, 2, odd);
-}
-
-// v(i), v(i + 1), .., with scratch of just the length that it takes.
-fn v_with<'a>(
-    before: &'a [u8],
-    frames: &'a [u8],
-    after: &'a [u8],
-    ch: usize,
-    count: usize,
-    c: usize,
-    i: usize,
-    tables: &[i32],
-    hb: &[i64],
-    bytes: &mut [u8],
-    even: &mut [i64],
-    odd: &mut [i64],
-    out: &mut [i64],
-)
-    requires { ⌜ Lent ch count (now before) (now frames) (now after) ⌝ }
-    requires { ⌜ c < ch ⌝ }
-    requires { ⌜ ByteTables S1 8 (now tables) ⌝ }
-    requires { ⌜ now hb ≡ odd-taps HB ⌝ }
-    requires { ⌜ (10 ≤ i) × (i < 9000000000000000000) × (length (now out) ≤ 232) × (length (now out) % 8 ≡ 0) × (length (now even) ≡ length (now out)) × (length (now odd) ≡ length (now out) + 15) × (length (now bytes) ≡ 2 * length (now out) + 36) ⌝ }
-    ensures { λ _. ⌜ Held (pos 0) (v (byte-at ch (now (before .entry)) (now (frames .entry)) (now (after .entry)) c)) i (length (now (out .entry))) (now (out .exit)) ⌝ }
-{
-    u_around(
-        before,
-        frames,
-        after,
-        ch,
-        count,
-        c,
-        i,
-        tables,
-        bytes,
-        even,
-        odd,
-    );
-    lanes::half(out, hb, even, odd);
-}
-
-// v(i), v(i + 1), ..
-pub fn fill_v<'a>(
-    before: &'a [u8],
-    frames: &'a [u8],
-    after: &'a [u8],
-    ch: usize,
-    count: usize,
-    c: usize,
-    i: usize,
-    tables: &[i32],
-    hb: &[i64],
-    bytes: &mut [u8],
-    even: &mut [i64],
-    odd: &mut [i64],
-    out: &mut [i64],
-)
-    requires { ⌜ Lent ch count (now before) (now frames) (now after) ⌝ }
-    requires { ⌜ c < ch ⌝ }
-    requires { ⌜ ByteTables S1 8 (now tables) ⌝ }
-    requires { ⌜ now hb ≡ odd-taps HB ⌝ }
-    requires { ⌜ (10 ≤ i) × (i < 9000000000000000000) × (length (now out) ≤ 232) × (length (now out) % 8 ≡ 0) × (length (now bytes) ≡ 512) × (length (now even) ≡ 512) × (length (now odd) ≡ 512) ⌝ }
-    ensures { λ _. ⌜ Held (pos 0) (v (byte-at ch (now (before .entry)) (now (frames .entry)) (now (after .entry)) c)) i (length (now (out .entry))) (now (out .exit)) ⌝ }
-{
-    let n = out.len();
-    let m = n + 15;
-    let b = 2 * n + 36;
-    v_with(
-        before,
-        frames,
-        after,
-        ch,
-        count,
-        c,
-        i,
-        tables,
-        hb,
-        &mut bytes[0..b],
-        &mut even[0..n],
-        &mut odd[0..m],
-        out,
-    );
-}
-
-// v(2k), v(2k + 2), .. and v(2k + 1), v(2k + 3), .., with scratch of just the length that it takes.
-fn v_parts_with<'a>(
-    before: &'a [u8],
-    frames: &'a [u8],
-    after: &'a [u8],
-    ch: usize,
-    count: usize,
-    c: usize,
-    k: usize,
-    tables: &[i32],
-    hb: &[i64],
-    bytes: &mut [u8],
-    even: &mut [i64],
-    odd: &mut [i64],
-    out_even: &mut [i64],
-    out_odd: &mut [i64],
-)
-    requires { ⌜ Lent ch count (now before) (now frames) (now after) ⌝ }
-    requires { ⌜ c < ch ⌝ }
-    requires { ⌜ ByteTables S1 8 (now tables) ⌝ }
-    requires { ⌜ now hb ≡ odd-taps HB ⌝ }
-    requires { ⌜ (5 ≤ k) × (2 * k < 9000000000000000000) × (length (now «out_even») ≤ 116) × (length (now «out_even») % 4 ≡ 0) × (length (now «out_odd») ≡ length (now «out_even»)) × (length (now even) ≡ 2 * length (now «out_even»)) × (length (now odd) ≡ 2 * length (now «out_even») + 15) × (length (now bytes) ≡ 4 * length (now «out_even») + 36) ⌝ }
-    ensures { λ _. ⌜ Held (pos 0) (evens (v (byte-at ch (now (before .entry)) (now (frames .entry)) (now (after .entry)) c))) k (length (now («out_even» .entry))) (now («out_even» .exit)) ⌝ }
-    ensures { λ _. ⌜ Held (pos 0) (odds (v (byte-at ch (now (before .entry)) (now (frames .entry)) (now (after .entry)) c))) k (length (now («out_odd» .entry))) (now («out_odd» .exit)) ⌝ }
-{
-    u_around(
-        before,
-        frames,
-        after,
-        ch,
-        count,
-        c,
-        2 * k,
-        tables,
-        bytes,
-        even,
-        odd,
-    );
-    lanes::half_parts(out_even, out_odd, hb, even, odd);
-}
-
-// v(2k), v(2k + 2), .. and v(2k + 1), v(2k + 3), ..
-pub fn fill_v_parts<'a>(
-    before: &'a [u8],
-    frames: &'a [u8],
-    after: &'a [u8],
-    ch: usize,
-    count: usize,
-    c: usize,
-    k: usize,
-    tables: &[i32],
-    hb: &[i64],
-    bytes: &mut [u8],
-    even: &mut [i64],
-    odd: &mut [i64],
-    out_even: &mut [i64],
-    out_odd: &mut [i64],
-)
-    requires { ⌜ Lent ch count (now before) (now frames) (now after) ⌝ }
-    requires { ⌜ c < ch ⌝ }
-    requires { ⌜ ByteTables S1 8 (now tables) ⌝ }
-    requires { ⌜ now hb ≡ odd-taps HB ⌝ }
-    requires { ⌜ (5 ≤ k) × (2 * k < 9000000000000000000) × (length (now «out_even») ≤ 116) × (length (now «out_even») % 4 ≡ 0) × (length (now «out_odd») ≡ length (now «out_even»)) × (length (now bytes) ≡ 512) × (length (now even) ≡ 512) × (length (now odd) ≡ 512) ⌝ }
-    ensures { λ _. ⌜ Held (pos 0) (evens (v (byte-at ch (now (before .entry)) (now (frames .entry)) (now (after .entry)) c))) k (length (now («out_even» .entry))) (now («out_even» .exit)) ⌝ }
-    ensures { λ _. ⌜ Held (pos 0) (odds (v (byte-at ch (now (before .entry)) (now (frames .entry)) (now (after .entry)) c))) k (length (now («out_odd» .entry))) (now («out_odd» .exit)) ⌝ }
-{
-    let n = 2 * out_even.len();
-    let m = n + 15;
-    let b = 2 * n + 36;
-    v_parts_with(
-        before,
-        frames,
-        after,
-        ch,
-        count,
-        c,
-        k,
-        tables,
-        hb,
-        &mut bytes[0..b],
-        &mut even[0..n],
-        &mut odd[0..m],
-        out_even,
-        out_odd,
-    );
-}
-
-// u(i), u(i + 1), .. of Wide, with scratch of just the length that it takes.
-fn u_with<'a>(
-    before: &'a [u8],
-    frames: &'a [u8],
-    after: &'a [u8],
-    ch: usize,
-    count: usize,
-    c: usize,
-    i: usize,
-    tables: &[i32],
-    bytes: &mut [u8],
-    out: &mut [i64],
-)
-    requires { ⌜ Lent ch count (now before) (now frames) (now after) ⌝ }
-    requires { ⌜ c < ch ⌝ }
-    requires { ⌜ ByteTables S1-WIDE 12 (now tables) ⌝ }
-    requires { ⌜ (6 ≤ i) × (i < 9000000000000000000) × (length (now out) ≤ 500) × (length (now bytes) ≡ length (now out) + 11) ⌝ }
-    ensures { λ _. ⌜ Held (pos 0) (u S1-WIDE (byte-at ch (now (before .entry)) (now (frames .entry)) (now (after .entry)) c)) i (length (now (out .entry))) (now (out .exit)) ⌝ }
-{
-    channel_bytes::gather(before, frames, after, ch, count, c, i - 6, bytes);
-    first_stage::first_stage(tables, 6, bytes, 0, 1, out);
-}
-
-// u(i), u(i + 1), .. of Wide
-pub fn fill_u<'a>(
-    before: &'a [u8],
-    frames: &'a [u8],
-    after: &'a [u8],
-    ch: usize,
-    count: usize,
-    c: usize,
-    i: usize,
-    tables: &[i32],
-    bytes: &mut [u8],
-    out: &mut [i64],
-)
-    requires { ⌜ Lent ch count (now before) (now frames) (now after) ⌝ }
-    requires { ⌜ c < ch ⌝ }
-    requires { ⌜ ByteTables S1-WIDE 12 (now tables) ⌝ }
-    requires { ⌜ (6 ≤ i) × (i < 9000000000000000000) × (length (now out) ≤ 500) × (length (now bytes) ≡ 512) ⌝ }
-    ensures { λ _. ⌜ Held (pos 0) (u S1-WIDE (byte-at ch (now (before .entry)) (now (frames .entry)) (now (after .entry)) c)) i (length (now (out .entry))) (now (out .exit)) ⌝ }
-{
-    let n = out.len() + 11;
-    u_with(
-        before,
-        frames,
-        after,
-        ch,
-        count,
-        c,
-        i,
-        tables,
-        &mut bytes[0..n],
-        out,
-    );
-}
-
-// u(2k), u(2k + 2), .. and u(2k + 1), u(2k + 3), .. of Wide, with scratch of just the length that it takes.
-fn u_parts_with<'a>(
-    before: &'a [u8],
-    frames: &'a [u8],
-    after: &'a [u8],
-    ch: usize,
-    count: usize,
-    c: usize,
-    k: usize,
-    tables: &[i32],
-    bytes: &mut [u8],
-    out_even: &mut [i64],
-    out_odd: &mut [i64],
-)
-    requires { ⌜ Lent ch count (now before) (now frames) (now after) ⌝ }
-    requires { ⌜ c < ch ⌝ }
-    requires { ⌜ ByteTables S1-WIDE 12 (now tables) ⌝ }
-    requires { ⌜ (3 ≤ k) × (2 * k < 9000000000000000000) × (length (now «out_even») ≤ 250) × (length (now «out_odd») ≡ length (now «out_even»)) × (length (now bytes) ≡ 2 * length (now «out_even») + 11) ⌝ }
-    ensures { λ _. ⌜ Held (pos 0) (evens (u S1-WIDE (byte-at ch (now (before .entry)) (now (frames .entry)) (now (after .entry)) c))) k (length (now («out_even» .entry))) (now («out_even» .exit)) ⌝ }
-    ensures { λ _. ⌜ Held (pos 0) (odds (u S1-WIDE (byte-at ch (now (before .entry)) (now (frames .entry)) (now (after .entry)) c))) k (length (now («out_odd» .entry))) (now («out_odd» .exit)) ⌝ }
-{
-    channel_bytes::gather(before, frames, after, ch, count, c, 2 * k - 6, bytes);
-    first_stage::first_stage(tables, 6, bytes, 0, 2, out_even);
-    first_stage::first_stage(tables, 6, bytes, 1, 2, out_odd);
-}
-
-// u(2k), u(2k + 2), .. and u(2k + 1), u(2k + 3), .. of Wide
-pub fn fill_u_parts<'a>(
-    before: &'a [u8],
-    frames: &'a [u8],
-    after: &'a [u8],
-    ch: usize,
-    count: usize,
-    c: usize,
-    k: usize,
-    tables: &[i32],
-    bytes: &mut [u8],
-    out_even: &mut [i64],
-    out_odd: &mut [i64],
-)
-    requires { ⌜ Lent ch count (now before) (now frames) (now after) ⌝ }
-    requires { ⌜ c < ch ⌝ }
-    requires { ⌜ ByteTables S1-WIDE 12 (now tables) ⌝ }
-    requires { ⌜ (3 ≤ k) × (2 * k < 9000000000000000000) × (length (now «out_even») ≤ 250) × (length (now «out_odd») ≡ length (now «out_even»)) × (length (now bytes) ≡ 512) ⌝ }
-    ensures { λ _. ⌜ Held (pos 0) (evens (u S1-WIDE (byte-at ch (now (before .entry)) (now (frames .entry)) (now (after .entry)) c))) k (length (now («out_even» .entry))) (now («out_even» .exit)) ⌝ }
-    ensures { λ _. ⌜ Held (pos 0) (odds (u S1-WIDE (byte-at ch (now (before .entry)) (now (frames .entry)) (now (after .entry)) c))) k (length (now («out_odd» .entry))) (now («out_odd» .exit)) ⌝ }
-{
-    let n = 2 * out_even.len() + 11;
-    u_parts_with(
-        before,
-        frames,
-        after,
-        ch,
-        count,
-        c,
-        k,
-        tables,
-        &mut bytes[0..n],
-        out_even,
-        out_odd,
-    );
+    lanes::half(out, odd);
 }
 
 // n values of an array, those from place `by` on, become its first; the places past them keep theirs.
@@ -353,4 +53,16 @@ pub fn weave(even: &[i64], odd: &[i64], out: &mut [i64])
         out[2 * k + 1] = b;
         k += 1;
     }
+}
+
+// Half the rate, with a filter whose even taps come first in h, then the odd ones: place i of y is around place 2i + M of x.
+pub fn halved(h: &[i64], x: &[i64], y: &mut [i64])
+    requires { ⌜ HalvedFilter (now h) ⌝ }
+    requires { ⌜ (2 * (length (now y) + length (now h)) ≤ length (now x) + 3) × (length (now x) ≤ 400) ⌝ }
+    requires { ⌜ Small (2 ^ 27) (now x) ⌝ }
+    ensures { λ _. ⌜ ((F : List ℤ) → now (h .entry) ≡ halves-of F → Filled (λ i. R (same-rate F (now (x .entry)) (2 * i)) 24) (now (y .entry)) (now (y .exit))) ⌝ }
+{
+    let n = h.len();
+    let e = (n + 1) / 2;
+    lanes::dec2(y, &h[0..e], &h[e..n], x);
 }

@@ -1,4 +1,4 @@
--- `first_stage` meets its contract.
+-- `first_stage` meets its contract. The loop's invariant: the first k places of `out` hold their windows' sums.
 use denote.Ref.{now}
 use mathlib.Core.Path.{_≡_, refl, _∙_, ap}
 use Prim.Native.Nat.{_+_, _*_, _-_, _≤_}
@@ -49,27 +49,6 @@ add-window c = omega (arith, within (c .before))
 window-requires-2 : tie.Need-window-requires-2 Inv-loop μ-loop
 window-requires-2 c κs = (omega arith, omega arith, omega (arith, within (c .before)), omega arith)
 
-mul-a : tie.Need-mul-a Inv-loop μ-loop
-mul-a c = search needs
-
-slice-set-from-a : tie.Need-slice-set-from-a Inv-loop μ-loop
-slice-set-from-a c = search needs
-
-add-b : tie.Need-add-b Inv-loop μ-loop
-add-b c = search needs
-
-mul-b : tie.Need-mul-b Inv-loop μ-loop
-mul-b c = search needs
-
-slice-set-from-b : tie.Need-slice-set-from-b Inv-loop μ-loop
-slice-set-from-b c = search needs
-
-add-k : tie.Need-add-k Inv-loop μ-loop
-add-k c = search needs
-
-loop-less : tie.Need-loop-less Inv-loop μ-loop
-loop-less c = search needs
-
 loop-again : tie.Need-loop-again Inv-loop μ-loop
 loop-again c =
     let l = c .before .before .before in
@@ -92,12 +71,6 @@ add-window-2 c = omega (arith, last c)
 
 window-requires-3 : tie.Need-window-requires-3 Inv-loop μ-loop
 window-requires-3 c κs = (omega arith, omega arith, omega (arith, last c), omega arith)
-
-mul-a-2 : tie.Need-mul-a-2 Inv-loop μ-loop
-mul-a-2 c = search needs
-
-slice-set-from-a-2 : tie.Need-slice-set-from-a-2 Inv-loop μ-loop
-slice-set-from-a-2 c = search needs
 
 same-length : tie.Need-same-length Inv-loop μ-loop
 same-length c = length-set (c .before .before .before .loop .out) _ _ ∙ c .before .before .before .loop .inv .1
@@ -134,19 +107,19 @@ first-stage-spec =
     window-requires
     add-window
     window-requires-2
-    mul-a
-    slice-set-from-a
-    add-b
-    mul-b
-    slice-set-from-b
-    add-k
-    loop-less
+    (λ c. search needs)
+    (λ c. search needs)
+    (λ c. search needs)
+    (λ c. search needs)
+    (λ c. search needs)
+    (λ c. search needs)
+    (λ c. search needs)
     loop-again
     mul-window
     add-window-2
     window-requires-3
-    mul-a-2
-    slice-set-from-a-2
+    (λ c. search needs)
+    (λ c. search needs)
     same-length
     returns
     same-length-2

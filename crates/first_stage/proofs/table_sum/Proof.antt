@@ -1,15 +1,17 @@
--- `table_sum` meets its contract.
+-- `table_sum` meets its contract. The loop's invariant: `sum` is that of the first j tables, and at most j times 2^31 in size.
 use denote.Ref.{now}
-use mathlib.Core.Path.{_≡_, refl, _∙_, ap, ap₂}
-use Prim.Native.Nat.{_+_, _*_, _-_, _≤_}
+use mathlib.Core.Path.{_≡_, refl, _∙_, ap}
+use Prim.Native.Nat.{_+_, _*_, _-_, _≤_, _<_}
 use native.Mathlib.Numerals.{add-one}
 use lib.IntN.{ℤ, natAbs, _+ℤ_}
 use lib.ListN.{length, getD}
 use mir.Syntax.{w64}
 use mir.Val.{toZ}
+use mir.Facts.{toZ-ofZ}
+use lib.Signed.{natAbs-le}
+use Rattle.numbers.proofs.Integers.{sfits-abs, abs-add}
+use Rattle.numbers.proofs.Machine.{wide-fits, wide-is}
 use Rattle.numbers.specs.Sums.{sumTo, at0}
-use Rattle.numbers.proofs.Integers.{abs-add}
-use Rattle.numbers.proofs.Machine.{t, val}
 use native.Mathlib.Omega.{arith}
 use borrow.Author.Needs.{needs}
 use Rattle.first_stage.proofs.table_sum.Statement.{statement}
@@ -25,41 +27,50 @@ loop-holds : tie.Need-loop-holds Inv-loop μ-loop
 unfolding sumTo
 loop-holds c = (omega arith, omega arith, refl)
 
-mul-look : tie.Need-mul-look Inv-loop μ-loop
-mul-look c = omega arith
+-- a byte is below 256
+below : (c : tie.After-shared-slice-known Inv-loop μ-loop) → getD (now (c .before .before .before .args .window)) (c .before .before .loop .j) 0 < 256
+below c = omega (arith, c .shared-slice-known .given (c .before .before .loop .j))
 
-byte-requires : tie.Need-byte-requires Inv-loop μ-loop
-byte-requires c κs = search needs
+cast-b : tie.Need-cast-b Inv-loop μ-loop
+cast-b c = omega (arith, below c)
 
-add-look : tie.Need-add-look Inv-loop μ-loop
-add-look c = omega arith
+add-sum : tie.Need-add-sum Inv-loop μ-loop
+add-sum c = omega (arith, below c)
 
-look-requires : tie.Need-look-requires Inv-loop μ-loop
-look-requires c κs = search needs
+mul-sum-2 : tie.Need-mul-sum-2 Inv-loop μ-loop
+mul-sum-2 c = omega (arith, below c)
 
-plus-requires : tie.Need-plus-requires Inv-loop μ-loop
-plus-requires c κs = rw (val (c .look .result) _ (c .look .ok) refl) (omega arith)
+shared-slice-copy-out-sum : tie.Need-shared-slice-copy-out-sum Inv-loop μ-loop
+shared-slice-copy-out-sum c = omega (arith, below c)
 
-add-j : tie.Need-add-j Inv-loop μ-loop
-add-j c = omega arith
+-- a turn: the sum before it, and the table's entry
+module _ (c : tie.After-sum Inv-loop μ-loop) where
+  abbrev head : tie.At-loop Inv-loop μ-loop
+  head = c .before .before .before
 
-loop-less : tie.Need-loop-less Inv-loop μ-loop
-loop-less c = omega arith
+  abbrev old : ℤ
+  old = toZ w64 (head .loop .sum)
+
+  abbrev entry : ℤ
+  entry = at0 (now (head .before .args .tables)) (256 * head .loop .j + getD (now (head .before .args .window)) (head .loop .j) 0)
+
+  more : natAbs (old +ℤ entry) ≤ (head .loop .j + 1) * 2147483648
+  more = omega (arith, abs-add old entry, natAbs-le entry (c .sum .given))
+
+cast-sum : tie.Need-cast-sum Inv-loop μ-loop
+cast-sum c = wide-fits (entry c) (c .sum .given)
+
+add-sum-2 : tie.Need-add-sum-2 Inv-loop μ-loop
+add-sum-2 c = rw (wide-is (entry c) (c .sum .given)) (sfits-abs (omega (arith, more c)))
 
 loop-again : tie.Need-loop-again Inv-loop μ-loop
 unfolding sumTo
 loop-again c =
-    let l = c .before .before .before .before in
-    let r = c .before .look .result in
-    let e : t (c .plus .result) ≡ toZ w64 (l .loop .sum) +ℤ r =
-    val _ _ (c .plus .ok) (c .plus .ensures ∙ ap (λ (z : ℤ). toZ w64 (l .loop .sum) +ℤ z) (val r r (c .before .look .ok) refl)) in (
-      omega arith,
-      rw e (omega (arith, abs-add (toZ w64 (l .loop .sum)) r)),
-      rw add-one (e ∙ ap₂ (λ (a b : ℤ). a +ℤ b) (l .loop .inv .2) (c .before .look .ensures .0 ∙ ap (λ n. at0 (now (c .before .before .before .before .before .before .args .tables)) (256 * l .loop .j + n)) (c .before .before .byte .ensures .0))),
-    )
+    let e = toZ-ofZ (add-sum-2 c) ∙ ap (λ (z : ℤ). old c +ℤ z) (wide-is (entry c) (c .sum .given)) in
+    (omega arith, rw e (more c), rw add-one (e ∙ ap (λ (z : ℤ). z +ℤ entry c) (head c .loop .inv .2)))
 
 returns : tie.Need-returns Inv-loop μ-loop
-returns c = let e : c .before .loop .j ≡ length (now (c .before .before .before .args .window)) = omega arith in rw e at (c .before .loop .inv .2)
+returns c = let e : c .before .loop .j ≡ length (now (c .before .before .args .window)) = omega arith in rw e at (c .before .loop .inv .2)
 
 pub table-sum-spec : {M : Type 1} → statement M
 table-sum-spec =
@@ -68,12 +79,15 @@ table-sum-spec =
     Inv-loop
     μ-loop
     loop-holds
-    mul-look
-    byte-requires
-    add-look
-    look-requires
-    plus-requires
-    add-j
-    loop-less
+    (λ c. search needs)
+    cast-b
+    (λ c. search needs)
+    add-sum
+    mul-sum-2
+    shared-slice-copy-out-sum
+    cast-sum
+    add-sum-2
+    (λ c. search needs)
+    (λ c. search needs)
     loop-again
     returns)

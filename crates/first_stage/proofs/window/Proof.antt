@@ -10,24 +10,6 @@ use borrow.Author.Needs.{needs}
 use Rattle.first_stage.proofs.window.Statement.{statement}
 use Rattle.first_stage.proofs.window.Tie as tie
 
-mul-end : tie.Need-mul-end
-mul-end c = search needs
-
-add-end : tie.Need-add-end
-add-end c = search needs
-
-sub-table-sum : tie.Need-sub-table-sum
-sub-table-sum c = search needs
-
-part-table-sum-start : tie.Need-part-table-sum-start
-part-table-sum-start c = search needs
-
-part-table-sum-end : tie.Need-part-table-sum-end
-part-table-sum-end c = search needs
-
-table-sum-requires : tie.Need-table-sum-requires
-table-sum-requires c κs = search needs
-
 returns : tie.Need-returns
 returns c =
     let k = c .before .before .before .args in
@@ -38,10 +20,10 @@ pub window-spec : {M : Type 1} → statement M
 window-spec =
     tie.close
     (tie.spec
-    mul-end
-    add-end
-    sub-table-sum
-    part-table-sum-start
-    part-table-sum-end
-    table-sum-requires
+    (λ c. search needs)
+    (λ c. search needs)
+    (λ c. search needs)
+    (λ c. search needs)
+    (λ c. search needs)
+    (λ c κs. search needs)
     returns)

@@ -1,143 +1,80 @@
--- `convert_slices` meets its contract.
-use mathlib.Core.Path.{ap, _∙_}
+-- `convert_slices` meets its contract: the taps and the tables are those of the route.
+use mathlib.Core.Path.{_≡_, sym}
 use borrow.Author.Needs.{needs}
-use Rattle.lanes.specs.Filters.{odd-taps}
-use Rattle.routes.proofs.Kernel.{tables-standard, tables-low, tables-wide}
+use native.Mathlib.Omega.{arith}
+use lib.ListN.{length, take}
+use lib.Seq.{length-take-le}
+use Rattle.route_states.specs.Routes.{FirstTables}
+use Rattle.kernel.proofs.Arms.{in-narrow}
+use Rattle.routes.proofs.Bound.{made-ready}
 use Rattle.routes.proofs.convert_slices.Statement.{statement}
 use Rattle.routes.proofs.convert_slices.Tie as tie
 
-hb-requires : tie.Need-hb-requires
-hb-requires c κs = search needs
+-- places: the taps are bound; the slices are known; the function's start
+abbrev known : tie.After-last-taps → tie.After-slice-known2
+known c = c .before .before
 
-slice-aggregate-split-taps : tie.Need-slice-aggregate-split-taps
-slice-aggregate-split-taps c = search needs
+abbrev entry : tie.After-slice-known2 → tie.Start
+entry c = c .before .before .before .before .before
 
-slice-aggregate-split-taps-2 : tie.Need-slice-aggregate-split-taps-2
-slice-aggregate-split-taps-2 c = search needs
+taps-long : (c : tie.After-last-taps) → c .last-taps .result ≡ length (take (c .last-taps .result) (c .last-taps .last .1 .1 .0))
+taps-long c =
+    let g = c .last-taps in
+    sym (length-take-le (g .result) (g .last .1 .1 .0) (omega (arith, g .ensures .0, g .kept .1 .1 .0)))
 
-slice-aggregate-split-taps-3 : tie.Need-slice-aggregate-split-taps-3
-slice-aggregate-split-taps-3 c = search needs
+-- ---- Standard and Low
 
-split-taps-requires : tie.Need-split-taps-requires
-split-taps-requires c κs = search needs
+slice-aggregate-every-2 : tie.Need-slice-aggregate-every-2
+slice-aggregate-every-2 c = taps-long (c .before .before .before .before .before)
 
-enum-told : tie.Need-enum-told
-enum-told c = search needs
+every-requires : tie.Need-every-requires
+unfolding FirstTables
+every-requires c κs =
+    let f = c .before .before .before .before .before in
+    let m = f .before in
+    let g = m .before .before in
+    let s = entry (known g) in
+    let first = f .s1-tables .ensures in
+    (made-ready (s .pre .0) (in-narrow (s .args .conv .cutoff) (m .match .keys1) (λ e. rw e first) (λ e. rw e first)) (g .last-taps .ensures .1), s .pre .1)
 
-s1-tables-requires : tie.Need-s1-tables-requires
-s1-tables-requires c κs = search needs
+-- ---- Wide
 
-slice-aggregate-by-taps : tie.Need-slice-aggregate-by-taps
-slice-aggregate-by-taps c = search needs
+slice-aggregate-every-4 : tie.Need-slice-aggregate-every-4
+slice-aggregate-every-4 c =
+    let w = c .before .before .before in
+    taps-long (w .before .before .before)
 
-slice-aggregate-by-taps-2 : tie.Need-slice-aggregate-by-taps-2
-slice-aggregate-by-taps-2 c = search needs
-
-by-taps-requires : tie.Need-by-taps-requires
-by-taps-requires c κs = let s = c .before .before .before .before .before .before .before .before .before .before .before .before .before .before .before .before .before .before .before .before in
-    (s .pre .0, ((rw (c .before .before .before .before .before .before .enum-told .given .1) (tables-standard (c .before .before .before .before .before .s1-tables .ensures)), c .before .before .before .before .before .before .before .before .before .before .split-taps .ensures .1 ∙ ap odd-taps (c .before .before .before .before .before .before .before .before .before .before .before .before .before .before .hb .ensures)), s .pre .1))
-
-enum-told-2 : tie.Need-enum-told-2
-enum-told-2 c = search needs
-
-s1-tables-requires-2 : tie.Need-s1-tables-requires-2
-s1-tables-requires-2 c κs = search needs
-
-slice-aggregate-by-taps-3 : tie.Need-slice-aggregate-by-taps-3
-slice-aggregate-by-taps-3 c = search needs
-
-slice-aggregate-by-taps-4 : tie.Need-slice-aggregate-by-taps-4
-slice-aggregate-by-taps-4 c = search needs
-
-by-taps-requires-2 : tie.Need-by-taps-requires-2
-by-taps-requires-2 c κs = let s = c .before .before .before .before .before .before .before .before .before .before .before .before .before .before .before .before .before .before .before .before in
-    (s .pre .0, ((rw (c .before .before .before .before .before .before .enum-told2 .given .1) (tables-low (c .before .before .before .before .before .s1-tables2 .ensures)), c .before .before .before .before .before .before .before .before .before .before .split-taps .ensures .1 ∙ ap odd-taps (c .before .before .before .before .before .before .before .before .before .before .before .before .before .before .hb .ensures)), s .pre .1))
-
-enum-told-3 : tie.Need-enum-told-3
-enum-told-3 c = search needs
-
-s1-wide-tables-requires : tie.Need-s1-wide-tables-requires
-s1-wide-tables-requires c κs = search needs
-
-slice-aggregate-by-taps-5 : tie.Need-slice-aggregate-by-taps-5
-slice-aggregate-by-taps-5 c = search needs
-
-slice-aggregate-by-taps-6 : tie.Need-slice-aggregate-by-taps-6
-slice-aggregate-by-taps-6 c = search needs
-
-by-taps-requires-3 : tie.Need-by-taps-requires-3
-by-taps-requires-3 c κs = let s = c .before .before .before .before .before .before .before .before .before .before .before .before .before .before .before .before .before .before .before .before in
-    (s .pre .0, ((rw (c .before .before .before .before .before .before .enum-told3 .given .1) (tables-wide (c .before .before .before .before .before .s1-wide-tables .ensures)), c .before .before .before .before .before .before .before .before .before .before .split-taps .ensures .1 ∙ ap odd-taps (c .before .before .before .before .before .before .before .before .before .before .before .before .before .before .hb .ensures)), s .pre .1))
-
-same-length : tie.Need-same-length
-same-length c = search needs
-
-same-length-2 : tie.Need-same-length-2
-same-length-2 c = search needs
-
-same-length-3 : tie.Need-same-length-3
-same-length-3 c = search needs
-
-returns : tie.Need-returns
-returns c = search needs
-
-same-length-4 : tie.Need-same-length-4
-same-length-4 c = search needs
-
-same-length-5 : tie.Need-same-length-5
-same-length-5 c = search needs
-
-same-length-6 : tie.Need-same-length-6
-same-length-6 c = search needs
-
-returns-2 : tie.Need-returns-2
-returns-2 c = search needs
-
-same-length-7 : tie.Need-same-length-7
-same-length-7 c = search needs
-
-same-length-8 : tie.Need-same-length-8
-same-length-8 c = search needs
-
-same-length-9 : tie.Need-same-length-9
-same-length-9 c = search needs
-
-returns-3 : tie.Need-returns-3
-returns-3 c = search needs
+every-requires-2 : tie.Need-every-requires-2
+unfolding FirstTables
+every-requires-2 c κs =
+    let f = c .before .before .before .before .before in
+    let w = f .before in
+    let g = w .before .before .before in
+    let s = entry (known g) in
+    (made-ready (s .pre .0) (rw (w .enum-told .given .1) (f .s1-wide-tables .ensures)) (g .last-taps .ensures .1), s .pre .1)
 
 pub convert-slices-spec : {M : Type 1} → statement M
 convert-slices-spec =
     tie.close
     (tie.spec
-    hb-requires
-    slice-aggregate-split-taps
-    slice-aggregate-split-taps-2
-    slice-aggregate-split-taps-3
-    split-taps-requires
-    enum-told
-    s1-tables-requires
-    slice-aggregate-by-taps
-    slice-aggregate-by-taps-2
-    by-taps-requires
-    enum-told-2
-    s1-tables-requires-2
-    slice-aggregate-by-taps-3
-    slice-aggregate-by-taps-4
-    by-taps-requires-2
-    enum-told-3
-    s1-wide-tables-requires
-    slice-aggregate-by-taps-5
-    slice-aggregate-by-taps-6
-    by-taps-requires-3
-    same-length
-    same-length-2
-    same-length-3
-    returns
-    same-length-4
-    same-length-5
-    same-length-6
-    returns-2
-    same-length-7
-    same-length-8
-    same-length-9
-    returns-3)
+    (λ c. search needs)
+    (λ c κs. search needs)
+    (λ c κs. search needs)
+    (λ c. search needs)
+    (λ c. search needs)
+    slice-aggregate-every-2
+    every-requires
+    (λ c. search needs)
+    (λ c κs. search needs)
+    (λ c. search needs)
+    (λ c. search needs)
+    slice-aggregate-every-4
+    every-requires-2
+    (λ c. search needs)
+    (λ c. search needs)
+    (λ c. search needs)
+    (λ c. search needs)
+    (λ c. search needs)
+    (λ c. search needs)
+    (λ c. search needs)
+    (λ c. search needs))

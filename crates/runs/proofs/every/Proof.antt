@@ -1,105 +1,105 @@
--- `every` meets its contract.
+-- `every` meets its contract. The loop's invariant: the frames below f are drawn, tallied and counted. The measure is the frames left.
 use mathlib.Core.Logic.{⊎-elim}
-use mathlib.Core.Path.{_≡_, sym, _∙_}
-use Prim.Native.Nat.{_-_, _≤_}
+use mathlib.Core.Path.{_≡_, ap}
+use Prim.Native.Nat.{_-_, _*_, _≤_, _<_}
 use native.Mathlib.Nat.{mul-le-mul}
 use native.Mathlib.Omega.{arith}
 use borrow.Author.Needs.{needs}
+use denote.Ref.{now}
+use Rattle.numbers.proofs.Lists.{part-end}
 use Rattle.reference.specs.Output.{samples-per-frame}
 use Rattle.channel_bytes.specs.Lent.{lent-run}
-use Rattle.blocks.specs.Blocks.{Sized}
-use Rattle.numbers.proofs.Lists.{part-end}
-use Rattle.blocks.proofs.Sums.{even-frames, sized-kept, room-same}
-use Rattle.runs.proofs.Sums.{Frames, frames-none, frames-past, frames-more, run-done}
+use Rattle.blocks.proofs.Sums.{even-frames, room-same}
+use Rattle.runs.proofs.Sums.{Frames, frames-none, frames-past, frames-more, ready-counted, in-run, room-counted, run-done}
 use Rattle.runs.proofs.every.Statement.{statement}
 use Rattle.runs.proofs.every.Tie as tie
 
 abbrev Inv-loop : tie.InvT-loop
-Inv-loop conv before frames after count tables hb h he ho bytes₀ even₀ odd₀ s₀ t₀ y₀ samples₀ packed out₀ raw₀ counts₀ spf tallies₀ f₀ bytes even odd s t y samples out raw counts tallies f = (f ≤ count) × Frames packed conv (lent-run before frames after) f out₀ out raw₀ raw tallies counts₀ counts × Sized (conv .rate) bytes even odd s t y samples
+Inv-loop conv before frames after frame-count tables taps packed out₀ raw₀ counts₀ spf tallies₀ f₀ out raw counts tallies f =
+    (f ≤ frame-count) × Frames packed conv (lent-run before frames after) f out₀ out raw₀ raw tallies counts₀ counts
 
 abbrev μ-loop : tie.MeasureT-loop
-μ-loop conv before frames after count tables hb h he ho bytes₀ even₀ odd₀ s₀ t₀ y₀ samples₀ packed out₀ raw₀ counts₀ spf tallies₀ f₀ bytes even odd s t y samples out raw counts tallies f = count - f
+μ-loop conv before frames after frame-count tables taps packed out₀ raw₀ counts₀ spf tallies₀ f₀ out raw counts tallies f = frame-count - f
 
-samples-per-frame-requires : tie.Need-samples-per-frame-requires Inv-loop μ-loop
-samples-per-frame-requires c κs = search needs
+-- places: the function's start; the samples of a frame are known; the frame's turn
+abbrev entry : tie.After-slice-known2 Inv-loop μ-loop → tie.Start Inv-loop μ-loop
+entry c = c .before .before .before .before .before
 
-no-tally-requires : tie.Need-no-tally-requires Inv-loop μ-loop
-no-tally-requires c κs = search needs
+abbrev known : tie.At-loop Inv-loop μ-loop → tie.After-samples-per-frame Inv-loop μ-loop
+known c = c .before .before
+
+abbrev start : tie.At-loop Inv-loop μ-loop → tie.Start Inv-loop μ-loop
+start c = entry (known c .before)
+
+abbrev turn : tie.After-frame Inv-loop μ-loop → tie.In-loop Inv-loop μ-loop
+turn c = c .before .before .before
 
 loop-holds : tie.Need-loop-holds Inv-loop μ-loop
-loop-holds c = let s = c .before .before .before .before .before .before .before .before in (omega arith, rw (c .no-tally .ensures) frames-none, s .pre .1 .1)
+loop-holds c = (omega arith, rw (c .no-tally .ensures) frames-none)
 
 mul-frame : tie.Need-mul-frame Inv-loop μ-loop
-mul-frame c = let s = c .before .before .before .before .before .before .before .before .before .before in
-    omega (arith, part-end (c .before .loop .f) (s .args .count) (c .before .before .before .samples-per-frame .result) (c .loop-test .taken), mul-le-mul (s .pre .0 .slices .limit) (c .before .before .before .samples-per-frame .ensures .1))
+mul-frame c =
+    let s = start (c .before) in
+    let k = known (c .before) .samples-per-frame in
+    omega (arith, part-end (c .before .loop .f) (s .args .frame-count) (k .result) (c .loop-test .taken), mul-le-mul (s .pre .0 .slices .limit) (k .ensures .1))
 
 frame-requires : tie.Need-frame-requires Inv-loop μ-loop
-frame-requires c κs = let s = c .before .before .before .before .before .before .before .before .before .before .before .before .before .before .before .before .before .before .before in
-    let l = c .before .before .before .before .before .before .before .before .before .before .loop in
-    rw (c .before .before .before .before .before .before .before .before .before .before .before .before .samples-per-frame .ensures .0) (s .pre .0, ((part-end (l .f) (s .args .count) (samples-per-frame (s .args .conv .rate)) (c .before .before .before .before .before .before .before .before .before .loop-test .taken), room-same (l .inv .1 .box) (s .pre .1 .0 .0), even-frames (l .f) (s .args .conv .rate)), (l .inv .2, l .inv .1 .tallied)))
-
-mul-counts : tie.Need-mul-counts Inv-loop μ-loop
-mul-counts c = omega (arith, c .before .before .before .before .before .before .before .before .before .before .before .before .before .before .before .before .before .before .before .before .before .before .before .loop-test .taken, c .before .before .before .before .before .before .before .before .before .before .before .before .before .before .before .before .before .before .before .before .before .before .before .before .before .before .before .before .before .before .before .before .before .pre .0 .slices .limit)
-
-slice-write-counts : tie.Need-slice-write-counts Inv-loop μ-loop
-slice-write-counts c = c .if1 .taken
-
-add-f : tie.Need-add-f Inv-loop μ-loop
-add-f c = omega (arith, c .before .before .before .before .before .before .before .before .before .before .before .before .before .before .before .before .before .before .before .before .before .before .before .loop-test .taken, c .before .before .before .before .before .before .before .before .before .before .before .before .before .before .before .before .before .before .before .before .before .before .before .before .before .before .before .before .before .before .before .before .before .pre .0 .slices .limit)
-
-loop-less : tie.Need-loop-less Inv-loop μ-loop
-loop-less c = omega (arith, c .before .before .before .before .before .before .before .before .before .before .before .before .before .before .before .before .before .before .before .before .before .before .before .loop-test .taken)
-
-loop-again : tie.Need-loop-again Inv-loop μ-loop
-loop-again c = let l = c .before .before .before .before .before .before .before .before .before .before .before .before .before .before .before .before .before .before .before .before .before .before .before .before .loop in
-    let g = c .before .before .before .before .before .before .before .before .before .before .before .before .before .frame in
-    let e = rw (c .before .before .before .before .before .before .before .before .before .before .before .before .before .before .before .before .before .before .before .before .before .before .before .before .before .before .samples-per-frame .ensures .0) at (g .ensures) in (
-      omega (arith, c .before .before .before .before .before .before .before .before .before .before .before .before .before .before .before .before .before .before .before .before .before .before .before .loop-test .taken),
-      ⊎-elim (λ w. rw (w .1) (frames-more (l .inv .1) (e .0) (e .1 .0) (g .result .clips) (w .0 .taken) (e .1 .1)))
-          (λ w. rw (w .1) (frames-past (l .inv .1) (e .0) (e .1 .0) (w .0 .left))) (c .if1 .came),
-      sized-kept (l .inv .2) (g .kept .1 .1 .1 .1 .1 .1 .1 .1 .1 .1 .1 .0) (g .kept .1 .1 .1 .1 .1 .1 .1 .1 .1 .1 .1 .1 .0) (g .kept .1 .1 .1 .1 .1 .1 .1 .1 .1 .1 .1 .1 .1 .0) (g .kept .1 .1 .1 .1 .1 .1 .1 .1 .1 .1 .1 .1 .1 .1 .0) (g .kept .1 .1 .1 .1 .1 .1 .1 .1 .1 .1 .1 .1 .1 .1 .1 .0) (g .kept .1 .1 .1 .1 .1 .1 .1 .1 .1 .1 .1 .1 .1 .1 .1 .1 .0) (g .kept .1 .1 .1 .1 .1 .1 .1 .1 .1 .1 .1 .1 .1 .1 .1 .1 .1 .0),
+frame-requires c κs =
+    let t = c .before .before in
+    let s = start (t .before) in
+    let conv = s .args .conv in
+    let l = t .before .loop in
+    let slices = s .pre .0 .slices in
+    rw (known (t .before) .samples-per-frame .ensures .0) (
+      ready-counted conv slices (s .pre .0),
+      (
+        (
+          in-run conv slices (part-end (l .f) (s .args .frame-count) (samples-per-frame (conv .rate)) (t .loop-test .taken)),
+          room-same (l .inv .1 .box) (room-counted conv slices (s .pre .1 .0)),
+          even-frames (l .f) (conv .rate),
+        ),
+        l .inv .1 .tallied,
+      ),
     )
 
-stats-of-requires : tie.Need-stats-of-requires Inv-loop μ-loop
-stats-of-requires c κs = search needs
+-- places: the frame is done; its tallies are taken
+abbrev done : tie.After-sums Inv-loop μ-loop → tie.After-frame Inv-loop μ-loop
+done c = c .before .before .before .before
 
-same-length : tie.Need-same-length Inv-loop μ-loop
-same-length c = c .before .before .loop .inv .2 .five .0 ∙ sym (c .before .before .before .before .before .before .before .before .before .before .before .pre .1 .1 .five .0)
+-- the frame is one of the run's
+in-frames : (c : tie.After-sums Inv-loop μ-loop) → turn (done c) .before .loop .f < 540000
+in-frames c =
+    let t = turn (done c) in
+    omega (arith, t .loop-test .taken, start (t .before) .pre .0 .slices .limit)
 
-same-length-2 : tie.Need-same-length-2 Inv-loop μ-loop
-same-length-2 c = c .before .before .loop .inv .2 .five .1 ∙ sym (c .before .before .before .before .before .before .before .before .before .before .before .pre .1 .1 .five .1)
+mul-counts : tie.Need-mul-counts Inv-loop μ-loop
+mul-counts c = omega (arith, in-frames (c .before))
 
-same-length-3 : tie.Need-same-length-3 Inv-loop μ-loop
-same-length-3 c = c .before .before .loop .inv .2 .five .2 ∙ sym (c .before .before .before .before .before .before .before .before .before .before .before .pre .1 .1 .five .2)
+add-f : tie.Need-add-f Inv-loop μ-loop
+add-f c = omega (arith, in-frames (c .before))
 
-same-length-4 : tie.Need-same-length-4 Inv-loop μ-loop
-same-length-4 c = c .before .before .loop .inv .2 .five .3 ∙ sym (c .before .before .before .before .before .before .before .before .before .before .before .pre .1 .1 .five .3)
+loop-less : tie.Need-loop-less Inv-loop μ-loop
+loop-less c = omega (arith, turn (done (c .before)) .loop-test .taken)
 
-same-length-5 : tie.Need-same-length-5 Inv-loop μ-loop
-same-length-5 c = c .before .before .loop .inv .2 .five .4 ∙ sym (c .before .before .before .before .before .before .before .before .before .before .before .pre .1 .1 .five .4)
-
-same-length-6 : tie.Need-same-length-6 Inv-loop μ-loop
-same-length-6 c = c .before .before .loop .inv .2 .y-block ∙ sym (c .before .before .before .before .before .before .before .before .before .before .before .pre .1 .1 .y-block)
-
-same-length-7 : tie.Need-same-length-7 Inv-loop μ-loop
-same-length-7 c = c .before .before .loop .inv .2 .block ∙ sym (c .before .before .before .before .before .before .before .before .before .before .before .pre .1 .1 .block)
-
-same-length-8 : tie.Need-same-length-8 Inv-loop μ-loop
-same-length-8 c = c .before .before .loop .inv .1 .box .same
-
-same-length-9 : tie.Need-same-length-9 Inv-loop μ-loop
-same-length-9 c = c .before .before .loop .inv .1 .box .same-bytes
-
-same-length-10 : tie.Need-same-length-10 Inv-loop μ-loop
-same-length-10 c = c .before .before .loop .inv .1 .same
+loop-again : tie.Need-loop-again Inv-loop μ-loop
+loop-again c =
+    let d = done (c .before) in
+    let t = turn d in
+    let frames = t .before .loop .inv .1 in
+    let at = ap (λ z. t .before .loop .f * z) (known (t .before) .samples-per-frame .ensures .0) in
+    let e = d .frame .ensures in (
+      omega (arith, t .loop-test .taken),
+      ⊎-elim (λ w. rw (w .1) (frames-more frames at (e .0) (e .1 .0) (d .frame .result .clips) (w .0 .taken) (e .1 .1))) (λ w. rw (w .1) (frames-past frames at (e .0) (e .1 .0) (w .0 .left))) (c .if1 .came),
+    )
 
 returns : tie.Need-returns Inv-loop μ-loop
 unfolding lent-run
-returns c = let s = c .before .before .before .before .before .before .before .before .before .before .before in
+returns c =
     let l = c .before .before .loop in
-    let e : l .f ≡ s .args .count = omega (arith, c .before .loop-test .left, l .inv .0) in
-    let k = rw e at (l .inv .1) in
-    run-done k (s .pre .0 .slices .some) (s .pre .0 .slices .whole) (s .pre .1 .0 .0) (s .pre .1 .0 .1) (c .stats-of .ensures)
+    let s = start (c .before .before) in
+    let e : l .f ≡ s .args .frame-count = omega (arith, c .before .loop-test .left, l .inv .0) in
+    let all = rw e at (l .inv .1) in
+    run-done all (s .pre .0 .slices .some) (s .pre .0 .slices .whole) (s .pre .1 .0) (s .pre .1 .1) (c .stats-of .ensures)
 
 pub every-spec : {M : Type 1} → statement M
 every-spec =
@@ -107,25 +107,18 @@ every-spec =
     (tie.spec
     Inv-loop
     μ-loop
-    samples-per-frame-requires
-    no-tally-requires
+    (λ c κs. search needs)
+    (λ c κs. search needs)
     loop-holds
     mul-frame
     frame-requires
     mul-counts
-    slice-write-counts
+    (λ c. c .if1 .taken)
     add-f
     loop-less
     loop-again
-    stats-of-requires
-    same-length
-    same-length-2
-    same-length-3
-    same-length-4
-    same-length-5
-    same-length-6
-    same-length-7
-    same-length-8
-    same-length-9
-    same-length-10
+    (λ c κs. search needs)
+    (λ c. c .before .before .loop .inv .1 .box .same)
+    (λ c. c .before .before .loop .inv .1 .box .same-bytes)
+    (λ c. c .before .before .loop .inv .1 .same)
     returns)

@@ -6,8 +6,9 @@ use native.Mathlib.Omega.{arith}
 use borrow.Author.Needs.{needs}
 use lib.ListN.{length-set, length, getD}
 use Rattle.numbers.specs.Lists.{Held}
-use Rattle.numbers.proofs.Lists.{held-none, held-more, is-tabulate}
+use Rattle.numbers.proofs.Lists.{getD-any, held-none, held-more, is-tabulate}
 use Rattle.gain.specs.Tallies.{none}
+use Rattle.gain.specs.declared.Tally.{Tally}
 use Rattle.runs.specs.Loops.{stats-of}
 use Rattle.runs.proofs.stats_of.Statement.{statement}
 use Rattle.runs.proofs.stats_of.Tie as tie
@@ -40,10 +41,10 @@ loop-less : tie.Need-loop-less Inv-loop μ-loop
 loop-less c = omega arith
 
 loop-again : tie.Need-loop-again Inv-loop μ-loop
-unfolding none
-loop-again c = let l = c .before .before .loop in
+loop-again c =
+    let l = c .before .before .loop in
     let z : 0 + l .c ≡ l .c = omega arith in
-    (omega arith, length-set (l .clipped) _ _ ∙ l .inv .1, held-more (l .inv .2) (omega arith) (rw z refl))
+    (omega arith, length-set (l .clipped) _ _ ∙ l .inv .1, held-more (l .inv .2) (omega arith) (rw z (ap (λ (t : Tally). t .clipped) (getD-any (c .before .before .before .args .t1) (l .c) _ none (omega (arith, c .before .loop-test .taken))))))
 
 returns : tie.Need-returns Inv-loop μ-loop
 unfolding stats-of

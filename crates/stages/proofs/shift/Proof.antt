@@ -1,4 +1,4 @@
--- `shift` meets its contract.
+-- `shift` meets its contract. The loop's invariant: the first k places hold what stood `by` places after them, the others are as they were.
 use denote.Ref.{now}
 use mathlib.Core.Path.{_≡_, refl, _∙_}
 use mathlib.Core.Logic.{⊎-elim}
@@ -9,6 +9,7 @@ use lib.Seq.{getD-set-same, getD-set-other}
 use Rattle.numbers.proofs.Lists.{below-or}
 use Rattle.numbers.proofs.Machine.{val}
 use native.Mathlib.Omega.{arith}
+use borrow.Author.Needs.{needs}
 use Rattle.stages.proofs.shift.Statement.{statement}
 use Rattle.stages.proofs.shift.Tie as tie
 
@@ -20,27 +21,6 @@ abbrev μ-loop : tie.MeasureT-loop
 
 loop-holds : tie.Need-loop-holds Inv-loop μ-loop
 loop-holds c = (omega arith, refl, λ j l. absurd (omega arith), λ j l. refl)
-
-add-v : tie.Need-add-v Inv-loop μ-loop
-add-v c = omega arith
-
-mul-v : tie.Need-mul-v Inv-loop μ-loop
-mul-v c = omega arith
-
-slice-copy-out-v : tie.Need-slice-copy-out-v Inv-loop μ-loop
-slice-copy-out-v c = omega arith
-
-mul-v-2 : tie.Need-mul-v-2 Inv-loop μ-loop
-mul-v-2 c = omega arith
-
-slice-set-from-v : tie.Need-slice-set-from-v Inv-loop μ-loop
-slice-set-from-v c = omega arith
-
-add-k : tie.Need-add-k Inv-loop μ-loop
-add-k c = omega arith
-
-loop-less : tie.Need-loop-less Inv-loop μ-loop
-loop-less c = omega arith
 
 loop-again : tie.Need-loop-again Inv-loop μ-loop
 loop-again c =
@@ -70,13 +50,13 @@ shift-spec =
     Inv-loop
     μ-loop
     loop-holds
-    add-v
-    mul-v
-    slice-copy-out-v
-    mul-v-2
-    slice-set-from-v
-    add-k
-    loop-less
+    (λ c. search needs)
+    (λ c. search needs)
+    (λ c. search needs)
+    (λ c. search needs)
+    (λ c. search needs)
+    (λ c. search needs)
+    (λ c. search needs)
     loop-again
     same-length
     returns)

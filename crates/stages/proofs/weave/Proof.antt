@@ -1,4 +1,4 @@
--- `weave` meets its contract.
+-- `weave` meets its contract. The loop's invariant: the first 2k places of `out` hold the two arrays in turn.
 use denote.Ref.{now}
 use mathlib.Core.Path.{_≡_, refl, _∙_}
 use Prim.Native.Nat.{_+_, _-_, _*_, _≤_}
@@ -10,6 +10,7 @@ use Rattle.numbers.proofs.Machine.{val}
 use Rattle.numbers.specs.Parts.{woven}
 use Rattle.stages.proofs.Arrays.{woven-even, woven-odd}
 use native.Mathlib.Omega.{arith}
+use borrow.Author.Needs.{needs}
 use Rattle.stages.proofs.weave.Statement.{statement}
 use Rattle.stages.proofs.weave.Tie as tie
 
@@ -22,44 +23,8 @@ abbrev μ-loop : tie.MeasureT-loop
 loop-holds : tie.Need-loop-holds Inv-loop μ-loop
 loop-holds c = (omega arith, refl, held-none)
 
-mul-a : tie.Need-mul-a Inv-loop μ-loop
-mul-a c = omega arith
-
-shared-slice-copy-out-a : tie.Need-shared-slice-copy-out-a Inv-loop μ-loop
-shared-slice-copy-out-a c = omega arith
-
-mul-b : tie.Need-mul-b Inv-loop μ-loop
-mul-b c = omega arith
-
-shared-slice-copy-out-b : tie.Need-shared-slice-copy-out-b Inv-loop μ-loop
-shared-slice-copy-out-b c = omega arith
-
-mul-a-2 : tie.Need-mul-a-2 Inv-loop μ-loop
-mul-a-2 c = omega arith
-
-mul-a-3 : tie.Need-mul-a-3 Inv-loop μ-loop
-mul-a-3 c = omega arith
-
-slice-set-from-a : tie.Need-slice-set-from-a Inv-loop μ-loop
-slice-set-from-a c = omega arith
-
-mul-b-2 : tie.Need-mul-b-2 Inv-loop μ-loop
-mul-b-2 c = omega arith
-
-add-b : tie.Need-add-b Inv-loop μ-loop
-add-b c = omega arith
-
-mul-b-3 : tie.Need-mul-b-3 Inv-loop μ-loop
-mul-b-3 c = omega arith
-
 slice-set-from-b : tie.Need-slice-set-from-b Inv-loop μ-loop
 slice-set-from-b c = simp length-set (omega arith)
-
-add-k : tie.Need-add-k Inv-loop μ-loop
-add-k c = omega arith
-
-loop-less : tie.Need-loop-less Inv-loop μ-loop
-loop-less c = omega arith
 
 loop-again : tie.Need-loop-again Inv-loop μ-loop
 loop-again c =
@@ -86,19 +51,19 @@ weave-spec =
     Inv-loop
     μ-loop
     loop-holds
-    mul-a
-    shared-slice-copy-out-a
-    mul-b
-    shared-slice-copy-out-b
-    mul-a-2
-    mul-a-3
-    slice-set-from-a
-    mul-b-2
-    add-b
-    mul-b-3
+    (λ c. search needs)
+    (λ c. search needs)
+    (λ c. search needs)
+    (λ c. search needs)
+    (λ c. search needs)
+    (λ c. search needs)
+    (λ c. search needs)
+    (λ c. search needs)
+    (λ c. search needs)
+    (λ c. search needs)
     slice-set-from-b
-    add-k
-    loop-less
+    (λ c. search needs)
+    (λ c. search needs)
     loop-again
     same-length
     returns)

@@ -1,4 +1,4 @@
--- `lanes::copy::widen_taps` meets its contract.
+-- `widen_taps` meets its contract. The loop's invariant: the first k places hold the taps, the others are as they were.
 use Prim.Native.Nat.{_-_, _≤_}
 use Rattle.numbers.proofs.Machine.{wide-fits, wide-is}
 use Rattle.lanes.proofs.Places.{written-none, written-more}
@@ -22,35 +22,14 @@ abbrev μ-loop : tie.MeasureT-loop
 loop-holds : tie.Need-loop-holds Inv-loop μ-loop
 loop-holds c = (omega arith, written-none (omega arith))
 
-mul-out : tie.Need-mul-out Inv-loop μ-loop
-mul-out c = search needs
-
-shared-slice-copy-out-out : tie.Need-shared-slice-copy-out-out Inv-loop μ-loop
-shared-slice-copy-out-out c = search needs
-
 cast-out : tie.Need-cast-out Inv-loop μ-loop
 cast-out c = let l = c .before .before in wide-fits (at0 (now (l .before .args .h)) (l .loop .k)) (c .out .given)
-
-mul-t9 : tie.Need-mul-t9 Inv-loop μ-loop
-mul-t9 c = search needs
-
-slice-set-from-out : tie.Need-slice-set-from-out Inv-loop μ-loop
-slice-set-from-out c = search needs
-
-add-k : tie.Need-add-k Inv-loop μ-loop
-add-k c = search needs
-
-loop-less : tie.Need-loop-less Inv-loop μ-loop
-loop-less c = search needs
 
 loop-again : tie.Need-loop-again Inv-loop μ-loop
 loop-again c =
     let l = c .before .before in
     let u = l .loop .inv .1 .same in
     (omega arith, written-more (l .loop .inv .1) (omega arith) (omega arith) (wide-is (at0 (now (l .before .args .h)) (l .loop .k)) (c .out .given)) (omega arith))
-
-same-length : tie.Need-same-length Inv-loop μ-loop
-same-length c = search needs
 
 returns : tie.Need-returns Inv-loop μ-loop
 returns c =
@@ -65,13 +44,13 @@ widen-taps-spec =
     Inv-loop
     μ-loop
     loop-holds
-    mul-out
-    shared-slice-copy-out-out
+    (λ c. search needs)
+    (λ c. search needs)
     cast-out
-    mul-t9
-    slice-set-from-out
-    add-k
-    loop-less
+    (λ c. search needs)
+    (λ c. search needs)
+    (λ c. search needs)
+    (λ c. search needs)
     loop-again
-    same-length
+    (λ c. search needs)
     returns)

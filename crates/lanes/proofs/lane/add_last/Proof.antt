@@ -1,4 +1,4 @@
--- `lanes::lane::add_last` meets its contract.
+-- `add_last` meets its contract. The loop's invariant: the places from i to k - 1 have gained the taps, the others are as they were.
 use Rattle.lanes.proofs.Places.{written-none, written-more}
 use Rattle.numbers.proofs.Machine.{val, sized}
 use Rattle.lanes.specs.Lanes.{raised, arms, Written}
@@ -22,18 +22,6 @@ abbrev μ-loop : tie.MeasureT-loop
 loop-holds : tie.Need-loop-holds Inv-loop μ-loop
 loop-holds c = (omega arith, omega arith, written-none (omega arith))
 
-mul-pairs1 : tie.Need-mul-pairs1 Inv-loop μ-loop
-mul-pairs1 c = search needs
-
-slice-copy-out-pairs1 : tie.Need-slice-copy-out-pairs1 Inv-loop μ-loop
-slice-copy-out-pairs1 c = search needs
-
-add-pairs1 : tie.Need-add-pairs1 Inv-loop μ-loop
-add-pairs1 c = search needs
-
-add-pairs1-2 : tie.Need-add-pairs1-2 Inv-loop μ-loop
-add-pairs1-2 c = search needs
-
 pairs1-requires : tie.Need-pairs1-requires Inv-loop μ-loop
 pairs1-requires c κs =
     let l = c .before .before in
@@ -45,18 +33,6 @@ pairs1-requires c κs =
       (k .pre .1 .0, (k .pre .1 .1 .0, sized _ _ _ (c .pairs1-arg .given) e (k .pre .1 .1 .1 j (omega arith)))),
     )
 
-mul-r : tie.Need-mul-r Inv-loop μ-loop
-mul-r c = search needs
-
-slice-set-from-r : tie.Need-slice-set-from-r Inv-loop μ-loop
-slice-set-from-r c = search needs
-
-add-k : tie.Need-add-k Inv-loop μ-loop
-add-k c = search needs
-
-loop-less : tie.Need-loop-less Inv-loop μ-loop
-loop-less c = search needs
-
 loop-again : tie.Need-loop-again Inv-loop μ-loop
 loop-again c =
     let l = c .before .before .before in
@@ -66,9 +42,6 @@ loop-again c =
     let e = val _ _ (c .before .pairs1-arg .given) (l .loop .inv .2 .above j (omega arith)) in
     let r = val _ _ (c .pairs1 .ok) (c .pairs1 .ensures) ∙ ap (λ (z : ℤ). z +ℤ arms (now (k .h)) (raised (now (k .v))) (k .from) (k .end + j - 1) (k .up + j) (length (now (k .h)) - k .from)) e in
     (omega arith, omega arith, written-more {j = j + 1} (l .loop .inv .2) (omega arith) (omega arith) r (omega arith))
-
-same-length : tie.Need-same-length Inv-loop μ-loop
-same-length c = search needs
 
 returns : tie.Need-returns Inv-loop μ-loop
 returns c =
@@ -83,15 +56,15 @@ add-last-spec =
     Inv-loop
     μ-loop
     loop-holds
-    mul-pairs1
-    slice-copy-out-pairs1
-    add-pairs1
-    add-pairs1-2
+    (λ c. search needs)
+    (λ c. search needs)
+    (λ c. search needs)
+    (λ c. search needs)
     pairs1-requires
-    mul-r
-    slice-set-from-r
-    add-k
-    loop-less
+    (λ c. search needs)
+    (λ c. search needs)
+    (λ c. search needs)
+    (λ c. search needs)
     loop-again
-    same-length
+    (λ c. search needs)
     returns)

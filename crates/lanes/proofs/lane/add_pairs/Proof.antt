@@ -1,4 +1,4 @@
--- `lanes::lane::add_pairs` meets its contract.
+-- `add_pairs` meets its contract. The loop's invariant: the first i places have gained the taps, the others are as they were; then come the last.
 use Rattle.lanes.proofs.Places.{written-none, written-then, written-filled, hold-lanes}
 use Rattle.lanes.proofs.Pairs.{lanes-gain}
 use Rattle.lanes.specs.Lanes.{raised, arms, Written}
@@ -22,17 +22,8 @@ abbrev μ-loop : tie.MeasureT-loop
 loop-holds : tie.Need-loop-holds Inv-loop μ-loop
 loop-holds c = (omega arith, written-none (omega arith))
 
-add-loop : tie.Need-add-loop Inv-loop μ-loop
-add-loop c = search needs
-
 load14-requires : tie.Need-load14-requires Inv-loop μ-loop
 load14-requires c κs = let l = c .before .before in omega (arith, l .loop .inv .1 .same)
-
-add-pairs14 : tie.Need-add-pairs14 Inv-loop μ-loop
-add-pairs14 c = search needs
-
-add-pairs14-2 : tie.Need-add-pairs14-2 Inv-loop μ-loop
-add-pairs14-2 c = search needs
 
 pairs14-requires : tie.Need-pairs14-requires Inv-loop μ-loop
 pairs14-requires c κs =
@@ -46,12 +37,6 @@ pairs14-requires c κs =
 
 put14-requires : tie.Need-put14-requires Inv-loop μ-loop
 put14-requires c κs = let l = c .before .before .before .before .before in omega (arith, l .loop .inv .1 .same)
-
-add-i : tie.Need-add-i Inv-loop μ-loop
-add-i c = search needs
-
-loop-less : tie.Need-loop-less Inv-loop μ-loop
-loop-less c = search needs
 
 loop-again : tie.Need-loop-again Inv-loop μ-loop
 loop-again c =
@@ -73,9 +58,6 @@ add-last-requires c κs =
       (k .pre .1 .0, (k .pre .1 .1 .0, λ m p. rw (l .loop .inv .1 .above m p) (k .pre .1 .1 .1 .size m))),
     )
 
-same-length : tie.Need-same-length Inv-loop μ-loop
-same-length c = search needs
-
 returns : tie.Need-returns Inv-loop μ-loop
 returns c =
     let l = c .before .before .before .before in
@@ -92,15 +74,15 @@ add-pairs-spec =
     Inv-loop
     μ-loop
     loop-holds
-    add-loop
+    (λ c. search needs)
     load14-requires
-    add-pairs14
-    add-pairs14-2
+    (λ c. search needs)
+    (λ c. search needs)
     pairs14-requires
     put14-requires
-    add-i
-    loop-less
+    (λ c. search needs)
+    (λ c. search needs)
     loop-again
     add-last-requires
-    same-length
+    (λ c. search needs)
     returns)

@@ -1,4 +1,4 @@
--- `lanes::lane::fourths14` meets its contract.
+-- `fourths14` meets its contract. The loop's invariant: the lanes have gained the first k times two taps.
 use mathlib.Core.Path.{_≡_, refl, _∙_, ap₂}
 use Prim.Native.Nat.{_+_, _*_, _-_, _≤_, _^_}
 use native.Mathlib.Omega.{arith}
@@ -23,36 +23,6 @@ abbrev μ-loop : tie.MeasureT-loop
 loop-holds : tie.Need-loop-holds Inv-loop μ-loop
 loop-holds c = (omega arith, added-none _ (λ l. fourths-none _ _ _ _ _))
 
-mul-j : tie.Need-mul-j Inv-loop μ-loop
-mul-j c = search needs
-
-add-j : tie.Need-add-j Inv-loop μ-loop
-add-j c = search needs
-
-mul-two14 : tie.Need-mul-two14 Inv-loop μ-loop
-mul-two14 c = search needs
-
-shared-slice-copy-out-two14 : tie.Need-shared-slice-copy-out-two14 Inv-loop μ-loop
-shared-slice-copy-out-two14 c = search needs
-
-add-two14 : tie.Need-add-two14 Inv-loop μ-loop
-add-two14 c = search needs
-
-mul-two14-2 : tie.Need-mul-two14-2 Inv-loop μ-loop
-mul-two14-2 c = search needs
-
-shared-slice-copy-out-two14-2 : tie.Need-shared-slice-copy-out-two14-2 Inv-loop μ-loop
-shared-slice-copy-out-two14-2 c = search needs
-
-sub-two14 : tie.Need-sub-two14 Inv-loop μ-loop
-sub-two14 c = search needs
-
-sub-two14-2 : tie.Need-sub-two14-2 Inv-loop μ-loop
-sub-two14-2 c = search needs
-
-add-two14-2 : tie.Need-add-two14-2 Inv-loop μ-loop
-add-two14-2 c = search needs
-
 two14-requires : tie.Need-two14-requires Inv-loop μ-loop
 two14-requires c κs =
     let l = c .before .before .before in
@@ -67,12 +37,6 @@ two14-requires c κs =
             (omega arith),
       ),
     )
-
-add-k : tie.Need-add-k Inv-loop μ-loop
-add-k c = search needs
-
-loop-less : tie.Need-loop-less Inv-loop μ-loop
-loop-less c = search needs
 
 loop-again : tie.Need-loop-again Inv-loop μ-loop
 loop-again c =
@@ -101,18 +65,18 @@ fourths14-spec =
     Inv-loop
     μ-loop
     loop-holds
-    mul-j
-    add-j
-    mul-two14
-    shared-slice-copy-out-two14
-    add-two14
-    mul-two14-2
-    shared-slice-copy-out-two14-2
-    sub-two14
-    sub-two14-2
-    add-two14-2
+    (λ c. search needs)
+    (λ c. search needs)
+    (λ c. search needs)
+    (λ c. search needs)
+    (λ c. search needs)
+    (λ c. search needs)
+    (λ c. search needs)
+    (λ c. search needs)
+    (λ c. search needs)
+    (λ c. search needs)
     two14-requires
-    add-k
-    loop-less
+    (λ c. search needs)
+    (λ c. search needs)
     loop-again
     returns)

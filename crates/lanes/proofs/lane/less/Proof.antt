@@ -1,15 +1,9 @@
--- `lanes::lane::less` meets its contract.
+-- `less` meets its contract.
 use Rattle.lanes.proofs.Ops.{less-fits, less-is}
 use Prim.Native.Nat.{_*_}
 use borrow.Author.Needs.{needs}
 use Rattle.lanes.proofs.lane.less.Statement.{statement}
 use Rattle.lanes.proofs.lane.less.Tie as tie
-
-mul-result : tie.Need-mul-result
-mul-result c = search needs
-
-cast-result : tie.Need-cast-result
-cast-result c = search needs
 
 sub-result : tie.Need-sub-result
 sub-result c = less-fits (c .args .h * c .args .v) (c .fits .s) (c .pre)
@@ -18,4 +12,4 @@ returns : tie.Need-returns
 returns c = less-is (c .args .h * c .args .v) (c .fits .s) (c .pre)
 
 pub less-spec : {M : Type 1} → statement M
-less-spec = tie.close (tie.spec mul-result cast-result sub-result returns)
+less-spec = tie.close (tie.spec (λ c. search needs) (λ c. search needs) sub-result returns)

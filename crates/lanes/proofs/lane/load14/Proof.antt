@@ -1,4 +1,4 @@
--- `lanes::lane::load14` meets its contract.
+-- `load14` meets its contract. The loop's invariant: the first l lanes hold y from i on.
 use Rattle.lanes.proofs.Places.{written-none, written-more, written-hold}
 use Rattle.numbers.proofs.Machine.{val}
 use Rattle.lanes.specs.Lanes.{Written}
@@ -20,27 +20,6 @@ abbrev μ-loop : tie.MeasureT-loop
 loop-holds : tie.Need-loop-holds Inv-loop μ-loop
 loop-holds c = (search needs, refl, written-none (omega arith))
 
-add-s : tie.Need-add-s Inv-loop μ-loop
-add-s c = search needs
-
-mul-s : tie.Need-mul-s Inv-loop μ-loop
-mul-s c = search needs
-
-shared-slice-copy-out-s : tie.Need-shared-slice-copy-out-s Inv-loop μ-loop
-shared-slice-copy-out-s c = search needs
-
-mul-s-2 : tie.Need-mul-s-2 Inv-loop μ-loop
-mul-s-2 c = search needs
-
-array-set-from-s : tie.Need-array-set-from-s Inv-loop μ-loop
-array-set-from-s c = search needs
-
-add-l : tie.Need-add-l Inv-loop μ-loop
-add-l c = search needs
-
-loop-less : tie.Need-loop-less Inv-loop μ-loop
-loop-less c = search needs
-
 loop-again : tie.Need-loop-again Inv-loop μ-loop
 loop-again c =
     let l = c .before .before in
@@ -57,12 +36,12 @@ load14-spec =
     Inv-loop
     μ-loop
     loop-holds
-    add-s
-    mul-s
-    shared-slice-copy-out-s
-    mul-s-2
-    array-set-from-s
-    add-l
-    loop-less
+    (λ c. search needs)
+    (λ c. search needs)
+    (λ c. search needs)
+    (λ c. search needs)
+    (λ c. search needs)
+    (λ c. search needs)
+    (λ c. search needs)
     loop-again
     returns)

@@ -1,15 +1,9 @@
--- `lanes::lane::more` meets its contract.
+-- `more` meets its contract.
 use Rattle.lanes.proofs.Ops.{more-fits, more-is}
 use Prim.Native.Nat.{_*_}
 use borrow.Author.Needs.{needs}
 use Rattle.lanes.proofs.lane.more.Statement.{statement}
 use Rattle.lanes.proofs.lane.more.Tie as tie
-
-mul-result : tie.Need-mul-result
-mul-result c = search needs
-
-cast-result : tie.Need-cast-result
-cast-result c = search needs
 
 add-result : tie.Need-add-result
 add-result c = more-fits (c .args .h * c .args .v) (c .fits .s) (c .pre)
@@ -18,4 +12,4 @@ returns : tie.Need-returns
 returns c = more-is (c .args .h * c .args .v) (c .fits .s) (c .pre)
 
 pub more-spec : {M : Type 1} → statement M
-more-spec = tie.close (tie.spec mul-result cast-result add-result returns)
+more-spec = tie.close (tie.spec (λ c. search needs) (λ c. search needs) add-result returns)

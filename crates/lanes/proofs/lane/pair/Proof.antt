@@ -1,4 +1,4 @@
--- `lanes::lane::pair` meets its contract.
+-- `pair` meets its contract.
 use denote.Ref.{now}
 use lib.IntN.{natAbs}
 use mir.Facts.{toZ-ofZ}
@@ -6,18 +6,6 @@ use Rattle.lanes.proofs.Ops.{pair-room, pair-is}
 use borrow.Author.Needs.{needs}
 use Rattle.lanes.proofs.lane.pair.Statement.{statement}
 use Rattle.lanes.proofs.lane.pair.Tie as tie
-
-mul-both : tie.Need-mul-both
-mul-both c = search needs
-
-shared-slice-read-both : tie.Need-shared-slice-read-both
-shared-slice-read-both c = search needs
-
-mul-both-2 : tie.Need-mul-both-2
-mul-both-2 c = search needs
-
-shared-slice-read-both-2 : tie.Need-shared-slice-read-both-2
-shared-slice-read-both-2 c = search needs
 
 both-requires : tie.Need-both-requires
 both-requires c κs =
@@ -40,10 +28,10 @@ pub pair-spec : {M : Type 1} → statement M
 pair-spec =
     tie.close
     (tie.spec
-    mul-both
-    shared-slice-read-both
-    mul-both-2
-    shared-slice-read-both-2
+    (λ c. search needs)
+    (λ c. search needs)
+    (λ c. search needs)
+    (λ c. search needs)
     both-requires
     tap1-requires
     returns)

@@ -1,4 +1,4 @@
--- `lanes::lane::pairs1` meets its contract.
+-- `pairs1` meets its contract. The loop's invariant: the sum has gained the taps from place `from` to j - 1.
 use Rattle.lanes.proofs.Pairs.{arms-none, arms-one, arms-size}
 use Rattle.lanes.proofs.Ops.{got, raised-size}
 use Rattle.numbers.proofs.Integers.{abs-add}
@@ -30,21 +30,6 @@ loop-holds c =
     let k = c .before in
     (omega arith, omega arith, sym (ap (λ (z : ℤ). t (k .args .acc) +ℤ z) (arms-none _ _ _ _ _ _ (omega arith)) ∙ +ℤ-idr (t (k .args .acc))))
 
-mul-pair : tie.Need-mul-pair Inv-loop μ-loop
-mul-pair c = search needs
-
-shared-slice-copy-out-pair : tie.Need-shared-slice-copy-out-pair Inv-loop μ-loop
-shared-slice-copy-out-pair c = search needs
-
-sub-pair : tie.Need-sub-pair Inv-loop μ-loop
-sub-pair c = search needs
-
-sub-pair-2 : tie.Need-sub-pair-2 Inv-loop μ-loop
-sub-pair-2 c = search needs
-
-add-pair : tie.Need-add-pair Inv-loop μ-loop
-add-pair c = search needs
-
 pair-requires : tie.Need-pair-requires Inv-loop μ-loop
 pair-requires c κs =
     let l = c .before .before in
@@ -60,12 +45,6 @@ pair-requires c κs =
       ),
       k .pre .1 .1 .0,
     )
-
-add-j : tie.Need-add-j Inv-loop μ-loop
-add-j c = search needs
-
-loop-less : tie.Need-loop-less Inv-loop μ-loop
-loop-less c = search needs
 
 loop-again : tie.Need-loop-again Inv-loop μ-loop
 loop-again c =
@@ -97,13 +76,13 @@ pairs1-spec =
     Inv-loop
     μ-loop
     loop-holds
-    mul-pair
-    shared-slice-copy-out-pair
-    sub-pair
-    sub-pair-2
-    add-pair
+    (λ c. search needs)
+    (λ c. search needs)
+    (λ c. search needs)
+    (λ c. search needs)
+    (λ c. search needs)
     pair-requires
-    add-j
-    loop-less
+    (λ c. search needs)
+    (λ c. search needs)
     loop-again
     returns)

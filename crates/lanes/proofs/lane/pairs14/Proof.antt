@@ -1,4 +1,4 @@
--- `lanes::lane::pairs14` meets its contract.
+-- `pairs14` meets its contract: two times fourths and the taps left over are all taps from place `from` on.
 use mathlib.Core.Path.{refl}
 use Prim.Native.Nat.{_+_, _*_, _-_, _/_, _^_}
 use native.Mathlib.Omega.{arith}
@@ -12,16 +12,10 @@ use Rattle.lanes.proofs.Places.{added-then, lanes-then}
 use Rattle.lanes.proofs.lane.pairs14.Statement.{statement}
 use Rattle.lanes.proofs.lane.pairs14.Tie as tie
 
-sub-n : tie.Need-sub-n
-sub-n c = search needs
-
 fourths14-requires : tie.Need-fourths14-requires
 fourths14-requires c κs =
     let k = c .before in
     ((omega arith, omega arith, omega arith, omega arith, omega arith), (k .pre .1 .0, (k .pre .1 .1 .0, record { size = λ l m. omega (arith, k .pre .1 .1 .1 .size l m) })))
-
-add-fourths14 : tie.Need-add-fourths14
-add-fourths14 c = search needs
 
 fourths14-requires-2 : tie.Need-fourths14-requires-2
 fourths14-requires-2 c κs =
@@ -30,12 +24,6 @@ fourths14-requires-2 c κs =
       (omega arith, omega arith, omega arith, omega arith, omega arith),
       (k .pre .1 .0, (k .pre .1 .1 .0, lanes-then (2 * n * 2 ^ 56) ((127 - 2 * n) * 2 ^ 56) (c .fourths14 .ensures) (k .pre .1 .1 .1) (λ i. fourths-size _ _ _ _ _ n (k .pre .1 .0) (raised-size (k .pre .1 .1 .0))) (omega arith))),
     )
-
-mul-singly14 : tie.Need-mul-singly14
-mul-singly14 c = search needs
-
-add-singly14 : tie.Need-add-singly14
-add-singly14 c = search needs
 
 singly14-requires : tie.Need-singly14-requires
 singly14-requires c κs =
@@ -60,11 +48,11 @@ pub pairs14-spec : {M : Type 1} → statement M
 pairs14-spec =
     tie.close
     (tie.spec
-    sub-n
+    (λ c. search needs)
     fourths14-requires
-    add-fourths14
+    (λ c. search needs)
     fourths14-requires-2
-    mul-singly14
-    add-singly14
+    (λ c. search needs)
+    (λ c. search needs)
     singly14-requires
     returns)

@@ -1,4 +1,4 @@
--- `lanes::lane::put14` meets its contract.
+-- `put14` meets its contract. The loop's invariant: l places of y from i on hold the lanes, the others are as they were.
 use Rattle.lanes.proofs.Places.{written-none, written-more}
 use Rattle.numbers.proofs.Machine.{val}
 use Rattle.lanes.specs.Lanes.{Written}
@@ -19,36 +19,12 @@ abbrev μ-loop : tie.MeasureT-loop
 loop-holds : tie.Need-loop-holds Inv-loop μ-loop
 loop-holds c = (search needs, written-none (omega arith))
 
-mul-y : tie.Need-mul-y Inv-loop μ-loop
-mul-y c = search needs
-
-array-copy-out-y : tie.Need-array-copy-out-y Inv-loop μ-loop
-array-copy-out-y c = search needs
-
-add-t11 : tie.Need-add-t11 Inv-loop μ-loop
-add-t11 c = search needs
-
-mul-t12 : tie.Need-mul-t12 Inv-loop μ-loop
-mul-t12 c = search needs
-
-slice-set-from-y : tie.Need-slice-set-from-y Inv-loop μ-loop
-slice-set-from-y c = search needs
-
-add-l : tie.Need-add-l Inv-loop μ-loop
-add-l c = search needs
-
-loop-less : tie.Need-loop-less Inv-loop μ-loop
-loop-less c = search needs
-
 loop-again : tie.Need-loop-again Inv-loop μ-loop
 loop-again c =
     let l = c .before .before in
     let u = l .loop .inv .1 .same in
     let s = l .before .args .t3 in
     (omega arith, written-more (l .loop .inv .1) (omega arith) (omega arith) (val _ _ (c .y .given) (ap (at0 s) (omega arith))) (omega arith))
-
-same-length : tie.Need-same-length Inv-loop μ-loop
-same-length c = search needs
 
 returns : tie.Need-returns Inv-loop μ-loop
 returns c =
@@ -63,13 +39,13 @@ put14-spec =
     Inv-loop
     μ-loop
     loop-holds
-    mul-y
-    array-copy-out-y
-    add-t11
-    mul-t12
-    slice-set-from-y
-    add-l
-    loop-less
+    (λ c. search needs)
+    (λ c. search needs)
+    (λ c. search needs)
+    (λ c. search needs)
+    (λ c. search needs)
+    (λ c. search needs)
+    (λ c. search needs)
     loop-again
-    same-length
+    (λ c. search needs)
     returns)

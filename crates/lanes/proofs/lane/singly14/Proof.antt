@@ -1,4 +1,4 @@
--- `lanes::lane::singly14` meets its contract.
+-- `singly14` meets its contract. The loop's invariant: the lanes have gained the taps from place `from` to j - 1.
 use mathlib.Core.Path.{_≡_, refl, _∙_, ap}
 use Prim.Native.Nat.{_+_, _*_, _-_, _≤_, _^_}
 use native.Mathlib.Omega.{arith}
@@ -24,21 +24,6 @@ abbrev μ-loop : tie.MeasureT-loop
 loop-holds : tie.Need-loop-holds Inv-loop μ-loop
 loop-holds c = (omega arith, omega arith, added-none _ (λ l. arms-none _ _ _ _ _ _ (omega arith)))
 
-mul-tap14 : tie.Need-mul-tap14 Inv-loop μ-loop
-mul-tap14 c = search needs
-
-shared-slice-copy-out-tap14 : tie.Need-shared-slice-copy-out-tap14 Inv-loop μ-loop
-shared-slice-copy-out-tap14 c = search needs
-
-sub-tap14 : tie.Need-sub-tap14 Inv-loop μ-loop
-sub-tap14 c = search needs
-
-sub-tap14-2 : tie.Need-sub-tap14-2 Inv-loop μ-loop
-sub-tap14-2 c = search needs
-
-add-tap14 : tie.Need-add-tap14 Inv-loop μ-loop
-add-tap14 c = search needs
-
 tap14-requires : tie.Need-tap14-requires Inv-loop μ-loop
 tap14-requires c κs =
     let l = c .before .before in
@@ -53,12 +38,6 @@ tap14-requires c κs =
             (omega arith),
       ),
     )
-
-add-j : tie.Need-add-j Inv-loop μ-loop
-add-j c = search needs
-
-loop-less : tie.Need-loop-less Inv-loop μ-loop
-loop-less c = search needs
 
 loop-again : tie.Need-loop-again Inv-loop μ-loop
 loop-again c =
@@ -85,13 +64,13 @@ singly14-spec =
     Inv-loop
     μ-loop
     loop-holds
-    mul-tap14
-    shared-slice-copy-out-tap14
-    sub-tap14
-    sub-tap14-2
-    add-tap14
+    (λ c. search needs)
+    (λ c. search needs)
+    (λ c. search needs)
+    (λ c. search needs)
+    (λ c. search needs)
     tap14-requires
-    add-j
-    loop-less
+    (λ c. search needs)
+    (λ c. search needs)
     loop-again
     returns)

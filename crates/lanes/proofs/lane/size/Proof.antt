@@ -1,4 +1,4 @@
--- `lanes::lane::size` meets its contract.
+-- `size` meets its contract.
 use Rattle.lanes.proofs.Ops.{size-sub, size-cast, size-is, size-cast-2}
 use borrow.Author.Needs.{needs}
 use Rattle.lanes.proofs.lane.size.Statement.{statement}
@@ -16,8 +16,5 @@ returns c = size-is (c .before .fits .h) (c .before .pre) (c .if1 .taken)
 cast-result-2 : tie.Need-cast-result-2
 cast-result-2 c = size-cast-2 (c .before .fits .h) (c .before .pre) (c .if1 .left)
 
-returns-2 : tie.Need-returns-2
-returns-2 c = search needs
-
 pub size-spec : {M : Type 1} → statement M
-size-spec = tie.close (tie.spec sub-result cast-result returns cast-result-2 returns-2)
+size-spec = tie.close (tie.spec sub-result cast-result returns cast-result-2 (λ c. search needs))

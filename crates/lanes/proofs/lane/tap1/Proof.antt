@@ -1,4 +1,4 @@
--- `lanes::lane::tap1` meets its contract.
+-- `tap1` meets its contract.
 use Rattle.lanes.proofs.Ops.{tap-neg, tap-pos}
 use mir.Facts.{toZ-ofZ}
 use mathlib.Core.Path.{_≡_, _∙_, ap}
@@ -6,9 +6,6 @@ use borrow.Author.Needs.{needs}
 use lib.IntN.{natAbs}
 use Rattle.lanes.proofs.lane.tap1.Statement.{statement}
 use Rattle.lanes.proofs.lane.tap1.Tie as tie
-
-size-requires : tie.Need-size-requires
-size-requires c κs = search needs
 
 less-requires : tie.Need-less-requires
 less-requires c κs =
@@ -20,9 +17,6 @@ returns : tie.Need-returns
 returns c =
     let k = c .before .before .before in
     tap-neg (k .args .s) (k .fits .h) (k .args .w) (c .before .size .ensures) (c .less .ok) (rw (toZ-ofZ (k .fits .s)) at (c .less .ensures)) (c .before .before .if1 .taken)
-
-size-requires-2 : tie.Need-size-requires-2
-size-requires-2 c κs = search needs
 
 more-requires : tie.Need-more-requires
 more-requires c κs =
@@ -38,4 +32,4 @@ returns-2 c =
 pub tap1-spec : {M : Type 1} → statement M
 tap1-spec =
     tie.close
-    (tie.spec size-requires less-requires returns size-requires-2 more-requires returns-2)
+    (tie.spec (λ c κs. search needs) less-requires returns (λ c κs. search needs) more-requires returns-2)

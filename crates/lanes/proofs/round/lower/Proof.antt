@@ -1,16 +1,10 @@
--- `lanes::round::lower` meets its contract.
+-- `lower` meets its contract.
 use native.Mathlib.Omega.{arith}
 use lib.IntN.{pos}
 use Rattle.lanes.proofs.Ops.{pos-fits, less-fits, less-is}
 use borrow.Author.Needs.{needs}
 use Rattle.lanes.proofs.round.lower.Statement.{statement}
 use Rattle.lanes.proofs.round.lower.Tie as tie
-
-cast-result : tie.Need-cast-result
-cast-result c = search needs
-
-cast-result-2 : tie.Need-cast-result-2
-cast-result-2 c = search needs
 
 sub-result : tie.Need-sub-result
 sub-result c = less-fits {s = pos (c .args .n)} (c .args .b) (pos-fits (omega arith)) (omega arith)
@@ -19,4 +13,4 @@ returns : tie.Need-returns
 returns c = less-is {s = pos (c .args .n)} (c .args .b) (pos-fits (omega arith)) (omega arith)
 
 pub lower-spec : {M : Type 1} → statement M
-lower-spec = tie.close (tie.spec cast-result cast-result-2 sub-result returns)
+lower-spec = tie.close (tie.spec (λ c. search needs) (λ c. search needs) sub-result returns)

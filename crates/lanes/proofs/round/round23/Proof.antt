@@ -1,4 +1,4 @@
--- `lanes::round::round23` meets its contract.
+-- `round23` meets its contract.
 use mathlib.Core.Path.{sym, _∙_, ap}
 use Prim.Native.Nat.{ℕ, _+_, _/_, _%_, _^_}
 use native.Mathlib.Omega.{arith}
@@ -11,14 +11,8 @@ use Rattle.lanes.proofs.Near.{is-R23}
 use Rattle.lanes.proofs.round.round23.Statement.{statement}
 use Rattle.lanes.proofs.round.round23.Tie as tie
 
-whole-requires : tie.Need-whole-requires
-whole-requires c κs = search needs
-
 near23-requires : tie.Need-near23-requires
 near23-requires c κs = let f = c .before .fits .s in omega (arith, ap natAbs (toZ-ofZ f))
-
-lower-requires : tie.Need-lower-requires
-lower-requires c κs = search needs
 
 returns : tie.Need-returns
 returns c =
@@ -31,4 +25,4 @@ returns c =
     ∙ ap (λ (z : ℤ). R (z -ℤ pos (2 ^ 53)) 23) (sym (k .pre .0)))
 
 pub round23-spec : {M : Type 1} → statement M
-round23-spec = tie.close (tie.spec whole-requires near23-requires lower-requires returns)
+round23-spec = tie.close (tie.spec (λ c κs. search needs) near23-requires (λ c κs. search needs) returns)

@@ -1,4 +1,4 @@
--- `lanes::round::round24` meets its contract.
+-- `round24` meets its contract.
 use mathlib.Core.Path.{sym, _∙_, ap}
 use Prim.Native.Nat.{ℕ, _+_, _/_, _%_, _^_}
 use native.Mathlib.Omega.{arith}
@@ -11,14 +11,8 @@ use Rattle.lanes.proofs.Near.{is-R24}
 use Rattle.lanes.proofs.round.round24.Statement.{statement}
 use Rattle.lanes.proofs.round.round24.Tie as tie
 
-whole-requires : tie.Need-whole-requires
-whole-requires c κs = search needs
-
 near24-requires : tie.Need-near24-requires
 near24-requires c κs = let f = c .before .fits .s in omega (arith, ap natAbs (toZ-ofZ f))
-
-lower-requires : tie.Need-lower-requires
-lower-requires c κs = search needs
 
 returns : tie.Need-returns
 returns c =
@@ -31,4 +25,4 @@ returns c =
     ∙ ap (λ (z : ℤ). R (z -ℤ pos (2 ^ 53)) 24) (sym (k .pre .0)))
 
 pub round24-spec : {M : Type 1} → statement M
-round24-spec = tie.close (tie.spec whole-requires near24-requires lower-requires returns)
+round24-spec = tie.close (tie.spec (λ c κs. search needs) near24-requires (λ c κs. search needs) returns)

@@ -1,4 +1,4 @@
--- `lanes::round::whole` meets its contract.
+-- `whole` meets its contract.
 use Rattle.lanes.proofs.Ops.{whole-cast}
 use borrow.Author.Needs.{needs}
 use Rattle.lanes.proofs.round.whole.Statement.{statement}
@@ -7,8 +7,5 @@ use Rattle.lanes.proofs.round.whole.Tie as tie
 cast-result : tie.Need-cast-result
 cast-result c = whole-cast (c .fits .s) (c .pre)
 
-returns : tie.Need-returns
-returns c = search needs
-
 pub whole-spec : {M : Type 1} → statement M
-whole-spec = tie.close (tie.spec cast-result returns)
+whole-spec = tie.close (tie.spec cast-result (λ c. search needs))

@@ -1,4 +1,4 @@
--- `lanes::start::centre` meets its contract.
+-- `centre` meets its contract. The loop's invariant: the first k places hold the centre's products, the others are as they were.
 use Rattle.lanes.proofs.Places.{written-none, written-more, written-filled, filled-as}
 use Rattle.lanes.proofs.Ops.{centre-lane}
 use Rattle.numbers.proofs.Machine.{t, val}
@@ -25,33 +25,12 @@ abbrev μ-loop : tie.MeasureT-loop
 loop-holds : tie.Need-loop-holds Inv-loop μ-loop
 loop-holds c = (omega arith, written-none (omega arith))
 
-add-product : tie.Need-add-product Inv-loop μ-loop
-add-product c = search needs
-
-mul-product : tie.Need-mul-product Inv-loop μ-loop
-mul-product c = search needs
-
-shared-slice-read-product : tie.Need-shared-slice-read-product Inv-loop μ-loop
-shared-slice-read-product c = search needs
-
 product-requires : tie.Need-product-requires Inv-loop μ-loop
 product-requires c κs =
     let l = c .before .before in
     let k = l .before .before in
     let f = k .fits .h in
     (omega (arith, ap natAbs (toZ-ofZ f), k .pre .0 .1), k .pre .1 .size _)
-
-mul-r : tie.Need-mul-r Inv-loop μ-loop
-mul-r c = search needs
-
-slice-set-from-r : tie.Need-slice-set-from-r Inv-loop μ-loop
-slice-set-from-r c = search needs
-
-add-k : tie.Need-add-k Inv-loop μ-loop
-add-k c = search needs
-
-loop-less : tie.Need-loop-less Inv-loop μ-loop
-loop-less c = search needs
 
 loop-again : tie.Need-loop-again Inv-loop μ-loop
 loop-again c =
@@ -60,9 +39,6 @@ loop-again c =
     let u = l .loop .inv .1 .same in
     let w = written-more {j = l .loop .k + 1} (l .loop .inv .1) (omega arith) (omega arith) (centre-lane (t (k .h)) (now (k .v)) (k .at + l .loop .k) (val _ _ (c .product .ok) (c .product .ensures))) (omega arith) in
     (omega (arith, w .same), w)
-
-same-length : tie.Need-same-length Inv-loop μ-loop
-same-length c = search needs
 
 returns : tie.Need-returns Inv-loop μ-loop
 returns c =
@@ -77,14 +53,14 @@ centre-spec =
     Inv-loop
     μ-loop
     loop-holds
-    add-product
-    mul-product
-    shared-slice-read-product
+    (λ c. search needs)
+    (λ c. search needs)
+    (λ c. search needs)
     product-requires
-    mul-r
-    slice-set-from-r
-    add-k
-    loop-less
+    (λ c. search needs)
+    (λ c. search needs)
+    (λ c. search needs)
+    (λ c. search needs)
     loop-again
-    same-length
+    (λ c. search needs)
     returns)

@@ -1,4 +1,4 @@
--- `lanes::start::halved` meets its contract.
+-- `halved` meets its contract.
 use Rattle.lanes.proofs.Ops.{lift-fits, halved-fits, halved-is}
 use Rattle.lanes.proofs.start.halved.Statement.{statement}
 use Rattle.lanes.proofs.start.halved.Tie as tie

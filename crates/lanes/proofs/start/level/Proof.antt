@@ -1,4 +1,4 @@
--- `lanes::start::level` meets its contract.
+-- `level` meets its contract. The loop's invariant: the first k places hold 2^52, the others are as they were.
 use Rattle.lanes.proofs.Places.{written-none, written-more, written-filled}
 use Rattle.lanes.specs.Lanes.{Written}
 use mathlib.Core.Path.{refl}
@@ -19,27 +19,12 @@ abbrev μ-loop : tie.MeasureT-loop
 loop-holds : tie.Need-loop-holds Inv-loop μ-loop
 loop-holds c = (omega arith, written-none (omega arith))
 
-mul-y : tie.Need-mul-y Inv-loop μ-loop
-mul-y c = search needs
-
-slice-set-of-y : tie.Need-slice-set-of-y Inv-loop μ-loop
-slice-set-of-y c = search needs
-
-add-k : tie.Need-add-k Inv-loop μ-loop
-add-k c = search needs
-
-loop-less : tie.Need-loop-less Inv-loop μ-loop
-loop-less c = search needs
-
 loop-again : tie.Need-loop-again Inv-loop μ-loop
 loop-again c =
     let l = c .before in
     let u = l .loop .inv .1 .same in
     let w = written-more {j = l .loop .k + 1} (l .loop .inv .1) (omega arith) (omega arith) refl (omega arith) in
     (omega (arith, w .same), w)
-
-same-length : tie.Need-same-length Inv-loop μ-loop
-same-length c = search needs
 
 returns : tie.Need-returns Inv-loop μ-loop
 returns c = let l = c .before .loop in written-filled (l .inv .1) (omega (arith, l .inv .1 .same))
@@ -51,10 +36,10 @@ level-spec =
     Inv-loop
     μ-loop
     loop-holds
-    mul-y
-    slice-set-of-y
-    add-k
-    loop-less
+    (λ c. search needs)
+    (λ c. search needs)
+    (λ c. search needs)
+    (λ c. search needs)
     loop-again
-    same-length
+    (λ c. search needs)
     returns)

@@ -1,4 +1,4 @@
--- `lanes::start::lift` meets its contract.
+-- `lift` meets its contract.
 use Rattle.lanes.proofs.Ops.{lift-fits, lift-cast, lift-is}
 use Rattle.lanes.proofs.start.lift.Statement.{statement}
 use Rattle.lanes.proofs.start.lift.Tie as tie

@@ -1,4 +1,4 @@
--- `lanes::start::product` meets its contract.
+-- `product` meets its contract.
 use Rattle.lanes.proofs.Ops.{low-part, product-is}
 use mir.Facts.{toZ-ofZ}
 use native.Mathlib.Nat.{mul-le-mul}
