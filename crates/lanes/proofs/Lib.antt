@@ -1,6 +1,5 @@
 pub mod Ops
 pub mod Places
-pub mod Near
 pub mod Pairs
 pub mod Bias
 pub mod Signals

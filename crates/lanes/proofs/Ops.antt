@@ -14,17 +14,14 @@ use mir.Syntax.{w32, w64}
 use mir.Val.{SFits, Fits, toZ}
 use mir.Facts.{toZ-ofZ}
 use Rattle.numbers.specs.Sums.{at0}
-use Rattle.numbers.proofs.Integers.{pp, nn, zext, add-parts, abs-parts, abs-add, abs-neg, neg-mul, sfits-abs}
-use Rattle.numbers.proofs.Machine.{t, val, sized, add-fits, add-is, mul-fits}
+use Rattle.numbers.proofs.Integers.{pp, nn, zext, add-parts, abs-parts, abs-add, neg-mul}
+use Rattle.numbers.proofs.Machine.{t, val, sized, add-fits, add-is, mul-fits, pos-fits}
 use Rattle.lanes.specs.Filters.{Small}
 use Rattle.lanes.specs.Lanes.{lifted, raised, Low}
 
 -- a value, as it is read
 pub got : {x : List ℤ} {B : ℕ} (i : ℕ) → Small B x → mag (at0 x i) < 2 ^ 63 → natAbs (t (at0 x i)) ≤ B
 got {x} {B} i s m = sized (at0 x i) (at0 x i) B m refl (s .size i)
-
-pub pos-fits : {n : ℕ} → n < 2 ^ 63 → SFits w64 (pos n)
-pos-fits h = record { sfits = h }
 
 -- ---- values lifted
 
@@ -45,22 +42,13 @@ module _ {a : ℤ} (f : SFits w64 a) (small : natAbs a ≤ 2 ^ 29) where
   pub lift-is : (pos (natAbs (t (t a +ℤ pos 536870912))) ≡ a +ℤ pos (2 ^ 29)) × (natAbs (t (t a +ℤ pos 536870912)) ≤ 2 ^ 30)
   lift-is = rw higher-is (sym (up-is a (2 ^ 29) small), omega (arith, abs-parts a))
 
--- ---- one product more, or less
+-- ---- one product more
 module _ {s : ℤ} (p : ℕ) (fs : SFits w64 s) (small : natAbs s + p < 2 ^ 63) where
   pub more-fits : SFits w64 (t s +ℤ toZ w64 p)
   more-fits = add-fits fs (pos-fits {n = p} (omega arith)) small
 
   pub more-is : t (t s +ℤ toZ w64 p) ≡ s +ℤ pos p
   more-is = add-is fs (pos-fits {n = p} (omega arith)) small
-
-  minus : t s -ℤ toZ w64 p ≡ s -ℤ pos p
-  minus = let f = pos-fits {n = p} (omega arith) in ap₂ (λ (x y : ℤ). x -ℤ y) (toZ-ofZ fs) (toZ-ofZ f)
-
-  pub less-fits : SFits w64 (t s -ℤ toZ w64 p)
-  less-fits = rw minus (sfits-abs (omega (arith, abs-add s (negℤ (pos p)), abs-neg (pos p))))
-
-  pub less-is : t (t s -ℤ toZ w64 p) ≡ s -ℤ pos p
-  less-is = toZ-ofZ less-fits ∙ minus
 
 pub pair-room : (s : ℤ) (h w a b : ℕ) → natAbs s ≤ 126 * 2 ^ 56 → h ≤ 2 ^ 25 → w ≡ a + b → a ≤ 2 ^ 30 → b ≤ 2 ^ 30 → natAbs s + h * w < 2 ^ 63
 pair-room s h w a b p q f l m =
@@ -116,14 +104,6 @@ module _ {h : ℤ} (f : SFits w64 h) where
 
     pub pos-gain : ltZ (t h) (pos 0) ≡ false → pos n *ℤ p ≡ h *ℤ p
     pos-gain b = ap (λ (z : ℤ). z *ℤ p) (ap pos (e ∙ ap natAbs (toZ-ofZ f)) ∙ sym (above-0 h (back-is b)))
-
--- a number that is not negative
-pub whole-cast : {s : ℤ} → SFits w64 s → s ≡ pos (natAbs s) → T (nonNeg (t s)) × Fits w64 (natAbs (t s))
-whole-cast {s} f e = rw (toZ-ofZ f) (rw e (tt, record { fits = small s f }))
-  where
-    small : (z : ℤ) → SFits w64 z → natAbs z < 2 ^ 64
-    small (pos n) g = omega (arith, g .sfits)
-    small (negsuc n) g = omega (arith, g .sfits)
 
 -- a value lifted, as it was read
 pub read-lifted : (x : List ℤ) (i : ℕ) {r : ℕ} → pos r ≡ t (at0 x i) +ℤ pos (2 ^ 29) → mag (at0 x i) < 2 ^ 63 → pos r ≡ lifted x i

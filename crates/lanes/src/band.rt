@@ -8,7 +8,6 @@ ghost use Rattle.reference.specs.Rounding.{R};
 ghost use Rattle.lanes.specs.Filters.{Small, Filled};
 ghost use Rattle.lanes.specs.Lanes.{lifted, raised, arms, rounded, band-sum, Low, Lanes, Hold, Added, Sums, Whole, Written};
 use crate::lane;
-use crate::round;
 use crate::start;
 
 // The centre's products at fourteen places, from i on.
@@ -49,7 +48,7 @@ fn round14(y: &mut [i64], i: usize, s: [i64; 14])
 {
     let mut l: usize = 0;
     while l < 14 {
-        let r = round::round24(s[l]);
+        let r = rounding::div_round24(s[l]);
         y[i + l] = r;
         l += 1;
     }
@@ -68,7 +67,7 @@ fn rest(y: &mut [i64], i: usize, h: &[i64], v: &[u64])
     while k < y.len() {
         let c = start::halved(y[k]);
         let s = lane::pairs1(c, h, 0, v, k + 8, k + 8);
-        let r = round::round24(s);
+        let r = rounding::div_round24(s);
         y[k] = r;
         k += 1;
     }

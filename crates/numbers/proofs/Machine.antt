@@ -2,12 +2,12 @@
 use mathlib.Core.Path.{_≡_, _∙_, ap₂}
 use Prim.Native.Nat.{ℕ, _+_, _*_, _<_, _≤_, _^_}
 use native.Mathlib.Omega.{arith}
-use lib.IntN.{ℤ, natAbs, _+ℤ_, _*ℤ_}
+use lib.IntN.{ℤ, pos, negℤ, natAbs, _+ℤ_, _-ℤ_, _*ℤ_}
 use mir.Syntax.{w32, w64}
 use mir.Val.{SFits, toZ, ofZ}
 use mir.Facts.{toZ-ofZ, sfits-widen}
 use lib.Signed.{mag}
-use Rattle.numbers.proofs.Integers.{sfits-abs, abs-add, abs-mul}
+use Rattle.numbers.proofs.Integers.{sfits-abs, abs-add, abs-neg, abs-mul}
 
 abbrev pub t : ℤ → ℤ
 t z = toZ w64 (ofZ w64 z)
@@ -39,3 +39,17 @@ val r v m e = toZ-ofZ (record { sfits = m }) ∙ e
 
 pub sized : (r v : ℤ) (B : ℕ) → mag r < 2 ^ 63 → r ≡ v → natAbs v ≤ B → natAbs (t r) ≤ B
 sized r v B m e h = rw (val r v m e) h
+
+pub pos-fits : {n : ℕ} → n < 2 ^ 63 → SFits w64 (pos n)
+pos-fits h = record { sfits = h }
+
+-- a number that is not negative, taken away
+module _ {s : ℤ} (p : ℕ) (fs : SFits w64 s) (small : natAbs s + p < 2 ^ 63) where
+  minus : t s -ℤ toZ w64 p ≡ s -ℤ pos p
+  minus = let f = pos-fits {n = p} (omega arith) in ap₂ (λ (x y : ℤ). x -ℤ y) (toZ-ofZ fs) (toZ-ofZ f)
+
+  pub less-fits : SFits w64 (t s -ℤ toZ w64 p)
+  less-fits = rw minus (sfits-abs (omega (arith, abs-add s (negℤ (pos p)), abs-neg (pos p))))
+
+  pub less-is : t (t s -ℤ toZ w64 p) ≡ s -ℤ pos p
+  less-is = toZ-ofZ less-fits ∙ minus

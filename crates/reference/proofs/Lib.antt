@@ -1,5 +1,4 @@
 pub mod Rounding
-pub mod Shift
 pub mod Locality
 pub mod Sizes
 pub mod Constant

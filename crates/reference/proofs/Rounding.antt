@@ -5,12 +5,13 @@ use mathlib.Core.Logic.{_⊎_, inl, inr, ⊎-elim}
 use Prim.Native.Nat.{ℕ, zero, suc, _+_, _*_, _-_, _/_, _%_, _<_, _≤_, _^_}
 use native.Mathlib.Nat.{one-mul, div-add-mod', mod-lt, mul-le-mul-right, le-of-mul-le-mul-right}
 use native.Mathlib.Omega.{arith}
-use lib.Dec.{T, eqb, ltb, ltb→lt, nltb→le, eqb→eq}
-use lib.IntN.{ℤ, pos, negsuc, negℤ, natAbs, _+ℤ_, _-ℤ_, _*ℤ_, +ℤ-one, +ℤ-assoc, +ℤ-invr, negℤ-+ℤ}
+use lib.Dec.{T, lit<, eqb, ltb, ltb→lt, nltb→le, eqb→eq}
+use lib.IntN.{ℤ, pos, negsuc, negℤ, natAbs, _+ℤ_, _-ℤ_, _*ℤ_, +ℤ-one, +ℤ-assoc, +ℤ-idr, +ℤ-invr, negℤ-+ℤ}
+use lib.Arith.{digits-div}
 use lib.Pow.{pow-pos}
 use lib.Signed.{shrZ}
 use Rattle.numbers.proofs.Integers.{zext, add-parts, pp-neg, nn-neg, abs-neg, abs-add, abs-mul, abs-parts, add-mul, neg-mul}
-use Rattle.reference.specs.Rounding.{rest, nearer, R, distance, NearestEven}
+use Rattle.reference.specs.Rounding.{rest, nearer, R, lowest-kept, one-sum, distance, NearestEven}
 
 -- ---- the floor and the rest
 
@@ -71,6 +72,35 @@ nearer-cases P z down up p q e o =
         go : (n : ℕ) → n ≡ 0 → T (not (eqb n 0)) → ⊥
         go zero k c = c
         go (suc n) k c = omega arith
+
+-- ---- one sum for the halves
+
+odd-before : (z : ℤ) → natAbs (z +ℤ pos 1) % 2 ≡ 0 → natAbs z % 2 ≡ 1
+odd-before (pos n) e = omega arith
+odd-before (negsuc zero) e = refl
+odd-before (negsuc (suc n)) e = let f = rw (+ℤ-one (negsuc (suc n))) at e in omega arith
+
+-- R is the floor and a carry: 0 below a half, 1 above it, and at a half the lowest kept bit
+pub R-one-sum : (v : ℤ) (q : ℕ) → 1 ≤ q → R v q ≡ one-sum v q
+unfolding R one-sum lowest-kept
+R-one-sum v q l =
+    let q-is : q ≡ suc (q - 1) = omega arith in
+    summed (shrZ v (2 ^ q)) (rest v (2 ^ q)) (2 ^ q) (2 ^ (q - 1)) (ap (λ (k : ℕ). 2 ^ k) q-is ∙ double (q - 1)) (rest-below (2 ^ q) (pow-pos q) v)
+  where
+    double : (p : ℕ) → 2 ^ suc p ≡ 2 ^ p + 2 ^ p
+    double p = omega arith
+
+    summed : (z : ℤ) (r d half : ℕ) → d ≡ half + half → r < d → nearer z r (d - r) ≡ z +ℤ pos ((r + half - 1 + natAbs z % 2) / d)
+    summed z r d half two below =
+        let bit = mod-lt (natAbs z) {m = 2} (lit< tt) in
+        nearer-cases (λ (k : ℤ). k ≡ z +ℤ pos ((r + half - 1 + natAbs z % 2) / d)) z r (d - r)
+        (λ l. sym (+ℤ-idr z) ∙ carried 0 (r + half - 1 + natAbs z % 2) (omega arith) (omega arith))
+        (λ l. carried 1 (r + half - 1 + natAbs z % 2 - d) (omega arith) (omega arith))
+        (λ e even. sym (+ℤ-idr z) ∙ carried 0 (d - 1) (omega arith) (omega arith))
+        (λ e even. carried 1 0 (omega (arith, odd-before z even)) (omega arith))
+      where
+        carried : (m n : ℕ) → r + half - 1 + natAbs z % 2 ≡ m * d + n → n < d → z +ℤ pos m ≡ z +ℤ pos ((r + half - 1 + natAbs z % 2) / d)
+        carried m n e l = ap (λ (k : ℕ). z +ℤ pos k) (sym (ap (λ (x : ℕ). x / d) e ∙ digits-div m l))
 
 -- ---- nearest, ties to even, unique
 

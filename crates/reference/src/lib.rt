@@ -1,13 +1,8 @@
-// The records and numbers of document 01, and the rounding of its module 1. The definition of a conversion is in specs/.
+// The records and numbers of document 01. The definition of a conversion is in specs/.
 ghost use mathlib.Core.Path.{_≡_};
 ghost use Prim.Native.Nat.{_≤_};
 ghost use Rattle.reference.specs.Output.{samples-per-frame};
 ghost use Rattle.reference.specs.Settings.{converter-of};
-
-mod round;
-
-pub use round::div_round23;
-pub use round::div_round24;
 
 // Bytes of one channel in a frame.
 pub const FRAME_BYTES: usize = 4704;

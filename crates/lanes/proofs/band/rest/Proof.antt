@@ -49,8 +49,8 @@ sum-is c =
     let k = l .before .before in
     val _ _ (c .pairs1 .ok) (c .pairs1 .ensures) ∙ single (now (k .args .h)) (now (k .args .y)) (l .loop .y) (now (k .args .v)) (l .loop .k) (length (now (k .args .h))) (centre-is (c .before)) (l .loop .inv .2 .above (l .loop .k) (omega arith)) (omega arith)
 
-round24-requires : tie.Need-round24-requires Inv-loop μ-loop
-round24-requires c κs =
+div-round24-requires : tie.Need-div-round24-requires Inv-loop μ-loop
+div-round24-requires c κs =
     let l = c .before .before .before .before in
     let w = l .before .before .pre .1 .1 .1 .1 in
     rw (sum-is c) (w .is (l .loop .k) (omega arith) (omega (arith, l .loop .inv .2 .same)), w .size (l .loop .k) (omega arith) (omega (arith, l .loop .inv .2 .same)))
@@ -60,7 +60,7 @@ loop-again c =
     let l = c .before .before .before .before .before in
     let j = l .loop .k in
     let u = l .loop .inv .2 in
-    let r = val _ _ (c .round24 .ok) (c .round24 .ensures) ∙ ap (λ (z : ℤ). R (z -ℤ pos (2 ^ 53)) 24) (sum-is (c .before)) in
+    let r = val _ _ (c .div-round24 .ok) (c .div-round24 .ensures) ∙ ap (λ (z : ℤ). R (z -ℤ pos (2 ^ 53)) 24) (sum-is (c .before)) in
     (omega arith, omega (arith, u .same), written-more {j = j + 1} u (omega arith) (omega (arith, u .same)) r (omega arith))
 
 returns : tie.Need-returns Inv-loop μ-loop
@@ -82,7 +82,7 @@ rest-spec =
     (λ c. search needs)
     (λ c. search needs)
     pairs1-requires
-    round24-requires
+    div-round24-requires
     (λ c. search needs)
     (λ c. search needs)
     (λ c. search needs)

@@ -19,15 +19,15 @@ abbrev μ-loop : tie.MeasureT-loop
 loop-holds : tie.Need-loop-holds Inv-loop μ-loop
 loop-holds c = (search needs, written-none (omega arith))
 
-round24-requires : tie.Need-round24-requires Inv-loop μ-loop
-round24-requires c κs = let l = c .before .before in sums-at (l .before .pre .1) (l .loop .l) (omega arith) (c .round24-arg .given)
+div-round24-requires : tie.Need-div-round24-requires Inv-loop μ-loop
+div-round24-requires c κs = let l = c .before .before in sums-at (l .before .pre .1) (l .loop .l) (omega arith) (c .div-round24-arg .given)
 
 loop-again : tie.Need-loop-again Inv-loop μ-loop
 loop-again c =
     let l = c .before .before .before in
     let u = l .loop .inv .1 .same in
     let s = l .before .args .t3 in
-    let r = stored 24 s (l .loop .l) (val _ _ (c .round24 .ok) (c .round24 .ensures)) (c .before .round24-arg .given) in
+    let r = stored 24 s (l .loop .l) (val _ _ (c .div-round24 .ok) (c .div-round24 .ensures)) (c .before .div-round24-arg .given) in
     (omega arith, written-more (l .loop .inv .1) (omega arith) (omega arith) (r ∙ ap (rounded 24 s) (omega arith)) (omega arith))
 
 returns : tie.Need-returns Inv-loop μ-loop
@@ -45,7 +45,7 @@ round14-spec =
     loop-holds
     (λ c. search needs)
     (λ c. search needs)
-    round24-requires
+    div-round24-requires
     (λ c. search needs)
     (λ c. search needs)
     (λ c. search needs)

@@ -1,5 +1,5 @@
 -- `less` meets its contract.
-use Rattle.lanes.proofs.Ops.{less-fits, less-is}
+use Rattle.numbers.proofs.Machine.{less-fits, less-is}
 use Prim.Native.Nat.{_*_}
 use borrow.Author.Needs.{needs}
 use Rattle.lanes.proofs.lane.less.Statement.{statement}
