@@ -14,8 +14,8 @@ use Rattle.reference.specs.declared.PcmRate.the-variants.{Hz88200, Hz176400, Hz
 use Rattle.reference.specs.declared.Cutoff.{Cutoff}
 use Rattle.reference.specs.declared.Cutoff.the-variants.{Standard, Low, Wide}
 use Rattle.reference.proofs.Locality.{F40-last, F80-last}
-use Rattle.route_states.specs.Routes.{LastFilter, lent-taps, Taps, stride, around, first-byte, block-length, fresh, margin-from}
-use Rattle.route_states.proofs.Filters.{halves-length}
+use Rattle.routes.specs.Routes.{LastFilter, lent-taps, Taps, stride, around, first-byte, block-length, fresh, margin-from}
+use Rattle.routes.proofs.Filters.{halves-length}
 
 -- ---- blocks
 

@@ -26,10 +26,10 @@ use Rattle.reference.specs.declared.Cutoff.the-variants.{Standard, Low, Wide}
 use Rattle.reference.specs.declared.Converter.{Converter}
 use Rattle.reference.proofs.Frames.{frame-samples}
 use Rattle.channel_bytes.specs.Lent.{Lent, lent-run, byte-at}
-use Rattle.lanes.specs.Filters.{Small}
-use Rattle.lanes.proofs.Signals.{past}
-use Rattle.route_states.specs.Routes.{last-taps, y-of, stride, around, first-byte, block-length, fresh, margin-from, Kept, State}
-use Rattle.route_states.proofs.Routes.{a-frame, y-of-is, y-of-size}
+use Rattle.filters.specs.Filters.{Small}
+use Rattle.filters.proofs.Signals.{past}
+use Rattle.routes.specs.Routes.{last-taps, y-of, stride, around, first-byte, block-length, fresh, margin-from, Kept, State}
+use Rattle.routes.proofs.Routes.{a-frame, y-of-is, y-of-size}
 use Rattle.gain.specs.Scale.{ScaledBlock}
 use Rattle.gain.specs.Tallies.{tally, none, joined, Joins}
 use Rattle.gain.specs.declared.Tally.{Tally}

@@ -9,7 +9,7 @@ use Rattle.reference.specs.Frames.{Run}
 use Rattle.reference.specs.Output.{unclamped, sample}
 use Rattle.reference.specs.declared.Converter.{Converter}
 use Rattle.channel_bytes.specs.Lent.{Lent}
-use Rattle.route_states.specs.Routes.{FirstTables, Taps, last-taps}
+use Rattle.routes.specs.Routes.{FirstTables, Taps, last-taps}
 use Rattle.gain.specs.Scale.{bounded}
 use Rattle.gain.specs.Tallies.{tally}
 use Rattle.gain.specs.declared.Tally.{Tally}

@@ -11,7 +11,7 @@ ghost use Rattle.reference.specs.Frames.{frame-count};
 ghost use Rattle.reference.specs.Scaling.{scaled, clamp};
 ghost use Rattle.reference.specs.Output.{samples-per-frame, channel-samples, all-samples};
 ghost use Rattle.channel_bytes.specs.Lent.{Lent, lent-run, byte-at};
-ghost use Rattle.route_states.specs.Routes.{stride, around};
+ghost use Rattle.routes.specs.Routes.{stride, around};
 ghost use Rattle.gain.specs.Scale.{bounded};
 ghost use Rattle.gain.specs.Tallies.{tally};
 ghost use Rattle.output.specs.Fills.{Drawn, Room};

@@ -13,7 +13,7 @@ use Rattle.numbers.proofs.Lists.{below-or}
 use Rattle.reference.specs.Refusals.{decide}
 use Rattle.reference.proofs.Refusals.{at-first, at-next}
 use Rattle.dsf.specs.Dsf.{number-of, number-at, bytes, Field, pairs, orders, layout, frequency, alike, any, all, fits, stated-length, channel-type, channels, bits-per-sample, samples, data-size, data-bytes, needed, frames, places-at, file-places}
-use Rattle.report_lines.specs.Text.{text}
+use Rattle.level_lines.specs.Text.{text}
 use Rattle.dsf.specs.Reading.{HeadOf, file-header, header-places}
 use Rattle.dsf.proofs.Alike.{left, right, alike-nil, ends-by}
 use Rattle.dsf.proofs.Tests.{too-short}

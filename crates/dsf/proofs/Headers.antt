@@ -4,7 +4,7 @@ use mathlib.Core.List.{List, [], _++_}
 use Prim.Native.Nat.{ℕ}
 use lib.Dec.{T}
 use lib.ListN.{length, drop}
-use Rattle.report_lines.specs.Text.{text}
+use Rattle.level_lines.specs.Text.{text}
 use Rattle.dsf.specs.Dsf.{number-of, number-at, bytes, pair, layout, pairs, orders, frequency, alike, any, all, fits, stated-length, channel-type, channels, bits-per-sample, samples, data-size}
 use Rattle.dsf.specs.Headers.{header}
 use Rattle.dsf.proofs.Alike.{Alike, seg, fixed-alike, all-each}

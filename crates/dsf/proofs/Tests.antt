@@ -10,7 +10,7 @@ use lib.Seq.{drop-drop}
 use borrow.Author.Tests.{le-leb, lt-leb}
 use Rattle.reference.specs.Refusals.{Decision, accepted, refused, place, decide}
 use Rattle.dsf.specs.Dsf.{number-of, number-at, bytes, pair, fixed, pairs, orders, layout, frequency, alike, any, all, fits, stated-length, channels, samples, data-size, needed, places-at}
-use Rattle.report_lines.specs.Text.{text}
+use Rattle.level_lines.specs.Text.{text}
 use Rattle.dsf.proofs.Alike.{T-of, left, right, alike-after, alike-take, any-elim, all-each}
 use Rattle.dsf.proofs.Numbers.{number-bytes}
 

@@ -4,7 +4,7 @@ use mathlib.Core.Bool.{Bool, true, false, cond, not, _&&_, _||_}
 use Prim.Native.Nat.{ℕ, zero, suc, _+_, _*_, _-_, _/_, _%_, _^_, _<_}
 use lib.Dec.{eqb, ltb, leb}
 use lib.ListN.{length, getD, take, drop}
-use Rattle.report_lines.specs.Text.{text}
+use Rattle.level_lines.specs.Text.{text}
 use Rattle.numbers.specs.Lists.{tabulate, total}
 use Rattle.reference.specs.Frames.{frame-bytes, frame-length, idle}
 use Rattle.reference.specs.Refusals.{Place, place, decide, is-accepted, number, lent-length}

@@ -8,7 +8,7 @@ use lib.Dec.{T, lit≤}
 use lib.Seq.{drop-drop}
 use lib.ListN.{length, drop, replicate, length-append, length-drop, length-replicate, drop-of-length-le}
 use Rattle.numbers.proofs.Lists.{below-or}
-use Rattle.report_lines.specs.Text.{text}
+use Rattle.level_lines.specs.Text.{text}
 use Rattle.dsf.specs.Dsf.{Bytes, number-of, number-at, bytes, pair, alike, any, all, fits, layout, pairs, orders, frequency, data-bytes, stated-length, channels, samples, data-size, needed}
 use Rattle.dsf.specs.Headers.{header}
 use Rattle.dsf_upload.specs.Uploads.{Continued}

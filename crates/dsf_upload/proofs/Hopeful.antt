@@ -8,7 +8,7 @@ use native.Mathlib.Omega.{arith}
 use lib.Dec.{T}
 use lib.ListN.{length, drop, length-append, drop-of-length-le}
 use Rattle.numbers.proofs.Lists.{below-or}
-use Rattle.report_lines.specs.Text.{text}
+use Rattle.level_lines.specs.Text.{text}
 use Rattle.dsf.specs.Dsf.{Bytes, bytes, fixed, alike, all, fits, layout, pairs, orders, frequency, blocks, data-bytes, stated-length, channels, samples, data-size, needed, accepts}
 use Rattle.dsf_upload.specs.Deciding.{hopeful}
 use Rattle.dsf.proofs.Alike.{all-map, fits-begin, alike-fixed, alike-begin-at, ends-by, all-map-where, fits-longer}

@@ -15,7 +15,7 @@ use Rattle.numbers.proofs.Lists.{below-or, is-tabulate}
 use Rattle.reference.specs.Frames.{frame-count, frame-length}
 use Rattle.reference.specs.Refusals.{Decision, accepted, refused, place, decide, is-accepted, number, rack, run-length, lent-length}
 use Rattle.reference.proofs.Refusals.{at-first, at-next, at-end, pass, decide-skip, decide-stop}
-use Rattle.report_lines.specs.Text.{text}
+use Rattle.level_lines.specs.Text.{text}
 use Rattle.dsf.specs.Dsf.{bytes, pair, blocks, data-bytes, turned, our-byte}
 use Rattle.dsf.specs.Headers.{header}
 use Rattle.dsf.proofs.Alike.{T-is, T-of, left, right, pick, skip}

@@ -11,7 +11,7 @@ use lib.Seq.{getD-append-add, getD-take, getD-drop, length-take-le}
 use Rattle.numbers.specs.Lists.{tabulate}
 use Rattle.numbers.proofs.Lists.{part-end, length-tabulate, getD-tabulate, is-tabulate}
 use Rattle.reference.specs.Frames.{frame, frame-count}
-use Rattle.report_lines.specs.Text.{text}
+use Rattle.level_lines.specs.Text.{text}
 use Rattle.dsf.specs.Dsf.{Bytes, number-at, bytes, alike, any, all, fits, layout, pairs, orders, blocks, data-bytes, data-place, stated-length, channel-type, channels, bits-per-sample, samples, data-size, needed, accepts, frames, frames-in, turned, our-byte, sample-byte, turn-byte, data-frame, file-data, file-byte, file-frame}
 use Rattle.dsf.specs.Headers.{header}
 use Rattle.dsf.proofs.Alike.{pick, skip}

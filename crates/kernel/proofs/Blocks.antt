@@ -18,8 +18,8 @@ use Rattle.reference.specs.declared.PcmRate.the-variants.{Hz88200, Hz176400, Hz
 use Rattle.reference.specs.declared.Cutoff.{Cutoff}
 use Rattle.reference.specs.declared.Cutoff.the-variants.{Standard, Low, Wide}
 use Rattle.reference.proofs.Locality.{F40-last, F80-last}
-use Rattle.route_states.specs.Routes.{LowPass, HalvedFilter, halves-of, LastFilter, lent-taps, Taps, SomeTaps, input, stride, around, first-byte, fresh, margin-from, block-length, y-of, Kept, State, Brought}
-use Rattle.route_states.proofs.Filters.{halves-length}
+use Rattle.routes.specs.Routes.{LowPass, HalvedFilter, halves-of, LastFilter, lent-taps, Taps, SomeTaps, input, stride, around, first-byte, fresh, margin-from, block-length, y-of, Kept, State, Brought}
+use Rattle.routes.proofs.Filters.{halves-length}
 
 -- ---- parts
 

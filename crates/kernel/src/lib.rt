@@ -7,9 +7,9 @@ ghost use mathlib.Core.Bool.{true, false};
 ghost use lib.IntN.{ℤ, pos};
 ghost use lib.ListN.{length, getD};
 ghost use Rattle.numbers.specs.Lists.{Held};
-ghost use Rattle.lanes.specs.Filters.{Small};
-ghost use Rattle.route_states.specs.Routes as Routes;
-ghost use Rattle.route_states.specs.Routes.{SomeTaps, Taps, FirstTables, State, Brought, y-of, input, block-length, first-byte, margin-from};
+ghost use Rattle.filters.specs.Filters.{Small};
+ghost use Rattle.routes.specs.Routes as Routes;
+ghost use Rattle.routes.specs.Routes.{SomeTaps, Taps, FirstTables, State, Brought, y-of, input, block-length, first-byte, margin-from};
 use reference::Cutoff;
 use reference::PcmRate;
 

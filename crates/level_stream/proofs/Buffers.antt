@@ -17,7 +17,7 @@ use Rattle.reference.specs.declared.Converter.{Converter}
 use Rattle.reference.specs.Promises.{by-decision}
 use Rattle.reference.proofs.Promises.{exit-accepted}
 use Rattle.reference.proofs.Refusals.{at-next, at-end, decide-skip, some-channel, few-channels}
-use Rattle.report_lines.specs.Text.{Printed}
+use Rattle.level_lines.specs.Text.{Printed}
 use Rattle.overs.specs.declared.Progress.{Progress}
 use Rattle.levels.specs.Levels.{piece-lines, piece-states}
 use Rattle.levels.proofs.Frames.{in-all}

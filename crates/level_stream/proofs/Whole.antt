@@ -20,8 +20,8 @@ use Rattle.reference.proofs.Promises.{exit-accepted}
 use Rattle.reference.proofs.Refusals.{some-channel, few-channels}
 use Rattle.overs.specs.Overs.{none}
 use Rattle.overs.proofs.Laws.{starts}
-use Rattle.report_lines.specs.Text.{joined, with-text}
-use Rattle.settings_line.specs.declared.LineSettings.{LineSettings}
+use Rattle.level_lines.specs.Text.{joined, with-text}
+use Rattle.level_settings.specs.declared.LineSettings.{LineSettings}
 use Rattle.levels.specs.Levels.{read-settings, whole-input, FrameOf, InProgress, piece-lines}
 use Rattle.levels.proofs.Whole.{lines-same, states-same, clips-same}
 use Rattle.level_stream.specs.Report.{ending, left-over, all-clips, lines-of, text-by, report-text}

@@ -8,7 +8,7 @@ use lib.ListN.{length, take, drop, replicate}
 use Rattle.reference.specs.Frames.{Run, run, frame-length, frame-count}
 use Rattle.reference.specs.Output.{frame-clips}
 use Rattle.reference.specs.declared.Converter.{Converter}
-use Rattle.report_lines.specs.Text.{joined, Printed}
+use Rattle.level_lines.specs.Text.{joined, Printed}
 use Rattle.overs.specs.Overs.{none}
 use Rattle.overs.specs.declared.Progress.{Progress}
 use Rattle.levels.specs.Levels.{piece-lines, piece-states}

@@ -11,9 +11,9 @@ use Rattle.reference.specs.Settings.{converter-of}
 use Rattle.reference.specs.Refusals.{decide, refusal-number, opening-places}
 use Rattle.reference.specs.Promises.{by-decision}
 use Rattle.reference.specs.declared.Converter.{Converter}
-use Rattle.report_lines.specs.Text.{joined}
-use Rattle.report_lines.specs.Lines.{last-line, refused-line}
-use Rattle.settings_line.specs.declared.LineSettings.{LineSettings}
+use Rattle.level_lines.specs.Text.{joined}
+use Rattle.level_lines.specs.Lines.{last-line, refused-line}
+use Rattle.level_settings.specs.declared.LineSettings.{LineSettings}
 use Rattle.levels.specs.Levels.{read-settings, frame-lines, whole-input}
 
 -- the report's end: the last line, or in its place the refusal of bytes that are left over

@@ -7,7 +7,7 @@ ghost use lib.ListN.{length};
 ghost use Rattle.reference.specs.Output.{samples-per-frame};
 ghost use Rattle.reference.specs.Refusals.{accepted, decide, held-places, convert-frame-places};
 ghost use Rattle.levels.specs.Levels.{FrameReported};
-ghost use Rattle.report_lines.specs.Text.{Printed};
+ghost use Rattle.level_lines.specs.Text.{Printed};
 ghost use Rattle.level_stream.specs.Report as whole;
 ghost use Rattle.level_stream.specs.Buffers.{at-hand, moment, Told, Turned, AllTold};
 use level_input::fill;
@@ -165,9 +165,9 @@ fn ending(s: State, text: &mut [u8]) -> usize
     ensures { λ r. ⌜ r ≤ 144 ⌝ }
 {
     if s.left == 0 {
-        return report_lines::last_line(text, 0, s.frames, s.clipped);
+        return level_lines::last_line(text, 0, s.frames, s.clipped);
     }
-    report_lines::refused_line(text, 0, 4)
+    level_lines::refused_line(text, 0, 4)
 }
 
 // All frames, from the first one on.
@@ -250,6 +250,6 @@ pub fn report_frames(conv: Converter, from: i32, to: i32)
 // A refusal by its number.
 pub fn refused(number: u64, to: i32) {
     let mut text = [0u8; 144];
-    let n = report_lines::refused_line(&mut text, 0, number);
+    let n = level_lines::refused_line(&mut text, 0, number);
     write_first(to, &text, n);
 }

@@ -1,9 +1,9 @@
 // The level report over descriptors: it reads the line and the frames, and writes the lines.
 ghost use Prim.Native.Nat.{_≤_};
 ghost use lib.ListN.{length};
+use level_settings::FirstLine;
+use level_settings::LineSettings;
 use reference::Verdict;
-use settings_line::FirstLine;
-use settings_line::LineSettings;
 
 mod frames;
 
@@ -30,7 +30,7 @@ fn refused_settings(to: i32) {
 fn settings(line: &[u8], n: usize, from: i32, to: i32)
     requires { ⌜ n ≤ length (now line) ⌝ }
 {
-    let first = settings_line::first_line(&line[..n]);
+    let first = level_settings::first_line(&line[..n]);
     match first {
         FirstLine::Set(s) => opened(s, from, to),
         FirstLine::Refused => refused_settings(to),

@@ -25,8 +25,8 @@ use Rattle.overs.specs.declared.Progress.{Progress}
 use Rattle.overs.specs.declared.OverCount.{OverCount}
 use Rattle.overs.proofs.Laws.{answer-is}
 use Rattle.overs.proofs.Joins.{run-channel}
-use Rattle.report_lines.specs.Text.{joined}
-use Rattle.report_lines.specs.Lines.{level-line}
+use Rattle.level_lines.specs.Text.{joined}
+use Rattle.level_lines.specs.Lines.{level-line}
 use Rattle.levels.specs.Levels.{extreme, level, lines-with, frame-lines, states-after, whole-input, FrameOf, InProgress, piece-lines, piece-states}
 use Rattle.levels.proofs.Frames.{extreme-same}
 

@@ -19,10 +19,10 @@ use Rattle.reference.specs.declared.Converter.{Converter}
 use Rattle.overs.specs.Overs.{in-progress, none, overs-of}
 use Rattle.overs.specs.Joins.{frame-overs}
 use Rattle.overs.specs.declared.Progress.{Progress}
-use Rattle.report_lines.specs.Text.{joined, Printed}
-use Rattle.report_lines.specs.Lines.{level-line}
-use Rattle.report_lines.specs.declared.Level.{Level}
-use Rattle.settings_line.specs.declared.LineSettings.{LineSettings}
+use Rattle.level_lines.specs.Text.{joined, Printed}
+use Rattle.level_lines.specs.Lines.{level-line}
+use Rattle.level_lines.specs.declared.Level.{Level}
+use Rattle.level_settings.specs.declared.LineSettings.{LineSettings}
 use Rattle.levels.specs.declared.Reported.{Reported}
 
 -- ---- settings

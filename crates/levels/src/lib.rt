@@ -6,13 +6,15 @@ ghost use lib.ListN.{length, getD};
 ghost use Rattle.numbers.specs.Extremes as extremes;
 ghost use Rattle.numbers.specs.Lists.{tabulate, total};
 ghost use Rattle.reference.specs.Frames.{run};
-ghost use Rattle.report_lines.specs.Text.{joined, Printed};
-ghost use Rattle.report_lines.specs.Lines.{level-line};
+ghost use Rattle.level_lines.specs.Text.{joined, Printed};
+ghost use Rattle.level_lines.specs.Lines.{level-line};
 ghost use Rattle.reference.specs.Refusals.{error-decision, refusal-number};
 ghost use Rattle.reference.specs.Promises.{OpeningPromise};
 ghost use Rattle.overs.specs.Overs.{none, overs-of};
 ghost use Rattle.levels.specs.Levels as levels;
 ghost use Rattle.levels.specs.Levels.{FrameReported};
+use level_lines::Level;
+use level_settings::LineSettings;
 use overs::OverCount;
 use overs::Progress;
 use reference::ConvertStats;
@@ -22,8 +24,6 @@ use reference::Opened;
 use reference::PcmError;
 use reference::Settings;
 use reference::Verdict;
-use report_lines::Level;
-use settings_line::LineSettings;
 
 // What is told of a frame: how the call was decided, how long its lines are, its clips over all channels, and what is in progress after it
 // in each channel.
@@ -197,7 +197,7 @@ fn lines(
         let after = told.next;
         next[c] = after;
         let l = told.level;
-        at = report_lines::level_line(out, at, number, c as u64, l);
+        at = level_lines::level_line(out, at, number, c as u64, l);
         c += 1;
     }
     LinesTold {

@@ -10,8 +10,8 @@ ghost use Rattle.reference.specs.Taps.{S1};
 ghost use Rattle.reference.specs.Stages.{M, v, w, y-narrow};
 ghost use Rattle.reference.specs.declared.PcmRate.the-variants.{Hz88200, Hz176400, Hz352800};
 ghost use Rattle.tables.specs.Tables.{ByteTables};
-ghost use Rattle.lanes.specs.Filters.{Small};
-ghost use Rattle.route_states.specs.Routes.{LowPass, HalvedFilter, halves-of};
+ghost use Rattle.filters.specs.Filters.{Small};
+ghost use Rattle.routes.specs.Routes.{LowPass, HalvedFilter, halves-of};
 
 // The values of w, and those between them, in turn: `kept` has w from 8 places before sample n's on.
 fn between(kept: &[i64], y: &mut [i64])
@@ -20,7 +20,7 @@ fn between(kept: &[i64], y: &mut [i64])
     ensures { λ _. ⌜ ((F : List ℤ) (β : ℕ → ℕ) (n : ℕ) → 16 ≤ n → n % 2 ≡ 0 → Held (pos 0) (w F β) (n / 2 - 8) 184 (now (kept .entry)) → Held (pos 0) (y-narrow Hz352800 F β) n 336 (now (y .exit))) ⌝ }
 {
     let mut z = [0i64; 168];
-    lanes::interp(&mut z, &kept[1..184]);
+    filters::interp(&mut z, &kept[1..184]);
     stages::weave(&kept[8..176], &z, y);
 }
 
@@ -66,7 +66,7 @@ pub fn narrow176(
     let m = 2 * (h.len() - 1);
     let e = m + 168;
     stages::half_band(tables, bytes, &mut odd[0..183], &mut x[m..e]);
-    lanes::fir1(y, h, &x[0..e]);
+    filters::fir1(y, h, &x[0..e]);
     stages::shift(x, 168, m);
 }
 
@@ -95,7 +95,7 @@ pub fn narrow352(
     let o = k + 15;
     stages::half_band(tables, bytes, &mut odd[0..o], &mut x[m..e]);
     let a = 184 - k;
-    lanes::fir1(&mut kept[a..184], h, &x[0..e]);
+    filters::fir1(&mut kept[a..184], h, &x[0..e]);
     between(kept, y);
     stages::shift(x, k, m);
     stages::shift(kept, 168, 16);

@@ -1,1 +1,3 @@
-pub mod Bound
+pub mod Arrays
+pub mod Filters
+pub mod Routes

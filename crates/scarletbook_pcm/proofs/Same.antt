@@ -21,9 +21,9 @@ use Rattle.reference.proofs.Refusals.{pass, some-channel, few-channels, whole-f
 use Rattle.channel_bytes.specs.Lent.{Lent, lent-run}
 use Rattle.gain.proofs.Records.{right-bounded}
 use Rattle.runs.specs.Loops.{Ran}
-use Rattle.routes.specs.Accepted.{Accepted}
+use Rattle.workspace.specs.Accepted.{Accepted}
 use Rattle.scarletbook_pcm.specs.Calls.{AcceptedCall, present}
-use Rattle.route_states.proofs.Routes.{last-filter}
+use Rattle.routes.proofs.Routes.{last-filter}
 
 -- ---- what depends on the sequence and the frames alone
 

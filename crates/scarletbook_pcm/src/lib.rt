@@ -62,7 +62,7 @@ pub fn context_bytes(conv: Converter) -> usize
 pub fn open(settings: Settings) -> Opened
     ensures { λ r. ⌜ OpeningPromise settings r ⌝ }
 {
-    let verdict = checks::opening(settings);
+    let verdict = refusals::opening(settings);
     let converter = reference::converter_of(settings);
     Opened { verdict, converter }
 }
@@ -85,8 +85,8 @@ pub fn convert_run_parts<'a>(
 ) -> Converted
     ensures { λ r. ⌜ ConvertRunPromise conv (run «has_before» (now (before .entry)) (now (frames .entry)) «has_after» (now (after .entry))) (now (out .entry)) (now (out .exit)) r ⌝ }
 {
-    let verdict = checks::run_call(conv, has_before, before, frames, has_after, after, out);
-    if checks::accepted(verdict) {
+    let verdict = refusals::run_call(conv, has_before, before, frames, has_after, after, out);
+    if refusals::accepted(verdict) {
         let stats = work::items(conv, has_before, before, frames, has_after, after, out);
         return Converted { verdict, stats };
     }
@@ -106,8 +106,8 @@ pub fn convert_frame_parts<'a>(
 ) -> Converted
     ensures { λ r. ⌜ ConvertFramePromise conv (run «has_before» (now (before .entry)) (now (frames .entry)) «has_after» (now (after .entry))) (now (out .entry)) (now (out .exit)) r ⌝ }
 {
-    let verdict = checks::frame_call(conv, has_before, before, frames, has_after, after, out);
-    if checks::accepted(verdict) {
+    let verdict = refusals::frame_call(conv, has_before, before, frames, has_after, after, out);
+    if refusals::accepted(verdict) {
         let stats = work::items(conv, has_before, before, frames, has_after, after, out);
         return Converted { verdict, stats };
     }
@@ -130,7 +130,7 @@ fn bytes_under<'a>(
 ) -> Converted
     ensures { λ r. ⌜ BytesPromise whose conv (run «has_before» (now (before .entry)) (now (frames .entry)) «has_after» (now (after .entry))) lent (now (out .entry)) (now (counts .entry)) (now (out .exit)) (now (counts .exit)) r ⌝ }
 {
-    let verdict = checks::byte_call(
+    let verdict = refusals::byte_call(
         whose,
         conv,
         has_before,
@@ -142,7 +142,7 @@ fn bytes_under<'a>(
         lent,
         counts,
     );
-    if checks::accepted(verdict) {
+    if refusals::accepted(verdict) {
         if lent {
             let stats = work::bytes_and_counts(
                 conv,

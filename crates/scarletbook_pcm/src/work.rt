@@ -40,7 +40,7 @@ pub fn items<'a>(
     let a = present(has_after, after);
     let mut raw = [0u8; 1];
     let mut counts = [0u64; 1];
-    routes::convert_slices(
+    workspace::convert_slices(
         conv,
         b,
         frames,
@@ -74,7 +74,7 @@ pub fn bytes_and_counts<'a>(
     let b = present(has_before, before);
     let a = present(has_after, after);
     let mut items = [0i32; 1];
-    routes::convert_slices(
+    workspace::convert_slices(
         conv,
         b,
         frames,
@@ -107,7 +107,7 @@ pub fn bytes<'a>(
     let a = present(has_after, after);
     let mut items = [0i32; 1];
     let mut counts = [0u64; 1];
-    routes::convert_slices(
+    workspace::convert_slices(
         conv,
         b,
         frames,

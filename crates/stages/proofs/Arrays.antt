@@ -14,9 +14,9 @@ use Rattle.reference.specs.Taps.{S1, S1-WIDE, HB}
 use Rattle.reference.specs.Stages.{M, fir, u, v}
 use Rattle.reference.proofs.Locality.{S1-WIDE-length}
 use Rattle.reference.proofs.Sizes.{fir-size, u-S1-size, u-WIDE-size, v-size}
-use Rattle.lanes.specs.Filters.{alone, odd-taps, half-rate, Small, Fit, Filled}
-use Rattle.lanes.proofs.Signals.{held-small, half-fit, half-held, length-odd}
-use Rattle.lanes.proofs.Tables.{halves-HB, absolute-HB}
+use Rattle.filters.specs.Filters.{alone, odd-taps, half-rate, Small, Fit, Filled}
+use Rattle.filters.proofs.Signals.{held-small, half-fit, half-held, length-odd}
+use Rattle.filters.proofs.Tables.{halves-HB, absolute-HB}
 use Rattle.tables.specs.Tables.{ByteTables}
 use Rattle.first_stage.specs.Windows.{window-sum}
 use Rattle.stages.proofs.First.{first-held}

@@ -17,9 +17,9 @@ use Rattle.reference.specs.Rounding.{R}
 use Rattle.reference.specs.Stages.{M, fir}
 use Rattle.reference.proofs.Rounding.{R-size}
 use Rattle.reference.proofs.Sizes.{absolute-sum, fir-size}
-use Rattle.lanes.specs.Filters.{same-rate, Small, Fit, Filter, Filled}
-use Rattle.lanes.proofs.Signals.{past}
-use Rattle.route_states.proofs.Arrays.{part-length, put-held}
+use Rattle.filters.specs.Filters.{same-rate, Small, Fit, Filter, Filled}
+use Rattle.filters.proofs.Signals.{past}
+use Rattle.routes.proofs.Arrays.{part-length, put-held}
 
 module _ {B : ℕ} where
   pub small-front : (n : ℕ) {l : List ℤ} → Small B l → Small B (take n l)

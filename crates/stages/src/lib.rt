@@ -10,8 +10,8 @@ ghost use Rattle.reference.specs.Rounding.{R};
 ghost use Rattle.reference.specs.Taps.{S1};
 ghost use Rattle.reference.specs.Stages.{v};
 ghost use Rattle.tables.specs.Tables.{ByteTables};
-ghost use Rattle.lanes.specs.Filters.{same-rate, Small, Filled};
-ghost use Rattle.route_states.specs.Routes.{HalvedFilter, halves-of};
+ghost use Rattle.filters.specs.Filters.{same-rate, Small, Filled};
+ghost use Rattle.routes.specs.Routes.{HalvedFilter, halves-of};
 
 // v(i), v(i + 1), .., from the bytes around them, those from position 2i - 19 on: u(2i), u(2i + 2), .. go to the same places first, u(2i - 15),
 // u(2i - 13), .. to `odd`.
@@ -23,7 +23,7 @@ pub fn half_band(tables: &[i32], bytes: &[u8], odd: &mut [i64], out: &mut [i64])
 {
     first_stage::first_stage(tables, 4, bytes, 15, 2, out);
     first_stage::first_stage(tables, 4, bytes, 0, 2, odd);
-    lanes::half(out, odd);
+    filters::half(out, odd);
 }
 
 // n values of an array, those from place `by` on, become its first; the places past them keep theirs.
@@ -64,5 +64,5 @@ pub fn halved(h: &[i64], x: &[i64], y: &mut [i64])
 {
     let n = h.len();
     let e = (n + 1) / 2;
-    lanes::dec2(y, &h[0..e], &h[e..n], x);
+    filters::dec2(y, &h[0..e], &h[e..n], x);
 }

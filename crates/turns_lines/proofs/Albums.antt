@@ -6,7 +6,7 @@ use native.Mathlib.Numerals.{add-one}
 use native.Mathlib.Omega.{arith}
 use lib.ListN.{length, take, drop, set, length-append, length-drop, drop-of-length-le}
 use lib.Seq.{take-suc-set}
-use Rattle.report_lines.specs.Text.{decimal}
+use Rattle.level_lines.specs.Text.{decimal}
 use Rattle.turns_lines.specs.Lines.{Album, album-lines}
 use Rattle.turns_lines.specs.Steps.{capped, FieldRead, SomeAlbums, AlbumsRead}
 use Rattle.turns_lines.proofs.Digits.{capped-le}

@@ -4,7 +4,7 @@ use mathlib.Core.List.{List, _∷_, _++_}
 use Prim.Native.Nat.{ℕ, _≤_, _<_}
 use native.Mathlib.Omega.{arith}
 use lib.ListN.{take, drop}
-use Rattle.report_lines.specs.Text.{text, decimal, Printed}
+use Rattle.level_lines.specs.Text.{text, decimal, Printed}
 use Rattle.schedule.specs.Turns.{board}
 use Rattle.turns_lines.specs.Lines.{album-lines, board-lines, board-answer, Answer}
 use Rattle.turns_lines.specs.Steps.{FieldRead, AlbumsRead, RestAnswer}

@@ -12,7 +12,7 @@ use Rattle.numbers.proofs.Lists.{length-tabulate}
 use Rattle.reference.specs.Refusals.{decision, accepted, is-accepted}
 use Rattle.reference.specs.declared.Verdict.{Verdict}
 use Rattle.reference.proofs.Promises.{exit-accepted}
-use Rattle.report_lines.specs.Lines.{refused-line}
+use Rattle.level_lines.specs.Lines.{refused-line}
 use Rattle.schedule.specs.Turns.{board, in-range}
 use Rattle.schedule.specs.Promise.{fitting, SimulatePromise}
 use Rattle.schedule.proofs.Ranges.{ranges, fits}

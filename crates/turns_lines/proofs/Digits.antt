@@ -7,8 +7,8 @@ use native.Mathlib.Omega.{arith}
 use borrow.Author.Tests.{lt-ltb, le-ltb}
 use lib.ListN.{length}
 use Rattle.numbers.proofs.Lists.{below-or}
-use Rattle.report_lines.specs.Text.{decimal}
-use Rattle.report_lines.proofs.Numerals.{one-digit, last-digit, some-digit, single, split}
+use Rattle.level_lines.specs.Text.{decimal}
+use Rattle.level_lines.proofs.Numerals.{one-digit, last-digit, some-digit, single, split}
 use Rattle.turns_lines.specs.Steps.{capped, Number, NumberRead}
 
 -- ---- a number as it is read

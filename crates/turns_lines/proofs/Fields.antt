@@ -8,8 +8,8 @@ use native.Mathlib.Omega.{arith}
 use lib.ListN.{length, take, drop, getD, length-append, length-drop, take-append-drop, List·getD-append}
 use lib.Seq.{take-at, getD-at, getD-drop, drop-cons, drop-drop, length-take-le}
 use Rattle.numbers.proofs.Lists.{below-or}
-use Rattle.report_lines.specs.Text.{decimal}
-use Rattle.report_lines.proofs.Numerals.{some-digit, all-digits}
+use Rattle.level_lines.specs.Text.{decimal}
+use Rattle.level_lines.proofs.Numerals.{some-digit, all-digits}
 use Rattle.turns_lines.specs.Steps.{NumberRead, EndAt, FieldRead}
 
 module _ {t : List ℕ} {at end r : ℕ} (e : EndAt t at end r) (inside : at ≤ length t) where

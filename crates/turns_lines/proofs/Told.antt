@@ -10,8 +10,8 @@ use lib.ListN.{length, take, drop, getD}
 use lib.Seq.{take-at}
 use Rattle.numbers.specs.Lists.{tabulate}
 use Rattle.numbers.proofs.Lists.{tabulate-same, length-tabulate, getD-tabulate}
-use Rattle.report_lines.specs.Text.{joined, with-text, Printed}
-use Rattle.report_lines.proofs.Printing.{then, joined-last}
+use Rattle.level_lines.specs.Text.{joined, with-text, Printed}
+use Rattle.level_lines.proofs.Printing.{then, joined-last}
 use Rattle.schedule.specs.Turns.{Board, simulated, finish-in, lateness-in, greatest-lateness}
 use Rattle.schedule.proofs.Calls.{greatest-same}
 use Rattle.turns_lines.specs.Lines.{album-line, latest-line, turns-lines}

@@ -5,8 +5,8 @@ use mathlib.Core.Bool.{cond}
 use Prim.Native.Nat.{ℕ}
 use lib.IntN.{ℤ}
 use Rattle.numbers.specs.Lists.{tabulate}
-use Rattle.report_lines.specs.Text.{text, joined, decimal, signed}
-use Rattle.report_lines.specs.Lines.{printed, refused-line}
+use Rattle.level_lines.specs.Text.{text, joined, decimal, signed}
+use Rattle.level_lines.specs.Lines.{printed, refused-line}
 use Rattle.schedule.specs.Turns.{Board, board, in-range, simulated, finish-in, lateness-in, greatest-lateness}
 
 -- ---- input

@@ -7,7 +7,7 @@ use lib.Dec.{ltb}
 use lib.IntN.{ℤ, pos}
 use lib.ListN.{length, take, drop, getD}
 use Rattle.numbers.specs.Lists.{tabulate}
-use Rattle.report_lines.specs.Text.{text, joined, decimal, Printed}
+use Rattle.level_lines.specs.Text.{text, joined, decimal, Printed}
 use Rattle.schedule.specs.Turns.{board, greatest}
 use Rattle.turns_lines.specs.Lines.{Album, album-lines, album-line, latest-line, board-answer}
 

@@ -2,7 +2,7 @@
 ghost use mathlib.Core.Path.{_≡_};
 ghost use Prim.Native.Nat.{_≤_};
 ghost use lib.ListN.{length, take, drop};
-ghost use Rattle.report_lines.specs.Text.{text, Printed};
+ghost use Rattle.level_lines.specs.Text.{text, Printed};
 ghost use Rattle.turns_lines.specs.Lines.{Answer};
 ghost use Rattle.turns_lines.specs.Steps.{RestAnswer};
 
@@ -14,7 +14,7 @@ fn refused(out: &mut [u8]) -> usize
     ensures { λ r. ⌜ Printed (text "refused settings\n") (now (out .entry)) 0 (now (out .exit)) r ⌝ }
     ensures { λ r. ⌜ r ≤ 1024 ⌝ }
 {
-    report_lines::text::put(out, 0, b"refused settings\n")
+    level_lines::text::put(out, 0, b"refused settings\n")
 }
 
 // The albums' lines, read from place `start` on, and answered; the four lists are places to work in.

@@ -2,13 +2,13 @@
 ghost use mathlib.Core.Path.{_≡_};
 ghost use Prim.Native.Nat.{_+_, _≤_};
 ghost use lib.ListN.{length};
-ghost use Rattle.report_lines.specs.Text.{Printed};
+ghost use Rattle.level_lines.specs.Text.{Printed};
 ghost use Rattle.schedule.specs.Turns as turns;
 ghost use Rattle.turns_lines.specs.Lines as lines;
 ghost use Rattle.turns_lines.specs.Lines.{board-answer};
 ghost use Rattle.turns_lines.specs.Steps.{lines-of};
+use level_lines::text;
 use reference::Verdict;
-use report_lines::text;
 
 // Finishing turn and lateness of album a.
 fn album_line(out: &mut [u8], at: usize, a: u64, finish: u64, late: i32) -> usize
@@ -63,6 +63,6 @@ pub fn board(
     let verdict = schedule::simulate(frames, dues, turn, finishes, late);
     match verdict {
         Verdict::Accepted => all_lines(finishes, late, out),
-        Verdict::Refused(_) => report_lines::refused_line(out, 0, 19),
+        Verdict::Refused(_) => level_lines::refused_line(out, 0, 19),
     }
 }

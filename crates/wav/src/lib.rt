@@ -35,7 +35,7 @@ pub fn convert_parts<'a>(
         lent,
         counts,
     );
-    if checks::accepted(verdict) {
+    if refusals::accepted(verdict) {
         let rate = conv.rate;
         let n = out.len() - 44;
         wav_format::put_header(rate, conv.channels, n, out);

@@ -37,11 +37,11 @@ pub fn call(
 ) -> Verdict
     ensures { λ r. ⌜ decision r ≡ decide (wav-places conv (run «has_before» (now (before .entry)) (now (frames .entry)) «has_after» (now (after .entry))) (now (out .entry)) lent (now (counts .entry))) ⌝ }
 {
-    let v = checks::held(conv);
-    if !checks::accepted(v) {
+    let v = refusals::held(conv);
+    if !refusals::accepted(v) {
         return v;
     }
-    let w = checks::input(
+    let w = refusals::input(
         Limit::Rack,
         conv,
         has_before,
@@ -50,11 +50,11 @@ pub fn call(
         has_after,
         after,
     );
-    if !checks::accepted(w) {
+    if !refusals::accepted(w) {
         return w;
     }
     let channels = conv.channels;
-    let data = 3 * checks::all_samples(conv, frames);
+    let data = 3 * refusals::all_samples(conv, frames);
     let n = out.len();
     let expected = 44 + data;
     if n != expected {

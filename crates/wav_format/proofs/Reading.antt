@@ -10,7 +10,7 @@ use borrow.Author.Tests.{eqb-true, leb-true, le-leb, not-false}
 use lib.Dec.{eqb, leb}
 use lib.ListN.{length, getD, take, drop, take-append-drop, length-append, length-drop}
 use lib.Seq.{take-at, drop-at, getD-take}
-use Rattle.report_lines.specs.Text.{text, joined}
+use Rattle.level_lines.specs.Text.{text, joined}
 use Rattle.interface.specs.Codes.{hertz}
 use Rattle.reference.specs.Output.{samples-per-frame}
 use Rattle.reference.specs.Refusals.{accepted, refused, decide}

@@ -6,7 +6,7 @@ use lib.Dec.{lit≤}
 use lib.ListN.{drop}
 use lib.Seq.{drop-drop}
 use borrow.Rule.Slice.PartMut.{putMid}
-use Rattle.report_lines.specs.Text.{text, joined}
+use Rattle.level_lines.specs.Text.{text, joined}
 use Rattle.interface.specs.Codes.{hertz}
 use Rattle.reference.specs.declared.PcmRate.{PcmRate}
 use Rattle.reference.specs.declared.PcmRate.the-variants.{Hz88200, Hz176400, Hz352800}

@@ -3,7 +3,7 @@ use mathlib.Core.List.{List, [], _∷_}
 use mathlib.Core.Bool.{Bool, true, false, cond}
 use Prim.Native.Nat.{ℕ, _+_, _*_}
 use lib.Dec.{eqb}
-use Rattle.report_lines.specs.Text.{text, joined}
+use Rattle.level_lines.specs.Text.{text, joined}
 use Rattle.reference.specs.declared.PcmRate.{PcmRate}
 use Rattle.reference.specs.declared.PcmRate.the-variants.{Hz88200, Hz176400, Hz352800}
 use Rattle.wav_format.specs.Wav.{bytes, sample-bytes}

@@ -9,8 +9,8 @@ ghost use Rattle.reference.specs.Taps.{S1-WIDE, F40, F80};
 ghost use Rattle.reference.specs.Stages.{u, y-wide};
 ghost use Rattle.reference.specs.declared.PcmRate.the-variants.{Hz176400, Hz352800};
 ghost use Rattle.tables.specs.Tables.{ByteTables};
-ghost use Rattle.lanes.specs.Filters.{Small};
-ghost use Rattle.route_states.specs.Routes.{halves-of};
+ghost use Rattle.filters.specs.Filters.{Small};
+ghost use Rattle.routes.specs.Routes.{halves-of};
 
 // At 176,400: h has the even taps, then the odd ones.
 pub fn wide176(tables: &[i32], h: &[i64], bytes: &[u8], x: &mut [i64], y: &mut [i64])
@@ -36,6 +36,6 @@ pub fn wide352(tables: &[i32], h: &[i64], bytes: &[u8], x: &mut [i64], y: &mut [
     ensures { λ _. ⌜ ((β : ℕ → ℕ) (n : ℕ) → 1000 ≤ n → Held 0 β (n + 54) 347 (now (bytes .entry)) → Held (pos 0) (u S1-WIDE β) (n - 60) 120 (now (x .entry)) → Held (pos 0) (y-wide Hz352800 β) n 336 (now (y .exit)) × Held (pos 0) (u S1-WIDE β) (n + 336 - 60) 120 (now (x .exit))) ⌝ }
 {
     first_stage::first_stage(tables, 6, bytes, 0, 1, &mut x[120..456]);
-    lanes::fir1(y, h, &x[0..456]);
+    filters::fir1(y, h, &x[0..456]);
     stages::shift(x, 336, 120);
 }

@@ -14,8 +14,8 @@ use Rattle.numbers.proofs.Lists.{held-some}
 use Rattle.reference.specs.Output.{samples-per-frame, channel-samples}
 use Rattle.reference.proofs.Frames.{frame-samples}
 use Rattle.channel_bytes.specs.Lent.{lent-run, byte-at}
-use Rattle.route_states.specs.Routes.{last-taps, y-of, first-byte, margin-from, block-length}
-use Rattle.route_states.proofs.Routes.{a-frame}
+use Rattle.routes.specs.Routes.{last-taps, y-of, first-byte, margin-from, block-length}
+use Rattle.routes.proofs.Routes.{a-frame}
 use Rattle.blocks.specs.Blocks.{Made}
 use Rattle.blocks.proofs.Places.{next-block, some-taps, few-taps, margin-byte-near, margin-fits, block-fits}
 use Rattle.blocks.proofs.Sums.{last-of, Sized, Smalls, Staged, Blocks, run-samples, even-frame, zeros-small, staged-begins, staged-gives, staged-near, blocks-none, blocks-more, room-items, room-bytes, room-same, values-small, block-made, made-drawn, made-fits}
@@ -140,7 +140,7 @@ gather-requires-2 c κs =
     let conv = start .args .conv in
     let l = t .before .loop in
     let near = staged-near (start .pre .0) _ (start .args .n + l .k) (l .inv .2 .staged) (omega (arith, in-run t, few-samples t, frame-samples (conv .rate))) in
-    (start .pre .0 .slices, (start .pre .1 .0, near, f .fresh .ensures .1, omega (arith, l .inv .0 .of-bytes, block-fits (conv .rate) (conv .cutoff) (eqb (l .k) 0), ap (λ z. Rattle.route_states.specs.Routes.stride (conv .cutoff) * z) (f .fresh .ensures .0))))
+    (start .pre .0 .slices, (start .pre .1 .0, near, f .fresh .ensures .1, omega (arith, l .inv .0 .of-bytes, block-fits (conv .rate) (conv .cutoff) (eqb (l .k) 0), ap (λ z. Rattle.routes.specs.Routes.stride (conv .cutoff) * z) (f .fresh .ensures .0))))
 
 -- places: the block's bytes are there; its turn
 abbrev gathered : tie.After-bytes6 Inv-loop μ-loop → tie.After-gather2 Inv-loop μ-loop

@@ -8,8 +8,8 @@ use denote.Ref.{now}
 use lib.ListN.{length}
 use Rattle.numbers.proofs.Lists.{held-some}
 use Rattle.reference.specs.Frames.{frame-count}
-use Rattle.route_states.specs.Routes.{stride, around}
-use Rattle.route_states.proofs.Arrays.{part-length}
+use Rattle.routes.specs.Routes.{stride, around}
+use Rattle.routes.proofs.Arrays.{part-length}
 use Rattle.kernel.proofs.Blocks.{first-held}
 use Rattle.blocks.proofs.gather.Statement.{statement}
 use Rattle.blocks.proofs.gather.Tie as tie

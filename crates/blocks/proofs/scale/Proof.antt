@@ -6,7 +6,7 @@ use borrow.Author.Needs.{needs}
 use denote.Ref.{now}
 use lib.IntN.{pos}
 use lib.Seq.{getD-take}
-use Rattle.route_states.proofs.Arrays.{part-length}
+use Rattle.routes.proofs.Arrays.{part-length}
 use Rattle.kernel.proofs.Blocks.{first-held}
 use Rattle.blocks.proofs.Sums.{part-scaled, part-told}
 use Rattle.blocks.proofs.scale.Statement.{statement}

@@ -14,12 +14,6 @@ returns : tie.Need-returns
 unfolding frame-part
 returns c = rw (eq-eqb _ _ (c .if1 .taken))
 
-mul-size : tie.Need-mul-size
-mul-size c = search needs
-
-sub-start : tie.Need-sub-start
-sub-start c = search needs
-
 within : (c : tie.Then2) →
     (c .before .before .before .before .before .args .p / 4704 - 1) * (4704 * c .before .before .before .before .before .args .ch) + 4704 * c .before .before .before .before .before .args .ch
     ≤ c .before .before .before .before .before .args .count * (4704 * c .before .before .before .before .before .args .ch)
@@ -31,31 +25,21 @@ mul-start c = omega (arith, within c)
 add-end : tie.Need-add-end
 add-end c = omega (arith, within c)
 
-sub-result : tie.Need-sub-result
-sub-result c = search needs
-
-part-result-start : tie.Need-part-result-start
-part-result-start c = search needs
-
 part-result-end : tie.Need-part-result-end
 part-result-end c = omega (arith, within c)
 
 returns-2 : tie.Need-returns-2
 unfolding frame-part frame
 returns-2 c =
-    let s = c .before .before .before .before .before .before .args in
+    let at-if1 = c .before .before in
+    let entry = at-if1 .before .before .before .before in
+    let s = entry .args in
     let e : (s .p / 4704 - 1) * (4704 * s .ch) + 4704 * s .ch - (s .p / 4704 - 1) * (4704 * s .ch) ≡ 4704 * s .ch = omega arith in
-    rw (e, ne-eqb _ _ (c .before .before .if1 .left), le-leb _ _ (c .before .if2 .taken))
-
-add-if3 : tie.Need-add-if3
-add-if3 c = search needs
+    rw (e, ne-eqb _ _ (at-if1 .if1 .left), le-leb _ _ (c .before .if2 .taken))
 
 returns-3 : tie.Need-returns-3
 unfolding frame-part
 returns-3 c = rw (ne-eqb _ _ (c .before .before .if1 .left), lt-leb _ _ (c .before .if2 .left), eq-eqb _ _ (c .if3 .taken))
-
-nothing-requires : tie.Need-nothing-requires
-nothing-requires c κs = search needs
 
 returns-4 : tie.Need-returns-4
 unfolding frame-part
@@ -66,15 +50,15 @@ frame-at-spec =
     tie.close
     (tie.spec
     returns
-    mul-size
-    sub-start
+    (λ c. search needs)
+    (λ c. search needs)
     mul-start
     add-end
-    sub-result
-    part-result-start
+    (λ c. search needs)
+    (λ c. search needs)
     part-result-end
     returns-2
-    add-if3
+    (λ c. search needs)
     returns-3
-    nothing-requires
+    (λ c κs. search needs)
     returns-4)

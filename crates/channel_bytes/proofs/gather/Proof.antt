@@ -22,9 +22,6 @@ loop-holds c = (omega arith, refl, record { is = λ j l. absurd (omega arith) })
 add-frame-at : tie.Need-add-frame-at Inv-loop μ-loop
 add-frame-at c = omega arith
 
-frame-at-requires : tie.Need-frame-at-requires Inv-loop μ-loop
-frame-at-requires c κs = search needs
-
 add-off : tie.Need-add-off Inv-loop μ-loop
 add-off c = omega arith
 
@@ -33,9 +30,6 @@ sub-least c = omega arith
 
 sub-least-2 : tie.Need-sub-least-2 Inv-loop μ-loop
 sub-least-2 c = omega arith
-
-least-requires : tie.Need-least-requires Inv-loop μ-loop
-least-requires c κs = search needs
 
 copy-requires : tie.Need-copy-requires Inv-loop μ-loop
 copy-requires c κs =
@@ -51,12 +45,13 @@ loop-less c = omega (arith, c .before .before .before .before .least .ensures .2
 
 loop-again : tie.Need-loop-again Inv-loop μ-loop
 loop-again c =
-    let l = c .before .before .before .before .before .before .before in
+    let at-frame-at = c .before .before .before .before .before in
+    let l = at-frame-at .before .before in
     let s = l .before .before .before .before .before in (
       omega arith,
       c .before .before .copy .ensures .same ∙ l .loop .inv .1,
       gathered (s .pre .0) (s .args .c) (s .args .p) (l .loop .k) (c .before .before .before .before .least .result) (omega arith) (omega arith)
-          (c .before .before .before .before .before .frame-at .ensures) (l .loop .inv .2) (c .before .before .copy .ensures),
+          (at-frame-at .frame-at .ensures) (l .loop .inv .2) (c .before .before .copy .ensures),
     )
 
 same-length : tie.Need-same-length Inv-loop μ-loop
@@ -73,11 +68,11 @@ gather-spec =
     μ-loop
     loop-holds
     add-frame-at
-    frame-at-requires
+    (λ c κs. search needs)
     add-off
     sub-least
     sub-least-2
-    least-requires
+    (λ c κs. search needs)
     copy-requires
     add-k
     loop-less

@@ -25,14 +25,8 @@ Inv-loop head total k₀ k = (k ≤ 92) × (hopeful (take k head) ≡ true)
 abbrev μ-loop : tie.MeasureT-loop
 μ-loop head total k₀ k = 92 - k
 
-is-accepted-requires : tie.Need-is-accepted-requires Inv-loop μ-loop
-is-accepted-requires c κs = search needs
-
 returns : tie.Need-returns Inv-loop μ-loop
 returns c = λ file b h. T-of (sym (accepts-same h) ∙ sym (c .before .is-accepted .ensures) ∙ c .if1 .taken)
-
-may-go-on-requires : tie.Need-may-go-on-requires Inv-loop μ-loop
-may-go-on-requires c κs = search needs
 
 returns-2 : tie.Need-returns-2 Inv-loop μ-loop
 returns-2 c =
@@ -53,9 +47,6 @@ slice-aggregate-may-go-on c =
     let no : head-hopeful head (s .args .total) ≡ false = sym (c .before .before .before .before .may-go-on .ensures) ∙ c .before .before .before .if2 .left in
     let l = c .before .before .loop in
     sym (length-take-le (l .k + 1) head (omega (arith, inside-head head (s .args .total) (s .pre) no (l .k) (omega arith) (l .inv .1))))
-
-may-go-on-requires-2 : tie.Need-may-go-on-requires-2 Inv-loop μ-loop
-may-go-on-requires-2 c κs = search needs
 
 loop-less : tie.Need-loop-less Inv-loop μ-loop
 loop-less c = omega arith
@@ -87,9 +78,6 @@ returns-3 c =
     let here = T-of (ap hopeful (take-same file head (h .begins) (l .k) (omega arith)) ∙ l .inv .1) in
     let past = ap hopeful (take-same file head (h .begins) (l .k + 1) (omega arith)) ∙ t in
     (n, rw add-one (shortest file b (l .k) (inside file b k (l .k) here) here (F-of (rw add-one at past))))
-
-number-requires : tie.Need-number-requires Inv-loop μ-loop
-number-requires c κs = search needs
 
 add-end : tie.Need-add-end Inv-loop μ-loop
 unfolding stated-length
@@ -123,17 +111,17 @@ answer-spec =
     (tie.spec
     Inv-loop
     μ-loop
-    is-accepted-requires
+    (λ c κs. search needs)
     returns
-    may-go-on-requires
+    (λ c κs. search needs)
     returns-2
     loop-holds
     add-next
     slice-aggregate-may-go-on
-    may-go-on-requires-2
+    (λ c κs. search needs)
     loop-less
     loop-again
     returns-3
-    number-requires
+    (λ c κs. search needs)
     add-end
     returns-4)

@@ -9,9 +9,6 @@ use Rattle.dsf_upload.proofs.Beginnings.{seen}
 use Rattle.dsf_upload.proofs.give_up.Statement.{statement}
 use Rattle.dsf_upload.proofs.give_up.Tie as tie
 
-give-up-header-requires : tie.Need-give-up-header-requires
-give-up-header-requires c κs = search needs
-
 returns : tie.Need-returns
 returns c =
     let file = now (c .before .before .args .file) in
@@ -19,4 +16,4 @@ returns c =
     c .give-up-header .ensures file (record { each = λ i. omega (arith, c .before .shared-slice-known .given i) }) (seen own)
 
 pub give-up-spec : {M : Type 1} → statement M
-give-up-spec = tie.close (tie.spec give-up-header-requires returns)
+give-up-spec = tie.close (tie.spec (λ c κs. search needs) returns)

@@ -26,12 +26,6 @@ known-is c = c .lesser-of2 .ensures ∙ ap (λ (k : ℕ). lesser k (length (head
 known-within : (c : tie.After-lesser-of2) → c .lesser-of2 .result ≤ length (head c)
 known-within c = omega (arith, c .lesser-of2 .ensures)
 
-lesser-of-requires : tie.Need-lesser-of-requires
-lesser-of-requires c κs = search needs
-
-lesser-of-requires-2 : tie.Need-lesser-of-requires-2
-lesser-of-requires-2 c κs = search needs
-
 slice-aggregate-answer : tie.Need-slice-aggregate-answer
 slice-aggregate-answer c = let k = c .before .before in sym (length-take-le (k .lesser-of2 .result) (head k) (known-within k))
 
@@ -60,8 +54,8 @@ pub give-up-header-spec : {M : Type 1} → statement M
 give-up-header-spec =
     tie.close
     (tie.spec
-    lesser-of-requires
-    lesser-of-requires-2
+    (λ c κs. search needs)
+    (λ c κs. search needs)
     slice-aggregate-answer
     answer-requires
     returns

@@ -11,48 +11,6 @@ use Rattle.dsf_upload.proofs.Joined.{hopeful-is}
 use Rattle.dsf_upload.proofs.goes_on.Statement.{statement}
 use Rattle.dsf_upload.proofs.goes_on.Tie as tie
 
-needs-requires : tie.Need-needs-requires
-needs-requires c κs = search needs
-
-add-eight : tie.Need-add-eight
-add-eight c = search needs
-
-eight-requires : tie.Need-eight-requires
-eight-requires c κs = search needs
-
-at-frequency-requires : tie.Need-at-frequency-requires
-at-frequency-requires c κs = search needs
-
-slice-aggregate-holds : tie.Need-slice-aggregate-holds
-slice-aggregate-holds c = search needs
-
-holds-requires : tie.Need-holds-requires
-holds-requires c κs = search needs
-
-number-requires : tie.Need-number-requires
-number-requires c κs = search needs
-
-number-requires-2 : tie.Need-number-requires-2
-number-requires-2 c κs = search needs
-
-add-e : tie.Need-add-e
-add-e c = search needs
-
-both-requires : tie.Need-both-requires
-both-requires c κs = search needs
-
-both-requires-2 : tie.Need-both-requires-2
-both-requires-2 c κs = search needs
-
-either-requires : tie.Need-either-requires
-either-requires c κs = search needs
-
-both-requires-3 : tie.Need-both-requires-3
-both-requires-3 c κs = search needs
-
-both-requires-4 : tie.Need-both-requires-4
-both-requires-4 c κs = search needs
-
 returns : tie.Need-returns
 unfolding samples stated-length
 returns c =
@@ -72,18 +30,18 @@ pub goes-on-spec : {M : Type 1} → statement M
 goes-on-spec =
     tie.close
     (tie.spec
-    needs-requires
-    add-eight
-    eight-requires
-    at-frequency-requires
-    slice-aggregate-holds
-    holds-requires
-    number-requires
-    number-requires-2
-    add-e
-    both-requires
-    both-requires-2
-    either-requires
-    both-requires-3
-    both-requires-4
+    (λ c κs. search needs)
+    (λ c. search needs)
+    (λ c κs. search needs)
+    (λ c κs. search needs)
+    (λ c. search needs)
+    (λ c κs. search needs)
+    (λ c κs. search needs)
+    (λ c κs. search needs)
+    (λ c. search needs)
+    (λ c κs. search needs)
+    (λ c κs. search needs)
+    (λ c κs. search needs)
+    (λ c κs. search needs)
+    (λ c κs. search needs)
     returns)

@@ -30,12 +30,6 @@ data-bytes-requires c κs = c .before .before .pre .0 .six
 kind-of-requires : tie.Need-kind-of-requires
 kind-of-requires c κs = c .before .before .before .pre .0 .six
 
-add-put-header : tie.Need-add-put-header
-add-put-header c = search needs
-
-add-put-header-2 : tie.Need-add-put-header-2
-add-put-header-2 c = search needs
-
 put-header-requires : tie.Need-put-header-requires
 put-header-requires c κs =
     let s = c .before .before .before .before .before in
@@ -50,9 +44,6 @@ put-data-requires c κs =
     let n = s .args .channels in
     let fr = now (s .args .frames) in
     record { one = s .pre .0 .one; bytes-are = refl; held = frames-fit n fr; room = frames-few n fr (s .pre .0); lent = headed .put-header .ensures .same ∙ s .pre .1 ∙ length-is n fr }
-
-same-length : tie.Need-same-length
-same-length c = search needs
 
 returns : tie.Need-returns
 unfolding frame-count written-data written-channel written
@@ -78,9 +69,9 @@ fill-spec =
     mul-samples
     data-bytes-requires
     kind-of-requires
-    add-put-header
-    add-put-header-2
+    (λ c. search needs)
+    (λ c. search needs)
     put-header-requires
     put-data-requires
-    same-length
+    (λ c. search needs)
     returns)

@@ -10,17 +10,8 @@ returns c = no-channels _ _ (c .if1 .taken)
 returns-2 : tie.Need-returns-2
 returns-2 c = many-channels _ _ (c .before .if1 .left) (c .if2 .taken)
 
-mul-frame : tie.Need-mul-frame
-mul-frame c = search needs
-
-rem-if3 : tie.Need-rem-if3
-rem-if3 c = search needs
-
 returns-3 : tie.Need-returns-3
 returns-3 c = not-whole _ _ (c .before .before .if1 .left) (c .before .if2 .left) (c .if3 .taken)
-
-div-count : tie.Need-div-count
-div-count c = search needs
 
 returns-4 : tie.Need-returns-4
 returns-4 c = too-many _ _ (c .before .before .before .if1 .left) (c .before .before .if2 .left) (c .before .if3 .left) (c .if4 .taken)
@@ -34,9 +25,9 @@ verdict-spec =
     (tie.spec
     returns
     returns-2
-    mul-frame
-    rem-if3
+    (λ c. search needs)
+    (λ c. search needs)
     returns-3
-    div-count
+    (λ c. search needs)
     returns-4
     returns-5)

@@ -2,7 +2,7 @@
 use mathlib.Core.Path.{refl}
 use borrow.Author.Needs.{needs}
 use lib.Dec.{lit≤}
-use Rattle.route_states.specs.Routes.{around}
+use Rattle.routes.specs.Routes.{around}
 use Rattle.kernel.proofs.Arms.{in-narrow}
 use Rattle.kernel.proofs.around.Statement.{statement}
 use Rattle.kernel.proofs.around.Tie as tie

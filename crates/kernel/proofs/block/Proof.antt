@@ -6,8 +6,8 @@ use borrow.Author.Needs.{needs}
 use denote.Ref.{now}
 use Rattle.reference.specs.declared.PcmRate.the-variants.{Hz88200, Hz176400, Hz352800}
 use Rattle.reference.specs.declared.Cutoff.the-variants.{Standard, Low, Wide}
-use Rattle.route_states.specs.Routes.{LastFilter, FirstTables, lent-taps, fresh, block-length}
-use Rattle.route_states.proofs.Arrays.{part-length}
+use Rattle.routes.specs.Routes.{LastFilter, FirstTables, lent-taps, fresh, block-length}
+use Rattle.routes.proofs.Arrays.{part-length}
 use Rattle.kernel.proofs.Arms.{in-narrow}
 use Rattle.kernel.proofs.Blocks.{blocked-front, as-low, blocked-88, blocked-176, blocked-352, blocked-wide176, blocked-wide352, no-wide-88, wide-176, wide-352, standard-taps, halved-taps, plain-176, plain-352, fresh-low, fresh-few}
 use Rattle.kernel.proofs.block.Statement.{statement}
@@ -115,7 +115,8 @@ returns-2 c =
 returns-3 : tie.Need-returns-3
 returns-3 c =
     let n = c .before .before .before .before in
-    let f = n .before .before .before .before .before .before in
+    let past-f = n .before .before .before .before .before in
+    let f = past-f .before in
     let t = f .before in
     let m = t .before .before in
     let s = m .before .before in

@@ -2,7 +2,7 @@
 use mathlib.Core.Path.{refl}
 use borrow.Author.Needs.{needs}
 use lib.Dec.{lit<, lit≤}
-use Rattle.route_states.specs.Routes.{block-length}
+use Rattle.routes.specs.Routes.{block-length}
 use Rattle.kernel.proofs.Arms.{in-narrow}
 use Rattle.kernel.proofs.block_length.Statement.{statement}
 use Rattle.kernel.proofs.block_length.Tie as tie

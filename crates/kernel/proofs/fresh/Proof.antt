@@ -2,7 +2,7 @@
 use mathlib.Core.Path.{refl}
 use borrow.Author.Needs.{needs}
 use lib.Dec.{lit≤}
-use Rattle.route_states.specs.Routes.{fresh}
+use Rattle.routes.specs.Routes.{fresh}
 use Rattle.kernel.proofs.Arms.{in-narrow, in-lower}
 use Rattle.kernel.proofs.fresh.Statement.{statement}
 use Rattle.kernel.proofs.fresh.Tie as tie

@@ -5,8 +5,8 @@ use borrow.Author.Needs.{needs}
 use denote.Ref.{now}
 use Rattle.numbers.proofs.Lists.{held-some}
 use Rattle.reference.specs.declared.Cutoff.the-variants.{Standard}
-use Rattle.route_states.specs.Routes.{FirstTables, input, stride, around, first-byte}
-use Rattle.route_states.proofs.Arrays.{part-length}
+use Rattle.routes.specs.Routes.{FirstTables, input, stride, around, first-byte}
+use Rattle.routes.proofs.Arrays.{part-length}
 use Rattle.stages.proofs.Arrays.{wide-held, wide-small}
 use Rattle.stages.proofs.Smalls.{small-put}
 use Rattle.kernel.proofs.Arms.{in-narrow}

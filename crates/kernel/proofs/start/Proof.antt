@@ -1,7 +1,7 @@
 -- `start` meets its contract.
 use native.Mathlib.Omega.{arith}
 use borrow.Author.Needs.{needs}
-use Rattle.route_states.specs.Routes.{first-byte, margin-from}
+use Rattle.routes.specs.Routes.{first-byte, margin-from}
 use Rattle.kernel.proofs.Arms.{in-narrow}
 use Rattle.kernel.proofs.start.Statement.{statement}
 use Rattle.kernel.proofs.start.Tie as tie

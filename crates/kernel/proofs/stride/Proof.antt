@@ -2,7 +2,7 @@
 use mathlib.Core.Path.{refl}
 use borrow.Author.Needs.{needs}
 use lib.Dec.{lit≤}
-use Rattle.route_states.specs.Routes.{stride}
+use Rattle.routes.specs.Routes.{stride}
 use Rattle.kernel.proofs.Arms.{in-narrow}
 use Rattle.kernel.proofs.stride.Statement.{statement}
 use Rattle.kernel.proofs.stride.Tie as tie

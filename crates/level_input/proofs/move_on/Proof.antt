@@ -43,33 +43,12 @@ abbrev μ-loop : tie.MeasureT-loop
 loop-holds : tie.Need-loop-holds Inv-loop μ-loop
 loop-holds c = let a = c .args in (omega arith, paste-zero (denote.Ref.now (a .three)) 0 (drop (a .size) (denote.Ref.now (a .three))), refl)
 
-mul-loop : tie.Need-mul-loop Inv-loop μ-loop
-mul-loop c = search needs
-
-add-three : tie.Need-add-three Inv-loop μ-loop
-add-three c = search needs
-
-slice-read-three : tie.Need-slice-read-three Inv-loop μ-loop
-slice-read-three c = search needs
-
-slice-write-three : tie.Need-slice-write-three Inv-loop μ-loop
-slice-write-three c = search needs
-
-add-k : tie.Need-add-k Inv-loop μ-loop
-add-k c = search needs
-
-loop-less : tie.Need-loop-less Inv-loop μ-loop
-loop-less c = search needs
-
 loop-again : tie.Need-loop-again Inv-loop μ-loop
 loop-again c = let l = c .before .before .loop in
     let a = c .before .before .before .args in
     let d = denote.Ref.now (a .three) in
     let long = length-drop (a .size) d in
     (omega arith, rw (l .inv .1) (one-moved d (a .size) (l .k) (omega arith) (omega arith)), length-set (l .three) _ _ ∙ l .inv .2)
-
-same-length : tie.Need-same-length Inv-loop μ-loop
-same-length c = search needs
 
 returns : tie.Need-returns Inv-loop μ-loop
 returns c = let a = c .before .before .args in
@@ -83,12 +62,12 @@ move-on-spec =
     Inv-loop
     μ-loop
     loop-holds
-    mul-loop
-    add-three
-    slice-read-three
-    slice-write-three
-    add-k
-    loop-less
+    (λ c. search needs)
+    (λ c. search needs)
+    (λ c. search needs)
+    (λ c. search needs)
+    (λ c. search needs)
+    (λ c. search needs)
     loop-again
-    same-length
+    (λ c. search needs)
     returns)

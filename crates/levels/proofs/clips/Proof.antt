@@ -22,20 +22,8 @@ loop-holds c = (omega arith, refl, omega arith)
 few : (c : tie.In-loop Inv-loop μ-loop) → getD (c .before .before .before .args .stats .clipped) (c .before .loop .c) 0 ≤ 4704
 few c = c .before .before .before .pre .1 (c .before .loop .c) (omega arith)
 
-mul-sum : tie.Need-mul-sum Inv-loop μ-loop
-mul-sum c = search needs
-
-array-read-sum : tie.Need-array-read-sum Inv-loop μ-loop
-array-read-sum c = search needs
-
 add-sum : tie.Need-add-sum Inv-loop μ-loop
 add-sum c = let b = few c in omega arith
-
-add-c : tie.Need-add-c Inv-loop μ-loop
-add-c c = search needs
-
-loop-less : tie.Need-loop-less Inv-loop μ-loop
-loop-less c = search needs
 
 loop-again : tie.Need-loop-again Inv-loop μ-loop
 unfolding total
@@ -54,10 +42,10 @@ clips-spec =
     Inv-loop
     μ-loop
     loop-holds
-    mul-sum
-    array-read-sum
+    (λ c. search needs)
+    (λ c. search needs)
     add-sum
-    add-c
-    loop-less
+    (λ c. search needs)
+    (λ c. search needs)
     loop-again
     returns)

@@ -37,21 +37,6 @@ Inv-loop samples ch c n low₀ high₀ k₀ low high k = (k ≤ length samples /
 abbrev μ-loop : tie.MeasureT-loop
 μ-loop samples ch c n low₀ high₀ k₀ low high k = length samples / ch - k
 
-div-n : tie.Need-div-n Inv-loop μ-loop
-div-n c = search needs
-
-mul-low : tie.Need-mul-low Inv-loop μ-loop
-mul-low c = search needs
-
-shared-slice-copy-out-low : tie.Need-shared-slice-copy-out-low Inv-loop μ-loop
-shared-slice-copy-out-low c = search needs
-
-mul-high : tie.Need-mul-high Inv-loop μ-loop
-mul-high c = search needs
-
-shared-slice-copy-out-high : tie.Need-shared-slice-copy-out-high Inv-loop μ-loop
-shared-slice-copy-out-high c = search needs
-
 loop-holds : tie.Need-loop-holds Inv-loop μ-loop
 unfolding picked
 loop-holds c = let a = c .before .before .args in
@@ -77,22 +62,18 @@ mul-s-2 c = omega (arith, inside c)
 shared-slice-copy-out-s : tie.Need-shared-slice-copy-out-s Inv-loop μ-loop
 shared-slice-copy-out-s c = omega (arith, inside c)
 
-lesser-requires : tie.Need-lesser-requires Inv-loop μ-loop
-lesser-requires c κs = search needs
-
-greater-requires : tie.Need-greater-requires Inv-loop μ-loop
-greater-requires c κs = search needs
-
 add-k : tie.Need-add-k Inv-loop μ-loop
-add-k c = let s = c .before .before .before .before .before .before .before in
+add-k c =
+    let past = c .before .before .before .before .before in
+    let s = past .before .before in
     omega (arith, div-le-self (length (denote.Ref.now (s .args .samples))) (s .args .ch))
 
-loop-less : tie.Need-loop-less Inv-loop μ-loop
-loop-less c = search needs
-
 loop-again : tie.Need-loop-again Inv-loop μ-loop
-loop-again c = let l = c .before .before .before .before .loop in
-    let a = c .before .before .before .before .before .before .before .args in
+loop-again c =
+    let at-loop = c .before .before .before .before in
+    let entry = at-loop .before .before .before in
+    let l = at-loop .loop in
+    let a = entry .args in
     let s = denote.Ref.now (a .samples) in
     let f : SFits w32 (at s (a .ch) (a .c) (l .k)) = record { sfits = c .before .before .s .given } in (
       omega arith,
@@ -111,19 +92,19 @@ extremes-of-spec =
     (tie.spec
     Inv-loop
     μ-loop
-    div-n
-    mul-low
-    shared-slice-copy-out-low
-    mul-high
-    shared-slice-copy-out-high
+    (λ c. search needs)
+    (λ c. search needs)
+    (λ c. search needs)
+    (λ c. search needs)
+    (λ c. search needs)
     loop-holds
     mul-s
     add-s
     mul-s-2
     shared-slice-copy-out-s
-    lesser-requires
-    greater-requires
+    (λ c κs. search needs)
+    (λ c κs. search needs)
     add-k
-    loop-less
+    (λ c. search needs)
     loop-again
     returns)

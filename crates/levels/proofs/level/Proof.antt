@@ -9,18 +9,6 @@ use Rattle.levels.specs.Levels.{level-of}
 use Rattle.levels.proofs.level.Statement.{statement}
 use Rattle.levels.proofs.level.Tie as tie
 
-mul-clipped : tie.Need-mul-clipped
-mul-clipped c = search needs
-
-array-read-clipped : tie.Need-array-read-clipped
-array-read-clipped c = search needs
-
-extremes-of-requires : tie.Need-extremes-of-requires
-extremes-of-requires c κs = search needs
-
-overs-of-requires : tie.Need-overs-of-requires
-overs-of-requires c κs = search needs
-
 returns : tie.Need-returns
 unfolding level-of
 returns c =
@@ -32,4 +20,4 @@ returns c =
 
 pub level-spec : {M : Type 1} → statement M
 level-spec =
-    tie.close (tie.spec mul-clipped array-read-clipped extremes-of-requires overs-of-requires returns)
+    tie.close (tie.spec (λ c. search needs) (λ c. search needs) (λ c κs. search needs) (λ c κs. search needs) returns)

@@ -14,9 +14,9 @@ use lib.ListN.{length, getD, set, replicate, length-set}
 use lib.Seq.{getD-set-same, getD-set-other}
 use Rattle.numbers.specs.Lists.{tabulate}
 use Rattle.numbers.proofs.Lists.{getD-tabulate, length-tabulate, is-tabulate, below-or}
-use Rattle.report_lines.specs.Text.{joined, Printed}
-use Rattle.report_lines.specs.Lines.{level-line}
-use Rattle.report_lines.proofs.Printing.{then}
+use Rattle.level_lines.specs.Text.{joined, Printed}
+use Rattle.level_lines.specs.Lines.{level-line}
+use Rattle.level_lines.proofs.Printing.{then}
 use Rattle.overs.specs.Overs.{none, overs-of}
 use Rattle.overs.specs.declared.Progress.{Progress}
 use Rattle.levels.specs.Levels.{level-of, states-after}
@@ -81,33 +81,6 @@ unfolding tabulate joined
 loop-holds c = let a = c .before .before .args in
     (omega arith, omega arith, refl, rw (c .none .ensures) (states-none (denote.Ref.now (a .samples)) (a .ch) (a .t5)), none-printed (denote.Ref.now (a .out)))
 
-none-requires : tie.Need-none-requires Inv-loop μ-loop
-none-requires c κs = search needs
-
-mul-p : tie.Need-mul-p Inv-loop μ-loop
-mul-p c = search needs
-
-array-copy-out-p : tie.Need-array-copy-out-p Inv-loop μ-loop
-array-copy-out-p c = search needs
-
-level-requires : tie.Need-level-requires Inv-loop μ-loop
-level-requires c κs = search needs
-
-mul-next : tie.Need-mul-next Inv-loop μ-loop
-mul-next c = search needs
-
-array-set-from-next : tie.Need-array-set-from-next Inv-loop μ-loop
-array-set-from-next c = search needs
-
-level-line-requires : tie.Need-level-line-requires Inv-loop μ-loop
-level-line-requires c κs = search needs
-
-add-c : tie.Need-add-c Inv-loop μ-loop
-add-c c = search needs
-
-loop-less : tie.Need-loop-less Inv-loop μ-loop
-loop-less c = search needs
-
 loop-again : tie.Need-loop-again Inv-loop μ-loop
 loop-again c = let printed = c .before .before in
     let put = printed .level-line in
@@ -122,9 +95,6 @@ loop-again c = let printed = c .before .before in
       more (λ c. level-line (a .number) c (level-of (a .stats .clipped) (denote.Ref.now (a .samples)) (a .ch) c (getD (a .t5) c none))) (l .c) (l .inv .4) (put .ensures .0) (ap (level-line (a .number) (l .c)) (told .level .ensures .0)),
     )
 
-same-length : tie.Need-same-length Inv-loop μ-loop
-same-length c = search needs
-
 returns : tie.Need-returns Inv-loop μ-loop
 returns c = let l = c .before .loop in
     let e : l .c ≡ c .before .before .before .before .args .ch = omega arith in
@@ -136,16 +106,16 @@ lines-spec =
     (tie.spec
     Inv-loop
     μ-loop
-    none-requires
+    (λ c κs. search needs)
     loop-holds
-    mul-p
-    array-copy-out-p
-    level-requires
-    mul-next
-    array-set-from-next
-    level-line-requires
-    add-c
-    loop-less
+    (λ c. search needs)
+    (λ c. search needs)
+    (λ c κs. search needs)
+    (λ c. search needs)
+    (λ c. search needs)
+    (λ c κs. search needs)
+    (λ c. search needs)
+    (λ c. search needs)
     loop-again
-    same-length
+    (λ c. search needs)
     returns)

@@ -8,15 +8,6 @@ use Rattle.levels.proofs.opened.Tie as tie
 cast-nearest-i64-to-f64 : tie.Need-cast-nearest-i64-to-f64
 cast-nearest-i64-to-f64 c = wide-fits (c .before .before .args .s .db) (c .struct-told .given .1 .1 .1 .0 .1)
 
-nearest-i64-to-f64-requires : tie.Need-nearest-i64-to-f64-requires
-nearest-i64-to-f64-requires c κs = search needs
-
-db-to-linear-requires : tie.Need-db-to-linear-requires
-db-to-linear-requires c κs = search needs
-
-open-requires : tie.Need-open-requires
-open-requires c κs = search needs
-
 returns : tie.Need-returns
 unfolding read-settings
 returns c = let s = c .before .before .before .before .before in
@@ -27,7 +18,7 @@ opened-spec =
     tie.close
     (tie.spec
     cast-nearest-i64-to-f64
-    nearest-i64-to-f64-requires
-    db-to-linear-requires
-    open-requires
+    (λ c κs. search needs)
+    (λ c κs. search needs)
+    (λ c κs. search needs)
     returns)

@@ -11,9 +11,6 @@ use Rattle.levels.proofs.Quiet.{quiet-channel}
 use Rattle.levels.proofs.overs_of.Statement.{statement}
 use Rattle.levels.proofs.overs_of.Tie as tie
 
-none-requires : tie.Need-none-requires
-none-requires c κs = search needs
-
 returns : tie.Need-returns
 returns c =
     let tested = c .before .before .before .before in
@@ -26,11 +23,5 @@ returns c =
     (rw (s .pre .1 .0) at low) (rw (s .pre .1 .1) at high) (s .args .p) in
     ap (λ (p : Progress). record { count = 0; next = p }) (c .none .ensures) ∙ sym none
 
-overs-requires : tie.Need-overs-requires
-overs-requires c κs = search needs
-
-returns-2 : tie.Need-returns-2
-returns-2 c = search needs
-
 pub overs-of-spec : {M : Type 1} → statement M
-overs-of-spec = tie.close (tie.spec none-requires returns overs-requires returns-2)
+overs-of-spec = tie.close (tie.spec (λ c κs. search needs) returns (λ c κs. search needs) (λ c. search needs))

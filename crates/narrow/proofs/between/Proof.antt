@@ -4,8 +4,8 @@ use mathlib.Core.Path.{refl, _∙_, ap}
 use Prim.Native.Nat.{_/_}
 use native.Mathlib.Omega.{arith}
 use Rattle.numbers.specs.Parts.{woven}
-use Rattle.route_states.proofs.Arrays.{part-length}
-use Rattle.route_states.proofs.Filters.{middle-fit-small, woven-y}
+use Rattle.routes.proofs.Arrays.{part-length}
+use Rattle.routes.proofs.Filters.{middle-fit-small, woven-y}
 use Rattle.stages.proofs.Smalls.{small-part}
 use borrow.Author.Needs.{needs}
 use Rattle.narrow.proofs.between.Statement.{statement}

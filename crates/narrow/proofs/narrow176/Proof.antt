@@ -5,8 +5,8 @@ use native.Mathlib.Omega.{arith}
 use lib.ListN.{length}
 use Rattle.numbers.proofs.Lists.{held-some}
 use Rattle.reference.specs.Stages.{M, w, y-narrow}
-use Rattle.route_states.proofs.Arrays.{part-length, shifted, held-at}
-use Rattle.route_states.proofs.Filters.{fir1-gives}
+use Rattle.routes.proofs.Arrays.{part-length, shifted, held-at}
+use Rattle.routes.proofs.Filters.{fir1-gives}
 use Rattle.stages.proofs.Smalls.{small-shift, joined-held, joined-small, fir1-asks}
 use borrow.Author.Needs.{needs}
 use Rattle.narrow.proofs.narrow176.Statement.{statement}

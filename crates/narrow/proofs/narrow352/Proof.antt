@@ -7,9 +7,9 @@ use native.Mathlib.Omega.{arith}
 use lib.ListN.{length, take, drop}
 use Rattle.numbers.proofs.Lists.{held-some}
 use Rattle.reference.specs.Stages.{M, w}
-use Rattle.lanes.specs.Filters.{Small}
-use Rattle.route_states.proofs.Arrays.{part-length, shifted, held-at}
-use Rattle.route_states.proofs.Filters.{fir1-gives}
+use Rattle.filters.specs.Filters.{Small}
+use Rattle.routes.proofs.Arrays.{part-length, shifted, held-at}
+use Rattle.routes.proofs.Filters.{fir1-gives}
 use Rattle.stages.proofs.Smalls.{small-front, small-put, small-shift, fir1-small, joined-length, joined-held, joined-small, fir1-asks}
 use borrow.Rule.Slice.PartMut.{putMid}
 use borrow.Author.Needs.{needs}

@@ -5,8 +5,8 @@ use native.Mathlib.Omega.{arith}
 use lib.ListN.{length}
 use Rattle.numbers.proofs.Lists.{held-some}
 use Rattle.reference.specs.Stages.{M, w, y-narrow}
-use Rattle.route_states.proofs.Arrays.{part-length, shifted, held-at}
-use Rattle.route_states.proofs.Filters.{halved-gives, halves-length}
+use Rattle.routes.proofs.Arrays.{part-length, shifted, held-at}
+use Rattle.routes.proofs.Filters.{halved-gives, halves-length}
 use Rattle.stages.proofs.Smalls.{small-front, small-shift, joined-front, joined-held, joined-small}
 use borrow.Author.Needs.{needs}
 use Rattle.narrow.proofs.narrow88.Statement.{statement}

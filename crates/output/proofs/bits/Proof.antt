@@ -18,11 +18,8 @@ add-result c = rw (sum-is (c .args .v) (c .fits .v .sfits)) (up-fits (c .args .v
 cast-result-2 : tie.Need-cast-result-2
 cast-result-2 c = rw (held-is (c .args .v) (c .fits .v .sfits)) (tt, record { fits = omega (arith, up-small (c .args .v) (c .fits .v .sfits)) })
 
-cast-result-3 : tie.Need-cast-result-3
-cast-result-3 c = search needs
-
 returns : tie.Need-returns
 returns c = ap (λ z. natAbs z % 16777216) (held-is (c .args .v) (c .fits .v .sfits)) ∙ up-low (c .args .v) (c .fits .v .sfits)
 
 pub bits-spec : {M : Type 1} → statement M
-bits-spec = tie.close (tie.spec cast-result add-result cast-result-2 cast-result-3 returns)
+bits-spec = tie.close (tie.spec cast-result add-result cast-result-2 (λ c. search needs) returns)

@@ -67,42 +67,19 @@ Inv-loop samples bytes₀ n k₀ bytes k = (k ≤ n) × (length bytes ≡ length
 abbrev μ-loop : tie.MeasureT-loop
 μ-loop samples bytes₀ n k₀ bytes k = n - k
 
-least-requires : tie.Need-least-requires Inv-loop μ-loop
-least-requires c κs = search needs
-
 loop-holds : tie.Need-loop-holds Inv-loop μ-loop
 unfolding so-far s24le tabulate
 loop-holds c = (omega arith, refl, refl)
 
-mul-put : tie.Need-mul-put Inv-loop μ-loop
-mul-put c = search needs
-
-mul-put-2 : tie.Need-mul-put-2 Inv-loop μ-loop
-mul-put-2 c = search needs
-
-shared-slice-copy-out-put : tie.Need-shared-slice-copy-out-put Inv-loop μ-loop
-shared-slice-copy-out-put c = search needs
-
-put-requires : tie.Need-put-requires Inv-loop μ-loop
-put-requires c κs = search needs
-
-add-k : tie.Need-add-k Inv-loop μ-loop
-add-k c = search needs
-
-loop-less : tie.Need-loop-less Inv-loop μ-loop
-loop-less c = search needs
-
 loop-again : tie.Need-loop-again Inv-loop μ-loop
 loop-again c =
-    let w = c .before .before .before .before .before .before in
+    let at-put-arg2 = c .before .before .before in
+    let w = at-put-arg2 .before .before .before in
     let l = w .loop in
     let a = w .before .before .before .args in
     let p = c .before .before .put in
-    let z = c .before .before .before .put-arg2 .given in
+    let z = at-put-arg2 .put-arg2 .given in
     (omega arith, p .kept .0 ∙ l .inv .1, p .ensures ∙ rw (l .inv .2) (one-more (now (a .samples)) (l .k) (now (a .bytes)) (toZ-ofZ (record { sfits = z })) (omega arith) (omega arith)))
-
-same-length : tie.Need-same-length Inv-loop μ-loop
-same-length c = search needs
 
 returns : tie.Need-returns Inv-loop μ-loop
 unfolding packed so-far
@@ -113,4 +90,4 @@ returns c =
     record { written = rw e at (l .inv .2) }
 
 pub pack-spec : {M : Type 1} → statement M
-pack-spec = tie.close (tie.spec Inv-loop μ-loop least-requires loop-holds mul-put mul-put-2 shared-slice-copy-out-put put-requires add-k loop-less loop-again same-length returns)
+pack-spec = tie.close (tie.spec Inv-loop μ-loop (λ c κs. search needs) loop-holds (λ c. search needs) (λ c. search needs) (λ c. search needs) (λ c κs. search needs) (λ c. search needs) (λ c. search needs) loop-again (λ c. search needs) returns)

@@ -23,9 +23,6 @@ abbrev μ-loop : tie.MeasureT-loop
 loop-holds : tie.Need-loop-holds Inv-loop μ-loop
 loop-holds c = (omega arith, refl, λ S h. no-rows (omega arith))
 
-mul-out : tie.Need-mul-out Inv-loop μ-loop
-mul-out c = search needs
-
 shared-slice-copy-out-out : tie.Need-shared-slice-copy-out-out Inv-loop μ-loop
 shared-slice-copy-out-out c = c .loop-test .taken
 
@@ -82,7 +79,7 @@ store-spec =
     Inv-loop
     μ-loop
     loop-holds
-    mul-out
+    (λ c. search needs)
     shared-slice-copy-out-out
     add-t12
     mul-t13

@@ -44,9 +44,6 @@ add-put-2 c = omega (arith, inside (c .before))
 mul-put-2 : tie.Need-mul-put-2 Inv-loop μ-loop
 mul-put-2 c = omega (arith, inside (c .before))
 
-mul-put-3 : tie.Need-mul-put-3 Inv-loop μ-loop
-mul-put-3 c = search needs
-
 shared-slice-copy-out-put : tie.Need-shared-slice-copy-out-put Inv-loop μ-loop
 shared-slice-copy-out-put c = c .before .loop-test .taken
 
@@ -60,16 +57,18 @@ loop-less : tie.Need-loop-less Inv-loop μ-loop
 loop-less c = omega arith
 
 loop-again : tie.Need-loop-again Inv-loop μ-loop
-loop-again c = let w = c .before .before .before .before .before .before in
+loop-again c =
+    let at-loop-test = c .before .before .before .before .before in
+    let w = at-loop-test .before in
     let l = w .loop in
     let s = w .before .before in
     let a = s .args in
     let p = c .before .before .put in
     let v = c .before .before .before .put-arg2 .given in
     let e : a .n + l .k + 1 ≡ a .n + (l .k + 1) = omega arith in (
-      omega (arith, c .before .before .before .before .before .loop-test .taken),
+      omega (arith, at-loop-test .loop-test .taken),
       p .kept .0 ∙ l .inv .1,
-      λ S h. rw (← e, p .ensures) (rows (l .inv .2 S h) (one-sample S (a .n + l .k) (a .c) (s .pre .0) (omega (arith, inside (c .before .before .before .before .before))) (toZ-ofZ (record { sfits = v }) ∙ h .is (l .k) (c .before .before .before .before .before .loop-test .taken)))),
+      λ S h. rw (← e, p .ensures) (rows (l .inv .2 S h) (one-sample S (a .n + l .k) (a .c) (s .pre .0) (omega (arith, inside (at-loop-test))) (toZ-ofZ (record { sfits = v }) ∙ h .is (l .k) (at-loop-test .loop-test .taken)))),
     )
 
 same-length : tie.Need-same-length Inv-loop μ-loop
@@ -89,7 +88,7 @@ store24-spec =
     mul-put
     add-put-2
     mul-put-2
-    mul-put-3
+    (λ c. search needs)
     shared-slice-copy-out-put
     put-requires
     add-k

@@ -6,15 +6,6 @@ use Rattle.overs.specs.Overs.{normal}
 use Rattle.overs.proofs.normal.Statement.{statement}
 use Rattle.overs.proofs.normal.Tie as tie
 
-none-requires : tie.Need-none-requires
-none-requires c κs = search needs
-
-at-most-3-requires : tie.Need-at-most-3-requires
-at-most-3-requires c κs = search needs
-
-standing-requires : tie.Need-standing-requires
-standing-requires c κs = search needs
-
 returns : tie.Need-returns
 unfolding normal
 returns c = c .none .ensures ∙ rw (eq-eqb (c .before .before .args .p .length) 0 (c .before .if1 .taken)) refl
@@ -26,4 +17,4 @@ returns-2 c =
 
 pub normal-spec : {M : Type 1} → statement M
 normal-spec =
-    tie.close (tie.spec none-requires at-most-3-requires standing-requires returns returns-2)
+    tie.close (tie.spec (λ c κs. search needs) (λ c κs. search needs) (λ c κs. search needs) returns returns-2)

@@ -34,12 +34,6 @@ Inv-loop items n c m state₀ count₀ k₀ state count k = (k ≤ m) × SoFar i
 abbrev μ-loop : tie.MeasureT-loop
 μ-loop items n c m state₀ count₀ k₀ state count k = m - k
 
-channel-size-requires : tie.Need-channel-size-requires Inv-loop μ-loop
-channel-size-requires c κs = search needs
-
-normal-requires : tie.Need-normal-requires Inv-loop μ-loop
-normal-requires c κs = search needs
-
 loop-holds : tie.Need-loop-holds Inv-loop μ-loop
 unfolding tabulate after overs-from
 loop-holds c = (omega arith, record { state = refl; counted = refl })
@@ -61,9 +55,6 @@ module _ {items : List ℤ} {n c k e : ℕ} {p q : Progress} {count : ℕ} (s : 
     counted =
         rw (joined, overs-append p (tabulate (at items n c) 0 k) (tabulate (at items n c) k (e - k)), ← s .state, past .no-overs) (omega (arith, s .counted));
   }
-
-none-requires : tie.Need-none-requires Inv-loop μ-loop
-none-requires c κs = search needs
 
 loop-less : tie.Need-loop-less Inv-loop μ-loop
 loop-less c = omega (arith, c .before .before .passed-over .ensures .0)
@@ -95,9 +86,6 @@ mul-step-2 c = omega (arith, inside c)
 
 shared-slice-copy-out-step : tie.Need-shared-slice-copy-out-step Inv-loop μ-loop
 shared-slice-copy-out-step c = omega (arith, inside c)
-
-step-requires : tie.Need-step-requires Inv-loop μ-loop
-step-requires c κs = search needs
 
 module _ {items : List ℤ} {n c k : ℕ} {p q : Progress} {count : ℕ} (r : OverCount) (s : SoFar items n c k p q count) (f : SFits w32 (at items n c k))
     (stepped : r ≡ step q (toZ w32 (ofZ w32 (at items n c k)))) where
@@ -141,9 +129,6 @@ add-k : tie.Need-add-k Inv-loop μ-loop
 add-k c = let test = c .before .before .before .before .before in
     omega (arith, test .before .before .before .before .channel-size .ok)
 
-loop-less-2 : tie.Need-loop-less-2 Inv-loop μ-loop
-loop-less-2 c = search needs
-
 loop-again-2 : tie.Need-loop-again-2 Inv-loop μ-loop
 loop-again-2 c = (omega arith, stepped c .0)
 
@@ -161,20 +146,20 @@ overs-spec =
     (tie.spec
     Inv-loop
     μ-loop
-    channel-size-requires
-    normal-requires
+    (λ c κs. search needs)
+    (λ c κs. search needs)
     loop-holds
     passed-over-requires
-    none-requires
+    (λ c κs. search needs)
     loop-less
     loop-again
     mul-step
     add-step
     mul-step-2
     shared-slice-copy-out-step
-    step-requires
+    (λ c κs. search needs)
     add-count
     add-k
-    loop-less-2
+    (λ c. search needs)
     loop-again-2
     returns)

@@ -36,17 +36,11 @@ Inv-loop items n c m k at₀ at = (at ≤ m) × ((p : Progress) → p .end ≡ N
 abbrev μ-loop : tie.MeasureT-loop
 μ-loop items n c m k at₀ at = m - at
 
-same-end-requires : tie.Need-same-end-requires Inv-loop μ-loop
-same-end-requires c κs = search needs
-
 returns : tie.Need-returns Inv-loop μ-loop
 returns c = let a = c .before .before .args in (omega arith, passed-none (sample (denote.Ref.now (a .items)) (a .n) (a .c)) (a .p) (a .k))
 
 loop-holds : tie.Need-loop-holds Inv-loop μ-loop
 loop-holds c = let a = c .before .before .args in (omega arith, λ p _. passed-none (sample (denote.Ref.now (a .items)) (a .n) (a .c)) p (a .k))
-
-sub-loop : tie.Need-sub-loop Inv-loop μ-loop
-sub-loop c = search needs
 
 -- the place that is read
 inside : (c : tie.In-loop Inv-loop μ-loop) → let a = c .before .before .before .before .args in
@@ -69,12 +63,6 @@ mul-end-of-2 c = omega (arith, inside c)
 shared-slice-copy-out-end-of : tie.Need-shared-slice-copy-out-end-of Inv-loop μ-loop
 shared-slice-copy-out-end-of c = omega (arith, inside c)
 
-end-of-requires : tie.Need-end-of-requires Inv-loop μ-loop
-end-of-requires c κs = search needs
-
-same-end-requires-2 : tie.Need-same-end-requires-2 Inv-loop μ-loop
-same-end-requires-2 c κs = search needs
-
 -- what the loop has passed over, from its place
 so-far : (c : tie.At-loop Inv-loop μ-loop) → let a = c .before .before .before .args in
     (c .loop .at ≤ a .m) × Passed (sample (denote.Ref.now (a .items)) (a .n) (a .c)) (a .p) (a .k) (c .loop .at)
@@ -83,12 +71,6 @@ so-far c = let test = c .before in
 
 returns-2 : tie.Need-returns-2 Inv-loop μ-loop
 returns-2 c = so-far (c .before .before .before .before .before)
-
-add-at : tie.Need-add-at Inv-loop μ-loop
-add-at c = search needs
-
-loop-less : tie.Need-loop-less Inv-loop μ-loop
-loop-less c = search needs
 
 loop-again : tie.Need-loop-again Inv-loop μ-loop
 loop-again c = let third = c .before .before in
@@ -108,19 +90,19 @@ passed-over-spec =
     (tie.spec
     Inv-loop
     μ-loop
-    same-end-requires
+    (λ c κs. search needs)
     returns
     loop-holds
-    sub-loop
+    (λ c. search needs)
     add-end-of
     mul-end-of
     add-end-of-2
     mul-end-of-2
     shared-slice-copy-out-end-of
-    end-of-requires
-    same-end-requires-2
+    (λ c κs. search needs)
+    (λ c κs. search needs)
     returns-2
-    add-at
-    loop-less
+    (λ c. search needs)
+    (λ c. search needs)
     loop-again
     returns-3)

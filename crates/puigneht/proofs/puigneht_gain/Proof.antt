@@ -18,26 +18,16 @@ start c = c .before .before .before
 known : (c : tie.Then1) → asked (start (c .before)) ≡ true
 known c = cc
 
-both-requires : tie.Need-both-requires
-both-requires c κs = search needs
-
-from-db-requires : tie.Need-from-db-requires
-from-db-requires c κs = search needs
-
 tell-gain-requires : tie.Need-tell-gain-requires
 tell-gain-requires c κs = room-is _ _ (known (c .before .before .before))
 
-same-length : tie.Need-same-length
-same-length c = search needs
-
-same-length-2 : tie.Need-same-length-2
-same-length-2 c = search needs
-
 returns : tie.Need-returns
 returns c =
-    let told = c .before .before .before .before .tell-gain .ensures in
-    let made = c .before .before .before .before .before .before .before .from-db in
-    worked (known (c .before .before .before .before .before .before .before .before)) (record { made = made .result; promise = made .ensures; told = told .0; written = told .1 })
+    let at-tell-gain = c .before .before .before .before in
+    let at-from-db = at-tell-gain .before .before .before in
+    let told = at-tell-gain .tell-gain .ensures in
+    let made = at-from-db .from-db in
+    worked (known (at-from-db .before)) (record { made = made .result; promise = made .ensures; told = told .0; written = told .1 })
 
 returns-2 : tie.Need-returns-2
 returns-2 c =
@@ -48,10 +38,10 @@ pub puigneht-gain-spec : {M : Type 1} → statement M
 puigneht-gain-spec =
     tie.close
     (tie.spec
-    both-requires
-    from-db-requires
+    (λ c κs. search needs)
+    (λ c κs. search needs)
     tell-gain-requires
-    same-length
-    same-length-2
+    (λ c. search needs)
+    (λ c. search needs)
     returns
     returns-2)

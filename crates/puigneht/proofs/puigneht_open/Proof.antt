@@ -19,7 +19,9 @@ asked s = open-understood (the-settings s) (now (s .args .opened)) (now (s .args
 
 -- the entry, from the place of the test
 abbrev start : tie.After-both2 → tie.Start
-start c = c .before .before .before .before .before .before .before .before
+start c =
+    let past = c .before .before .before .before .before in
+    past .before .before .before
 
 -- what the test finds
 found : (c : tie.After-both2) → c .both2 .result ≡ asked (start c)
@@ -35,44 +37,23 @@ fit c =
     let s = start (c .before) in
     open-lengths (the-settings s) (now (s .args .opened)) (now (s .args .«data»)) (now (s .args .decibels)) (known c)
 
-known-settings-requires : tie.Need-known-settings-requires
-known-settings-requires c κs = search needs
-
-room-requires : tie.Need-room-requires
-room-requires c κs = search needs
-
-both-requires : tie.Need-both-requires
-both-requires c κs = search needs
-
-both-requires-2 : tie.Need-both-requires-2
-both-requires-2 c κs = search needs
-
 settings-requires : tie.Need-settings-requires
 settings-requires c κs = fit c .floats
-
-open-requires : tie.Need-open-requires
-open-requires c κs = search needs
 
 tell-opening-requires : tie.Need-tell-opening-requires
 tell-opening-requires c κs =
     let l = fit (c .before .before .before .before .before) in
     (l .firsts, l .told)
 
-same-length : tie.Need-same-length
-same-length c = search needs
-
-same-length-2 : tie.Need-same-length-2
-same-length-2 c = search needs
-
-same-length-3 : tie.Need-same-length-3
-same-length-3 c = search needs
-
 returns : tie.Need-returns
 returns c =
-    let told = c .before .before .before .before .before .before .tell-opening .ensures in
-    let made = c .before .before .before .before .before .before .before .before .before .before .«open» in
-    let promise = rw (c .before .before .before .before .before .before .before .before .before .before .before .settings .ensures) at (made .ensures) in
-    worked (known (c .before .before .before .before .before .before .before .before .before .before .before .before)) (record { made = made .result; promise = promise; told = told .0; written = rw (promise .converter) at (told .1) })
+    let past = c .before .before .before .before .before in
+    let at-tell-opening = past .before in
+    let at-settings = at-tell-opening .before .before .before .before .before in
+    let told = at-tell-opening .tell-opening .ensures in
+    let made = at-tell-opening .before .before .before .before .«open» in
+    let promise = rw (at-settings .settings .ensures) at (made .ensures) in
+    worked (known (at-settings .before)) (record { made = made .result; promise = promise; told = told .0; written = rw (promise .converter) at (told .1) })
 
 returns-2 : tie.Need-returns-2
 returns-2 c =
@@ -83,15 +64,15 @@ pub puigneht-open-spec : {M : Type 1} → statement M
 puigneht-open-spec =
     tie.close
     (tie.spec
-    known-settings-requires
-    room-requires
-    both-requires
-    both-requires-2
+    (λ c κs. search needs)
+    (λ c κs. search needs)
+    (λ c κs. search needs)
+    (λ c κs. search needs)
     settings-requires
-    open-requires
+    (λ c κs. search needs)
     tell-opening-requires
-    same-length
-    same-length-2
-    same-length-3
+    (λ c. search needs)
+    (λ c. search needs)
+    (λ c. search needs)
     returns
     returns-2)

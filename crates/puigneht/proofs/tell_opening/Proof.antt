@@ -41,7 +41,12 @@ same-length-3 c = search needs
 returns : tie.Need-returns
 unfolding by-decision opened-numbers
 returns c =
-    (c .before .before .before .before .tell .ensures, rw (c .before .before .before .before .before .before .before .before .before .before .before .before .before .before .enum-told .given .1, ← c .before .before .before .before .before .before .before .before .before .before .before .before .samples-per-frame .ensures, ← c .before .before .before .before .before .before .before .before .before .before .before .context-bytes .ensures) (c .before .before .before .before .before .before .before .before .before .put-two .ensures))
+    let at-tell = c .before .before .before .before in
+    let at-put-two = at-tell .before .before .before .before .before in
+    let at-context-bytes = at-put-two .before .before in
+    let at-samples-per-frame = at-context-bytes .before in
+    let at-enum-told = at-samples-per-frame .before .before in
+    (at-tell .tell .ensures, rw (at-enum-told .enum-told .given .1, ← at-samples-per-frame .samples-per-frame .ensures, ← at-context-bytes .context-bytes .ensures) (at-put-two .put-two .ensures))
 
 same-length-4 : tie.Need-same-length-4
 same-length-4 c = search needs
@@ -51,8 +56,10 @@ same-length-5 c = search needs
 
 returns-2 : tie.Need-returns-2
 returns-2 c =
-    let refused = c .before .before .before .before .before .before .before .enum-told2 .given in
-    (c .before .before .before .before .tell2 .ensures, rw (refused .1, exit-refused _ _ _ (error-refuses (refused .0 .0))) refl)
+    let at-tell2 = c .before .before .before .before in
+    let at-enum-told2 = at-tell2 .before .before .before in
+    let refused = at-enum-told2 .enum-told2 .given in
+    (at-tell2 .tell2 .ensures, rw (refused .1, exit-refused _ _ _ (error-refuses (refused .0 .0))) refl)
 
 pub tell-opening-spec : {M : Type 1} → statement M
 tell-opening-spec =

@@ -22,14 +22,8 @@ abbrev μ-loop : tie.MeasureT-loop
 loop-holds : tie.Need-loop-holds Inv-loop μ-loop
 loop-holds c = (omega arith, refl, held-none)
 
-mul-one : tie.Need-mul-one Inv-loop μ-loop
-mul-one c = search needs
-
 array-copy-out-one : tie.Need-array-copy-out-one Inv-loop μ-loop
 array-copy-out-one c = c .loop-test .taken
-
-mul-clipped : tie.Need-mul-clipped Inv-loop μ-loop
-mul-clipped c = search needs
 
 array-write-clipped : tie.Need-array-write-clipped Inv-loop μ-loop
 array-write-clipped c = c .before .loop-test .taken
@@ -59,9 +53,9 @@ stats-of-spec =
     Inv-loop
     μ-loop
     loop-holds
-    mul-one
+    (λ c. search needs)
     array-copy-out-one
-    mul-clipped
+    (λ c. search needs)
     array-write-clipped
     add-c
     loop-less

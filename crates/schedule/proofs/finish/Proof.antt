@@ -32,17 +32,11 @@ loop-holds c = (omega arith, refl, omega arith, known (c .before .before))
 mul-place : tie.Need-mul-place Inv-loop μ-loop
 mul-place c = omega (arith, c .before .loop .inv .3 .few)
 
-shared-slice-read-place : tie.Need-shared-slice-read-place Inv-loop μ-loop
-shared-slice-read-place c = search needs
-
 place-requires : tie.Need-place-requires Inv-loop μ-loop
 place-requires c κs = let r = c .before .before .loop .inv .3 in (omega (arith, r .album (c .before .before .loop .b) (omega arith)), omega (arith, r .few))
 
 mul-place-2 : tie.Need-mul-place-2 Inv-loop μ-loop
 mul-place-2 c = omega (arith, c .before .before .before .loop .inv .3 .few)
-
-shared-slice-read-place-2 : tie.Need-shared-slice-read-place-2 Inv-loop μ-loop
-shared-slice-read-place-2 c = search needs
 
 place-requires-2 : tie.Need-place-requires-2 Inv-loop μ-loop
 place-requires-2 c κs =
@@ -50,27 +44,12 @@ place-requires-2 c κs =
     let s = l .before .before .before in
     let r = l .loop .inv .3 in (omega (arith, r .album (s .args .a) (s .pre .2)), omega (arith, r .few))
 
-mul-turns : tie.Need-mul-turns Inv-loop μ-loop
-mul-turns c = search needs
-
-shared-slice-read-turns : tie.Need-shared-slice-read-turns Inv-loop μ-loop
-shared-slice-read-turns c = search needs
-
 turns-requires : tie.Need-turns-requires Inv-loop μ-loop
 turns-requires c κs =
     let p = c .before .before in
     let l = p .before .before .before .before .before .loop in
     let r = l .inv .3 in
     let a = r .album (l .b) (omega arith) in (a .framed, a .long, r .turning)
-
-add-sum : tie.Need-add-sum Inv-loop μ-loop
-add-sum c = search needs
-
-add-b : tie.Need-add-b Inv-loop μ-loop
-add-b c = search needs
-
-loop-less : tie.Need-loop-less Inv-loop μ-loop
-loop-less c = search needs
 
 loop-again : tie.Need-loop-again Inv-loop μ-loop
 loop-again c =
@@ -99,16 +78,16 @@ finish-spec =
     μ-loop
     loop-holds
     mul-place
-    shared-slice-read-place
+    (λ c. search needs)
     place-requires
     mul-place-2
-    shared-slice-read-place-2
+    (λ c. search needs)
     place-requires-2
-    mul-turns
-    shared-slice-read-turns
+    (λ c. search needs)
+    (λ c. search needs)
     turns-requires
-    add-sum
-    add-b
-    loop-less
+    (λ c. search needs)
+    (λ c. search needs)
+    (λ c. search needs)
     loop-again
     returns)

@@ -13,21 +13,14 @@ returns : tie.Need-returns
 unfolding fitting
 returns c = rw (ne-eqb (length (now (c .before .before .before .args .dues))) (length (now (c .before .before .before .args .frames))) (c .if1 .taken))
 
-in-range-requires : tie.Need-in-range-requires
-in-range-requires c κs = search needs
-
-both-requires : tie.Need-both-requires
-both-requires c κs = search needs
-
-both-requires-2 : tie.Need-both-requires-2
-both-requires-2 c κs = search needs
-
 returns-2 : tie.Need-returns-2
 unfolding fitting
 returns-2 c =
-    let a = c .before .before .before .before .before .before .args in
-    rw (eq-eqb (length (now (a .dues))) (length (now (a .frames))) (c .before .before .before .if1 .left)) (c .both2 .ensures ∙ ap₂ (λ p q. p && q) (c .before .before .in-range .ensures) (c .before .both .ensures))
+    let at-if1 = c .before .before .before in
+    let entry = at-if1 .before .before .before in
+    let a = entry .args in
+    rw (eq-eqb (length (now (a .dues))) (length (now (a .frames))) (at-if1 .if1 .left)) (c .both2 .ensures ∙ ap₂ (λ p q. p && q) (c .before .before .in-range .ensures) (c .before .both .ensures))
 
 pub fitting-spec : {M : Type 1} → statement M
 fitting-spec =
-    tie.close (tie.spec returns in-range-requires both-requires both-requires-2 returns-2)
+    tie.close (tie.spec returns (λ c κs. search needs) (λ c κs. search needs) (λ c κs. search needs) returns-2)

@@ -19,50 +19,23 @@ Inv-loop frames dues turn albums ok₀ a₀ ok a = (a ≤ length frames) × (wit
 abbrev μ-loop : tie.MeasureT-loop
 μ-loop frames dues turn albums ok₀ a₀ ok a = length frames - a
 
-within-requires : tie.Need-within-requires Inv-loop μ-loop
-within-requires c κs = search needs
-
 returns : tie.Need-returns Inv-loop μ-loop
 unfolding in-range
 returns c =
     let e : within 1 8 (length (now (c .before .before .before .before .args .frames))) ≡ false = sym (c .before .within .ensures) ∙ not-true _ (c .if1 .taken) in
     rw e
 
-within-requires-2 : tie.Need-within-requires-2 Inv-loop μ-loop
-within-requires-2 c κs = search needs
-
 loop-holds : tie.Need-loop-holds Inv-loop μ-loop
 unfolding each-below
 loop-holds c = (omega arith, sym (c .before .before .within .ensures) ∙ not-false _ (c .before .if1 .left), c .within2 .ensures)
 
-mul-album-in-range : tie.Need-mul-album-in-range Inv-loop μ-loop
-mul-album-in-range c = search needs
-
-shared-slice-read-album-in-range : tie.Need-shared-slice-read-album-in-range Inv-loop μ-loop
-shared-slice-read-album-in-range c = search needs
-
-mul-album-in-range-2 : tie.Need-mul-album-in-range-2 Inv-loop μ-loop
-mul-album-in-range-2 c = search needs
-
-shared-slice-read-album-in-range-2 : tie.Need-shared-slice-read-album-in-range-2 Inv-loop μ-loop
-shared-slice-read-album-in-range-2 c = search needs
-
-album-in-range-requires : tie.Need-album-in-range-requires Inv-loop μ-loop
-album-in-range-requires c κs = search needs
-
-both-requires : tie.Need-both-requires Inv-loop μ-loop
-both-requires c κs = search needs
-
-add-a : tie.Need-add-a Inv-loop μ-loop
-add-a c = search needs
-
-loop-less : tie.Need-loop-less Inv-loop μ-loop
-loop-less c = search needs
-
 loop-again : tie.Need-loop-again Inv-loop μ-loop
 loop-again c =
-    let l = c .before .before .before .before .before .loop in
-    let a = c .before .before .before .before .before .before .before .before .before .before .before .args in (
+    let at-loop = c .before .before .before .before .before in
+    let past-at-loop = at-loop .before .before .before .before .before in
+    let entry = past-at-loop .before in
+    let l = at-loop .loop in
+    let a = entry .args in (
       omega arith,
       l .inv .1,
       c .both .ensures ∙ ap (λ b. b && l .ok) (c .before .album-in-range .ensures) ∙ each-more (within 1 540000 (a .turn)) (each (board (now (a .frames)) (now (a .dues)) (a .turn))) (l .a) (l .ok) (l .inv .2),
@@ -71,8 +44,11 @@ loop-again c =
 returns-2 : tie.Need-returns-2 Inv-loop μ-loop
 unfolding in-range
 returns-2 c =
-    let l = c .before .loop in
-    let e : l .a ≡ length (now (c .before .before .before .before .before .before .before .args .frames)) = omega arith in
+    let at-loop = c .before in
+    let past-at-loop = at-loop .before .before .before .before .before in
+    let entry = past-at-loop .before in
+    let l = at-loop .loop in
+    let e : l .a ≡ length (now (entry .args .frames)) = omega arith in
     l .inv .2 ∙ rw (e, l .inv .1)
 
 pub in-range-spec : {M : Type 1} → statement M
@@ -81,17 +57,17 @@ in-range-spec =
     (tie.spec
     Inv-loop
     μ-loop
-    within-requires
+    (λ c κs. search needs)
     returns
-    within-requires-2
+    (λ c κs. search needs)
     loop-holds
-    mul-album-in-range
-    shared-slice-read-album-in-range
-    mul-album-in-range-2
-    shared-slice-read-album-in-range-2
-    album-in-range-requires
-    both-requires
-    add-a
-    loop-less
+    (λ c. search needs)
+    (λ c. search needs)
+    (λ c. search needs)
+    (λ c. search needs)
+    (λ c κs. search needs)
+    (λ c κs. search needs)
+    (λ c. search needs)
+    (λ c. search needs)
     loop-again
     returns-2)

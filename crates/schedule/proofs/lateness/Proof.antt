@@ -18,12 +18,6 @@ module _ (f d : ℕ) (p : f ≤ 4320000) (q : d ≤ 1000000) where
   fits : SFits w32 (pos f -ℤ pos d)
   fits = sfits-abs (omega (arith, abs-add (pos f) (negℤ (pos d)), abs-neg (pos d)))
 
-cast-result : tie.Need-cast-result
-cast-result c = search needs
-
-cast-result-2 : tie.Need-cast-result-2
-cast-result-2 c = search needs
-
 sub-result : tie.Need-sub-result
 sub-result c = rw (minus (c .args .finish) (c .args .due) (c .pre .0) (c .pre .1)) (fits (c .args .finish) (c .args .due) (c .pre .0) (c .pre .1))
 
@@ -31,4 +25,4 @@ returns : tie.Need-returns
 returns c = toZ-ofZ (sub-result c) ∙ minus (c .args .finish) (c .args .due) (c .pre .0) (c .pre .1)
 
 pub lateness-spec : {M : Type 1} → statement M
-lateness-spec = tie.close (tie.spec cast-result cast-result-2 sub-result returns)
+lateness-spec = tie.close (tie.spec (λ c. search needs) (λ c. search needs) sub-result returns)

@@ -50,25 +50,12 @@ loop-holds : tie.Need-loop-holds Inv-loop μ-loop
 unfolding greatest
 loop-holds c = (omega arith, pos-of-ne-zero (c .before .if1 .left), toZ-ofZ (record { sfits = c .most .given }))
 
-mul-s : tie.Need-mul-s Inv-loop μ-loop
-mul-s c = search needs
-
-shared-slice-copy-out-s : tie.Need-shared-slice-copy-out-s Inv-loop μ-loop
-shared-slice-copy-out-s c = search needs
-
-greater-requires : tie.Need-greater-requires Inv-loop μ-loop
-greater-requires c κs = search needs
-
-add-a : tie.Need-add-a Inv-loop μ-loop
-add-a c = search needs
-
-loop-less : tie.Need-loop-less Inv-loop μ-loop
-loop-less c = search needs
-
 loop-again : tie.Need-loop-again Inv-loop μ-loop
 loop-again c =
-    let l = c .before .before .before .loop in
-    let late = now (c .before .before .before .before .before .before .args .late) in
+    let at-loop = c .before .before .before in
+    let entry = at-loop .before .before .before in
+    let l = at-loop .loop in
+    let late = now (entry .args .late) in
     let s : SFits w32 (at late (l .a)) = record { sfits = c .before .s .given } in
     (omega arith, omega arith, more (at late) (l .a) (l .inv .0) s (record { sfits = c .greater .ok }) (l .inv .2) (c .greater .ensures))
 
@@ -87,10 +74,10 @@ latest-spec =
     returns
     shared-slice-copy-out-most
     loop-holds
-    mul-s
-    shared-slice-copy-out-s
-    greater-requires
-    add-a
-    loop-less
+    (λ c. search needs)
+    (λ c. search needs)
+    (λ c κs. search needs)
+    (λ c. search needs)
+    (λ c. search needs)
     loop-again
     returns-2)

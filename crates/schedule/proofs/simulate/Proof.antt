@@ -33,9 +33,6 @@ Inv-loop frames dues turn finishes₀ late₀ a₀ finishes late a =
 abbrev μ-loop : tie.MeasureT-loop
 μ-loop frames dues turn finishes₀ late₀ a₀ finishes late a = length frames - a
 
-fitting-requires : tie.Need-fitting-requires Inv-loop μ-loop
-fitting-requires c κs = search needs
-
 loop-holds : tie.Need-loop-holds Inv-loop μ-loop
 loop-holds c =
     let taken = sym (c .before .fitting .ensures) ∙ c .if1 .taken in (omega arith, taken, fits _ _ _ _ _ taken, refl, refl, held-none, held-none)
@@ -43,14 +40,8 @@ loop-holds c =
 finish-requires : tie.Need-finish-requires Inv-loop μ-loop
 finish-requires c κs = let f = c .before .loop .inv .2 in (f .ranged, f .dued, c .loop-test .taken)
 
-mul-finishes : tie.Need-mul-finishes Inv-loop μ-loop
-mul-finishes c = search needs
-
 slice-write-finishes : tie.Need-slice-write-finishes Inv-loop μ-loop
 slice-write-finishes c = omega (arith, c .before .before .loop .inv .2)
-
-mul-lateness : tie.Need-mul-lateness Inv-loop μ-loop
-mul-lateness c = search needs
 
 shared-slice-read-lateness : tie.Need-shared-slice-read-lateness Inv-loop μ-loop
 shared-slice-read-lateness c = omega (arith, c .before .before .before .loop .inv .2)
@@ -58,17 +49,8 @@ shared-slice-read-lateness c = omega (arith, c .before .before .before .loop .in
 lateness-requires : tie.Need-lateness-requires Inv-loop μ-loop
 lateness-requires c κs = (c .before .finish .ensures .1, ranges _ (c .before .before .before .loop .inv .2 .ranged) .album _ (c .before .before .loop-test .taken) .due-by)
 
-mul-t17 : tie.Need-mul-t17 Inv-loop μ-loop
-mul-t17 c = search needs
-
 slice-set-from-late : tie.Need-slice-set-from-late Inv-loop μ-loop
 slice-set-from-late c = omega (arith, c .before .before .before .before .loop .inv .2)
-
-add-a : tie.Need-add-a Inv-loop μ-loop
-add-a c = search needs
-
-loop-less : tie.Need-loop-less Inv-loop μ-loop
-loop-less c = search needs
 
 loop-again : tie.Need-loop-again Inv-loop μ-loop
 loop-again c =
@@ -85,17 +67,14 @@ loop-again c =
       held-more (l .inv .6) (omega (arith, f)) (rw z (toZ-ofZ (record { sfits = c .lateness .ok }) ∙ measured _ _ _ _ _ (c .lateness .ensures) finished)),
     )
 
-same-length : tie.Need-same-length Inv-loop μ-loop
-same-length c = search needs
-
-same-length-2 : tie.Need-same-length-2 Inv-loop μ-loop
-same-length-2 c = search needs
-
 returns : tie.Need-returns Inv-loop μ-loop
 unfolding decide simulate-places by-decision
 returns c =
-    let l = c .before .loop in
-    let e : l .a ≡ length (now (c .before .before .before .before .before .before .before .args .frames)) = omega arith in
+    let at-loop = c .before in
+    let past-at-loop = at-loop .before .before .before .before .before in
+    let entry = past-at-loop .before in
+    let l = at-loop .loop in
+    let e : l .a ≡ length (now (entry .args .frames)) = omega arith in
     let f = l .inv .2 in
     record {
       decided = rw (l .inv .1);
@@ -115,20 +94,20 @@ simulate-spec =
     (tie.spec
     Inv-loop
     μ-loop
-    fitting-requires
+    (λ c κs. search needs)
     loop-holds
     finish-requires
-    mul-finishes
+    (λ c. search needs)
     slice-write-finishes
-    mul-lateness
+    (λ c. search needs)
     shared-slice-read-lateness
     lateness-requires
-    mul-t17
+    (λ c. search needs)
     slice-set-from-late
-    add-a
-    loop-less
+    (λ c. search needs)
+    (λ c. search needs)
     loop-again
-    same-length
-    same-length-2
+    (λ c. search needs)
+    (λ c. search needs)
     returns
     returns-2)

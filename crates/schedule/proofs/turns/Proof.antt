@@ -6,12 +6,6 @@ use borrow.Author.Needs.{needs}
 use Rattle.schedule.proofs.turns.Statement.{statement}
 use Rattle.schedule.proofs.turns.Tie as tie
 
-sub-result : tie.Need-sub-result
-sub-result c = search needs
-
-div-result : tie.Need-div-result
-div-result c = search needs
-
 add-result : tie.Need-add-result
 add-result c = omega (arith, div-le-self (c .args .frames - 1) (c .args .turn))
 
@@ -19,4 +13,4 @@ returns : tie.Need-returns
 returns c = (search needs, omega (arith, div-le-self (c .args .frames - 1) (c .args .turn)))
 
 pub turns-spec : {M : Type 1} → statement M
-turns-spec = tie.close (tie.spec sub-result div-result add-result returns)
+turns-spec = tie.close (tie.spec (λ c. search needs) (λ c. search needs) add-result returns)

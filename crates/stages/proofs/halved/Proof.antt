@@ -9,11 +9,11 @@ use lib.IntN.{ℤ}
 use lib.ListN.{length}
 use Rattle.reference.specs.Rounding.{R}
 use Rattle.reference.specs.Stages.{M}
-use Rattle.lanes.specs.Filters.{even-taps, odd-taps, same-rate, half-rate, seconds}
-use Rattle.lanes.proofs.Places.{filled-as}
-use Rattle.lanes.proofs.Signals.{split-halves, halves-phases, length-even, length-odd}
-use Rattle.lanes.proofs.Seconds.{decimated}
-use Rattle.route_states.proofs.Filters.{halves-length, even-half, odd-half}
+use Rattle.filters.specs.Filters.{even-taps, odd-taps, same-rate, half-rate, seconds}
+use Rattle.filters.proofs.Places.{filled-as}
+use Rattle.filters.proofs.Signals.{split-halves, halves-phases, length-even, length-odd}
+use Rattle.filters.proofs.Seconds.{decimated}
+use Rattle.routes.proofs.Filters.{halves-length, even-half, odd-half}
 use Rattle.stages.proofs.Smalls.{small-fit, wider}
 use borrow.Author.Needs.{needs}
 use Rattle.stages.proofs.halved.Statement.{statement}

@@ -4,15 +4,9 @@ use Rattle.test_files.specs.Cases.{with-below}
 use Rattle.test_files.proofs.below.Statement.{statement}
 use Rattle.test_files.proofs.below.Tie as tie
 
-mul-result : tie.Need-mul-result
-mul-result c = search needs
-
-add-result : tie.Need-add-result
-add-result c = search needs
-
 returns : tie.Need-returns
 unfolding with-below
 returns c = search needs
 
 pub below-spec : {M : Type 1} → statement M
-below-spec = tie.close (tie.spec mul-result add-result returns)
+below-spec = tie.close (tie.spec (λ c. search needs) (λ c. search needs) returns)

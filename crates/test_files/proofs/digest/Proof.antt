@@ -23,9 +23,6 @@ loop-holds c = (omega arith, refl)
 shared-slice-read-mixed : tie.Need-shared-slice-read-mixed Inv-loop μ-loop
 shared-slice-read-mixed c = omega arith
 
-mixed-requires : tie.Need-mixed-requires Inv-loop μ-loop
-mixed-requires c κs = search needs
-
 add-k : tie.Need-add-k Inv-loop μ-loop
 add-k c = omega arith
 
@@ -57,7 +54,7 @@ digest-spec =
     μ-loop
     loop-holds
     shared-slice-read-mixed
-    mixed-requires
+    (λ c κs. search needs)
     add-k
     loop-less
     loop-again

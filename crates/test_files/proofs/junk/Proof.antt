@@ -13,9 +13,6 @@ Inv-loop bytes₀ k₀ bytes k = length bytes ≡ length bytes₀
 abbrev μ-loop : tie.MeasureT-loop
 μ-loop bytes₀ k₀ bytes k = length bytes₀ - k
 
-loop-holds : tie.Need-loop-holds Inv-loop μ-loop
-loop-holds c = search needs
-
 slice-write-bytes : tie.Need-slice-write-bytes Inv-loop μ-loop
 slice-write-bytes c = omega arith
 
@@ -25,25 +22,16 @@ add-k c = omega arith
 loop-less : tie.Need-loop-less Inv-loop μ-loop
 loop-less c = omega arith
 
-loop-again : tie.Need-loop-again Inv-loop μ-loop
-loop-again c = search needs
-
-same-length : tie.Need-same-length Inv-loop μ-loop
-same-length c = search needs
-
-returns : tie.Need-returns Inv-loop μ-loop
-returns c = search needs
-
 pub junk-spec : {M : Type 1} → statement M
 junk-spec =
     tie.close
     (tie.spec
     Inv-loop
     μ-loop
-    loop-holds
+    (λ c. search needs)
     slice-write-bytes
     add-k
     loop-less
-    loop-again
-    same-length
-    returns)
+    (λ c. search needs)
+    (λ c. search needs)
+    (λ c. search needs))

@@ -3,15 +3,6 @@ use borrow.Author.Needs.{needs}
 use Rattle.test_files.proofs.with.Statement.{statement}
 use Rattle.test_files.proofs.with.Tie as tie
 
-plus-requires : tie.Need-plus-requires
-plus-requires c κs = search needs
-
-plus-requires-2 : tie.Need-plus-requires-2
-plus-requires-2 c κs = search needs
-
-plus-requires-3 : tie.Need-plus-requires-3
-plus-requires-3 c κs = search needs
-
 returns : tie.Need-returns
 returns c =
     let calls = c .before .before .plus .ensures in
@@ -20,4 +11,4 @@ returns c =
     λ i. record { calls = calls i; equal = equal i; accepted = accepted i }
 
 pub with-spec : {M : Type 1} → statement M
-with-spec = tie.close (tie.spec plus-requires plus-requires-2 plus-requires-3 returns)
+with-spec = tie.close (tie.spec (λ c κs. search needs) (λ c κs. search needs) (λ c κs. search needs) returns)

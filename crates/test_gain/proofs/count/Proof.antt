@@ -13,18 +13,6 @@ Inv-loop question db factor n₀ i₀ n i = (n ≤ i) × (i ≤ length db)
 abbrev μ-loop : tie.MeasureT-loop
 μ-loop question db factor n₀ i₀ n i = length db - i
 
-loop-holds : tie.Need-loop-holds Inv-loop μ-loop
-loop-holds c = search needs
-
-at-requires : tie.Need-at-requires Inv-loop μ-loop
-at-requires c κs = search needs
-
-at-requires-2 : tie.Need-at-requires-2 Inv-loop μ-loop
-at-requires-2 c κs = search needs
-
-answer-requires : tie.Need-answer-requires Inv-loop μ-loop
-answer-requires c κs = search needs
-
 add-n : tie.Need-add-n Inv-loop μ-loop
 add-n c = omega arith
 
@@ -37,21 +25,18 @@ loop-less c = omega arith
 loop-again : tie.Need-loop-again Inv-loop μ-loop
 loop-again c = (⊎-elim (λ w. omega arith) (λ w. omega arith) (c .if1 .came), omega arith)
 
-returns : tie.Need-returns Inv-loop μ-loop
-returns c = search needs
-
 pub count-spec : {M : Type 1} → statement M
 count-spec =
     tie.close
     (tie.spec
     Inv-loop
     μ-loop
-    loop-holds
-    at-requires
-    at-requires-2
-    answer-requires
+    (λ c. search needs)
+    (λ c κs. search needs)
+    (λ c κs. search needs)
+    (λ c κs. search needs)
     add-n
     add-i
     loop-less
     loop-again
-    returns)
+    (λ c. search needs))

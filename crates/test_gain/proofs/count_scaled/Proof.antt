@@ -13,24 +13,6 @@ Inv-loop ys db samples clips n₀ i₀ n i = (n ≤ i) × (i ≤ length ys)
 abbrev μ-loop : tie.MeasureT-loop
 μ-loop ys db samples clips n₀ i₀ n i = length ys - i
 
-loop-holds : tie.Need-loop-holds Inv-loop μ-loop
-loop-holds c = search needs
-
-at-requires : tie.Need-at-requires Inv-loop μ-loop
-at-requires c κs = search needs
-
-at-requires-2 : tie.Need-at-requires-2 Inv-loop μ-loop
-at-requires-2 c κs = search needs
-
-at-requires-3 : tie.Need-at-requires-3 Inv-loop μ-loop
-at-requires-3 c κs = search needs
-
-at-requires-4 : tie.Need-at-requires-4 Inv-loop μ-loop
-at-requires-4 c κs = search needs
-
-scales-requires : tie.Need-scales-requires Inv-loop μ-loop
-scales-requires c κs = search needs
-
 add-n : tie.Need-add-n Inv-loop μ-loop
 add-n c = omega arith
 
@@ -43,23 +25,20 @@ loop-less c = omega arith
 loop-again : tie.Need-loop-again Inv-loop μ-loop
 loop-again c = (⊎-elim (λ w. omega arith) (λ w. omega arith) (c .if1 .came), omega arith)
 
-returns : tie.Need-returns Inv-loop μ-loop
-returns c = search needs
-
 pub count-scaled-spec : {M : Type 1} → statement M
 count-scaled-spec =
     tie.close
     (tie.spec
     Inv-loop
     μ-loop
-    loop-holds
-    at-requires
-    at-requires-2
-    at-requires-3
-    at-requires-4
-    scales-requires
+    (λ c. search needs)
+    (λ c κs. search needs)
+    (λ c κs. search needs)
+    (λ c κs. search needs)
+    (λ c κs. search needs)
+    (λ c κs. search needs)
     add-n
     add-i
     loop-less
     loop-again
-    returns)
+    (λ c. search needs))

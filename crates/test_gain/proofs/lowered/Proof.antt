@@ -27,9 +27,6 @@ module _ (n : ℕ) where
   fits : SFits w64 (toZ w64 (n % 4294967296) -ℤ pos 2147483648)
   fits = subst (λ (z : ℤ). SFits w64 (z -ℤ pos 2147483648)) (sym read) (sfits-abs (omega (arith, size)))
 
-cast-result : tie.Need-cast-result
-cast-result c = search needs
-
 sub-result : tie.Need-sub-result
 sub-result c = fits (c .args .n)
 
@@ -38,4 +35,4 @@ returns c =
     subst (λ (z : ℤ). natAbs z < 4294967296) (sym (toZ-ofZ (fits (c .args .n)) ∙ ap (λ (z : ℤ). z -ℤ pos 2147483648) (read (c .args .n)))) (size (c .args .n))
 
 pub lowered-spec : {M : Type 1} → statement M
-lowered-spec = tie.close (tie.spec cast-result sub-result returns)
+lowered-spec = tie.close (tie.spec (λ c. search needs) sub-result returns)

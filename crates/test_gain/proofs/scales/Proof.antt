@@ -17,24 +17,6 @@ only : (z : ℤ) → natAbs z < 2 ^ 32 → (k : ℕ) → k < 1 → natAbs (getD 
 only z h zero l = h
 only z h (suc k) l = absurd (omega arith)
 
-float-requires : tie.Need-float-requires
-float-requires c κs = search needs
-
-from-db-requires : tie.Need-from-db-requires
-from-db-requires c κs = search needs
-
-enum-known-g : tie.Need-enum-known-g
-enum-known-g c = search needs
-
-lowered-requires : tie.Need-lowered-requires
-lowered-requires c κs = search needs
-
-slice-aggregate-scale-block : tie.Need-slice-aggregate-scale-block
-slice-aggregate-scale-block c = search needs
-
-slice-aggregate-scale-block-2 : tie.Need-slice-aggregate-scale-block-2
-slice-aggregate-scale-block-2 c = search needs
-
 scale-block-requires : tie.Need-scale-block-requires
 scale-block-requires c κs =
     let low = c .before .before .lowered in
@@ -44,38 +26,20 @@ scale-block-requires c κs =
     let h = subst (λ (z : ℤ). natAbs z < 2 ^ 32) (sym (val (low .result) (low .result) (low .ok) refl)) (low .ensures) in
     (refl, (made-bounded _ (known .g .given .0 .0) made, only _ h))
 
-array-copy-out-lifted : tie.Need-array-copy-out-lifted
-array-copy-out-lifted c = search needs
-
-lifted-requires : tie.Need-lifted-requires
-lifted-requires c κs = search needs
-
-enum-told : tie.Need-enum-told
-enum-told c = search needs
-
-returns : tie.Need-returns
-returns c = search needs
-
-returns-2 : tie.Need-returns-2
-returns-2 c = search needs
-
-returns-3 : tie.Need-returns-3
-returns-3 c = search needs
-
 pub scales-spec : {M : Type 1} → statement M
 scales-spec =
     tie.close
     (tie.spec
-    float-requires
-    from-db-requires
-    enum-known-g
-    lowered-requires
-    slice-aggregate-scale-block
-    slice-aggregate-scale-block-2
+    (λ c κs. search needs)
+    (λ c κs. search needs)
+    (λ c. search needs)
+    (λ c κs. search needs)
+    (λ c. search needs)
+    (λ c. search needs)
     scale-block-requires
-    array-copy-out-lifted
-    lifted-requires
-    enum-told
-    returns
-    returns-2
-    returns-3)
+    (λ c. search needs)
+    (λ c κs. search needs)
+    (λ c. search needs)
+    (λ c. search needs)
+    (λ c. search needs)
+    (λ c. search needs))

@@ -23,8 +23,5 @@ returns c = let n = c .before .args .n in one-nan (ofBits binary64 n) (sym (nanB
 float-from-bits-result : tie.Need-float-from-bits-result
 float-from-bits-result c = let n = c .before .args .n in subst (λ (b : Bool). T (not b)) (sym (nanBits-above binary64 n ∙ le-ltb 0x7ff0_0000_0000_0000 (n % 0x8000_0000_0000_0000) (c .if1 .left))) tt
 
-returns-2 : tie.Need-returns-2
-returns-2 c = search needs
-
 pub float-spec : {M : Type 1} → statement M
-float-spec = tie.close (tie.spec returns float-from-bits-result returns-2)
+float-spec = tie.close (tie.spec returns float-from-bits-result (λ c. search needs))

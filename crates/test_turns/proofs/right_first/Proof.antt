@@ -10,11 +10,5 @@ use Rattle.test_turns.proofs.right_first.Tie as tie
 slice-aggregate-right : tie.Need-slice-aggregate-right
 slice-aggregate-right c = let s = c .before .before in sym (length-take-le (s .args .n) (now (s .args .text)) (s .pre))
 
-right-requires : tie.Need-right-requires
-right-requires c κs = search needs
-
-returns : tie.Need-returns
-returns c = search needs
-
 pub right-first-spec : {M : Type 1} → statement M
-right-first-spec = tie.close (tie.spec slice-aggregate-right right-requires returns)
+right-first-spec = tie.close (tie.spec slice-aggregate-right (λ c κs. search needs) (λ c. search needs))

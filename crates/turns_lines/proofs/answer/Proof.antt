@@ -9,29 +9,11 @@ use Rattle.turns_lines.proofs.answer.Tie as tie
 field-requires : tie.Need-field-requires
 field-requires c κs = (omega arith, omega arith)
 
-refused-requires : tie.Need-refused-requires
-refused-requires c κs = search needs
-
-same-length : tie.Need-same-length
-same-length c = search needs
-
 returns : tie.Need-returns
 returns c =
     let p = c .before .before in
     let t = p .before .before in
     (p .refused .ensures .1, no-turn (t .before .before .field .ensures) (t .if1 .taken) (p .refused .ensures .0))
-
-slice-aggregate-in-lists : tie.Need-slice-aggregate-in-lists
-slice-aggregate-in-lists c = search needs
-
-slice-aggregate-in-lists-2 : tie.Need-slice-aggregate-in-lists-2
-slice-aggregate-in-lists-2 c = search needs
-
-slice-aggregate-in-lists-3 : tie.Need-slice-aggregate-in-lists-3
-slice-aggregate-in-lists-3 c = search needs
-
-slice-aggregate-in-lists-4 : tie.Need-slice-aggregate-in-lists-4
-slice-aggregate-in-lists-4 c = search needs
 
 in-lists-requires : tie.Need-in-lists-requires
 in-lists-requires c κs =
@@ -39,9 +21,6 @@ in-lists-requires c κs =
     let f = e .before .before in
     let s = f .before .before .before in
     ((f .field .ensures .within, s .pre .0, s .pre .1), (refl, refl, refl, refl))
-
-same-length-2 : tie.Need-same-length-2
-same-length-2 c = search needs
 
 returns-2 : tie.Need-returns-2
 returns-2 c =
@@ -57,13 +36,13 @@ answer-spec =
     tie.close
     (tie.spec
     field-requires
-    refused-requires
-    same-length
+    (λ c κs. search needs)
+    (λ c. search needs)
     returns
-    slice-aggregate-in-lists
-    slice-aggregate-in-lists-2
-    slice-aggregate-in-lists-3
-    slice-aggregate-in-lists-4
+    (λ c. search needs)
+    (λ c. search needs)
+    (λ c. search needs)
+    (λ c. search needs)
     in-lists-requires
-    same-length-2
+    (λ c. search needs)
     returns-2)

@@ -38,21 +38,6 @@ module _ (c : tie.Else1) where
   late-are : length (take n (now (start (read c) .args .late))) ≡ n
   late-are = of-256 (now (start (read c) .args .late)) (start (read c) .pre .1 .3)
 
-albums-requires : tie.Need-albums-requires
-albums-requires c κs = search needs
-
-refused-requires : tie.Need-refused-requires
-refused-requires c κs = search needs
-
-same-length : tie.Need-same-length
-same-length c = search needs
-
-same-length-2 : tie.Need-same-length-2
-same-length-2 c = search needs
-
-same-length-3 : tie.Need-same-length-3
-same-length-3 c = search needs
-
 returns : tie.Need-returns
 returns c =
     let p = c .before .before in
@@ -60,26 +45,14 @@ returns c =
     let a = t .before .before .before .before .before in
     no-albums (a .albums .ensures) (t .if1 .taken) (p .refused .ensures .1) (p .refused .ensures .0)
 
-slice-reshare-prefix-board : tie.Need-slice-reshare-prefix-board
-slice-reshare-prefix-board c = search needs
-
 slice-aggregate-board : tie.Need-slice-aggregate-board
 slice-aggregate-board c = sym (frames-are (c .before))
-
-slice-reshare-prefix-board-2 : tie.Need-slice-reshare-prefix-board-2
-slice-reshare-prefix-board-2 c = search needs
 
 slice-aggregate-board-2 : tie.Need-slice-aggregate-board-2
 slice-aggregate-board-2 c = sym (dues-are (c .before .before))
 
-slice-relend-prefix-board : tie.Need-slice-relend-prefix-board
-slice-relend-prefix-board c = search needs
-
 slice-aggregate-board-3 : tie.Need-slice-aggregate-board-3
 slice-aggregate-board-3 c = sym (finishes-are (c .before .before .before))
-
-slice-relend-prefix-board-2 : tie.Need-slice-relend-prefix-board-2
-slice-relend-prefix-board-2 c = search needs
 
 slice-aggregate-board-4 : tie.Need-slice-aggregate-board-4
 slice-aggregate-board-4 c = sym (late-are (c .before .before .before .before))
@@ -90,25 +63,11 @@ board-requires c κs =
     let f = sym (frames-are e) in
     (dues-are e ∙ f, finishes-are e ∙ f, late-are e ∙ f, start (read e) .pre .0 .2)
 
-same-length-4 : tie.Need-same-length-4
-same-length-4 c = search needs
-
-same-length-5 : tie.Need-same-length-5
-same-length-5 c = search needs
-
-same-length-6 : tie.Need-same-length-6
-same-length-6 c = search needs
-
-same-length-7 : tie.Need-same-length-7
-same-length-7 c = search needs
-
-same-length-8 : tie.Need-same-length-8
-same-length-8 c = search needs
-
 returns-2 : tie.Need-returns-2
 returns-2 c =
     let p = c .before .before .before .before .before in
-    let t = p .before .before .before .before .before .before in
+    let past-t = p .before .before .before .before .before in
+    let t = past-t .before in
     let a = t .before .before .before .before .before in
     some-albums (a .albums .ensures) (t .if1 .left) (p .board .ensures .1) (p .board .ensures .0)
 
@@ -116,24 +75,24 @@ pub in-lists-spec : {M : Type 1} → statement M
 in-lists-spec =
     tie.close
     (tie.spec
-    albums-requires
-    refused-requires
-    same-length
-    same-length-2
-    same-length-3
+    (λ c κs. search needs)
+    (λ c κs. search needs)
+    (λ c. search needs)
+    (λ c. search needs)
+    (λ c. search needs)
     returns
-    slice-reshare-prefix-board
+    (λ c. search needs)
     slice-aggregate-board
-    slice-reshare-prefix-board-2
+    (λ c. search needs)
     slice-aggregate-board-2
-    slice-relend-prefix-board
+    (λ c. search needs)
     slice-aggregate-board-3
-    slice-relend-prefix-board-2
+    (λ c. search needs)
     slice-aggregate-board-4
     board-requires
-    same-length-4
-    same-length-5
-    same-length-6
-    same-length-7
-    same-length-8
+    (λ c. search needs)
+    (λ c. search needs)
+    (λ c. search needs)
+    (λ c. search needs)
+    (λ c. search needs)
     returns-2)

@@ -7,7 +7,7 @@ use Rattle.reference.specs.Frames.{Run, run}
 use Rattle.reference.specs.Refusals.{Place, accepted, decide}
 use Rattle.reference.specs.Promises.{no-clips}
 use Rattle.reference.specs.declared.Verdict.the-variants.{Accepted}
-use Rattle.checks.proofs.Steps.{passed, turned-down}
+use Rattle.refusals.proofs.Steps.{passed, turned-down}
 use Rattle.wav_checks.specs.Places.{wav-places}
 use Rattle.wav_checks.proofs.Accepted.{two-channels, long-enough, rest-told}
 use Rattle.wav.proofs.Converting.{mid-long, converted, wav-refused}
@@ -36,12 +36,6 @@ places s = wav-places (s .args .conv) (run-of s) (now (s .args .out)) (s .args .
 ok : (c : tie.Then1) → decide (places (start (c .before .before))) ≡ accepted
 ok c = passed (places (start (c .before .before))) (c .before .before .call .ensures) (c .before .accepted .ensures) (c .if1 .taken)
 
-call-requires : tie.Need-call-requires
-call-requires c κs = search needs
-
-accepted-requires : tie.Need-accepted-requires
-accepted-requires c κs = search needs
-
 sub-n : tie.Need-sub-n
 sub-n c =
     let s = start (c .before .before) in
@@ -64,18 +58,6 @@ sub-convert-parts c =
 part-convert-parts-start : tie.Need-part-convert-parts-start
 part-convert-parts-start c = sub-convert-parts c
 
-part-convert-parts-end : tie.Need-part-convert-parts-end
-part-convert-parts-end c = search needs
-
-convert-parts-requires : tie.Need-convert-parts-requires
-convert-parts-requires c κs = search needs
-
-same-length : tie.Need-same-length
-same-length c = search needs
-
-same-length-2 : tie.Need-same-length-2
-same-length-2 c = search needs
-
 returns : tie.Need-returns
 returns c =
     let d = done c in
@@ -83,12 +65,6 @@ returns c =
     let t = begun p in
     let s = start (t .before .before) in
     converted (s .args .conv) (run-of s) (s .args .lent) (now (s .args .out)) (now (s .args .counts)) (t .before .before .call .result) (t .before .before .call .ensures) (ok t) _ _ _ (d .convert-parts .result) (p .put-header .ensures) (d .convert-parts .ensures)
-
-same-length-3 : tie.Need-same-length-3
-same-length-3 c = search needs
-
-same-length-4 : tie.Need-same-length-4
-same-length-4 c = search needs
 
 returns-2 : tie.Need-returns-2
 unfolding no-clips
@@ -100,17 +76,17 @@ pub convert-parts-spec : {M : Type 1} → statement M
 convert-parts-spec =
     tie.close
     (tie.spec
-    call-requires
-    accepted-requires
+    (λ c κs. search needs)
+    (λ c κs. search needs)
     sub-n
     put-header-requires
     sub-convert-parts
     part-convert-parts-start
-    part-convert-parts-end
-    convert-parts-requires
-    same-length
-    same-length-2
+    (λ c. search needs)
+    (λ c κs. search needs)
+    (λ c. search needs)
+    (λ c. search needs)
     returns
-    same-length-3
-    same-length-4
+    (λ c. search needs)
+    (λ c. search needs)
     returns-2)

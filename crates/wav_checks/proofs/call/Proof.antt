@@ -7,7 +7,7 @@ use borrow.Author.Needs.{needs}
 use Rattle.reference.specs.Frames.{Run, run, frame-count}
 use Rattle.reference.specs.Refusals.{rack, accepted, decide, held-places, input-places}
 use Rattle.reference.proofs.Refusals.{some-channel, few-channels, few-frames, decide-skip}
-use Rattle.checks.proofs.Steps.{passed, stands}
+use Rattle.refusals.proofs.Steps.{passed, stands}
 use Rattle.wav_checks.specs.Places.{wav-places}
 use Rattle.wav_checks.proofs.Accepted.{wrong-length, wrong-counts, past-counts, not-lent}
 use Rattle.wav_checks.proofs.call.Statement.{statement}
@@ -38,21 +38,12 @@ opens c = passed (held-places (from-opened c .args .conv)) (c .before .before .h
 fits : (c : tie.Else2) → decide (input-places rack (from-fitting c .args .conv) (run-of (from-fitting c))) ≡ accepted
 fits c = passed (input-places rack (from-fitting c .args .conv) (run-of (from-fitting c))) (c .before .before .input .ensures) (c .before .accepted2 .ensures) (not-false _ (c .if2 .left))
 
-held-requires : tie.Need-held-requires
-held-requires c κs = search needs
-
-accepted-requires : tie.Need-accepted-requires
-accepted-requires c κs = search needs
-
 returns : tie.Need-returns
 unfolding wav-places
 returns c = stands (held-places (start (c .before .before) .args .conv)) (c .before .before .held .ensures) (c .before .accepted .ensures) _ (not-true _ (c .if1 .taken))
 
 input-requires : tie.Need-input-requires
 input-requires c κs = let conv = from-opened c .args .conv in (some-channel conv (opens c), few-channels conv (opens c))
-
-accepted-requires-2 : tie.Need-accepted-requires-2
-accepted-requires-2 c κs = search needs
 
 returns-2 : tie.Need-returns-2
 unfolding wav-places
@@ -68,23 +59,11 @@ all-samples-requires c κs =
     let o = opens (opened c) in
     ((some-channel (s .args .conv) o, few-channels (s .args .conv) o), few-frames rack (s .args .conv) (run-of s) (fits c))
 
-mul-data : tie.Need-mul-data
-mul-data c = search needs
-
-add-expected : tie.Need-add-expected
-add-expected c = search needs
-
 returns-3 : tie.Need-returns-3
 returns-3 c =
     let e = c .before .before in
     let s = from-fitting e in
     wrong-length (s .args .conv) (run-of s) (now (s .args .out)) (s .args .lent) (now (s .args .counts)) (opens (opened e)) (fits e) (c .before .all-samples .result) (c .before .all-samples .ensures .0) (c .if3 .taken)
-
-cast-count : tie.Need-cast-count
-cast-count c = search needs
-
-mul-count : tie.Need-mul-count
-mul-count c = search needs
 
 div-count : tie.Need-div-count
 div-count c = let e = opened (fitting (c .before)) in omega (arith, some-channel (from-opened e .args .conv) (opens e))
@@ -97,9 +76,6 @@ returns-4 c =
     let s = from-fitting e in
     wrong-counts (s .args .conv) (run-of s) (now (s .args .out)) (s .args .lent) (now (s .args .counts)) (opens (opened e)) (fits e) (l .before .all-samples .result) (l .before .all-samples .ensures .0) (l .if3 .left) (c .before .if4 .taken) (c .if5 .taken)
 
-told-requires : tie.Need-told-requires
-told-requires c κs = search needs
-
 returns-5 : tie.Need-returns-5
 unfolding frame-count
 returns-5 c =
@@ -108,9 +84,6 @@ returns-5 c =
     let s = from-fitting e in
     c .told .ensures
     ∙ past-counts (s .args .conv) (run-of s) (now (s .args .out)) (s .args .lent) (now (s .args .counts)) (opens (opened e)) (fits e) (l .before .all-samples .result) (l .before .all-samples .ensures .0) (l .if3 .left) (c .before .before .if4 .taken) (c .before .if5 .left)
-
-told-requires-2 : tie.Need-told-requires-2
-told-requires-2 c κs = search needs
 
 returns-6 : tie.Need-returns-6
 returns-6 c =
@@ -124,21 +97,21 @@ pub call-spec : {M : Type 1} → statement M
 call-spec =
     tie.close
     (tie.spec
-    held-requires
-    accepted-requires
+    (λ c κs. search needs)
+    (λ c κs. search needs)
     returns
     input-requires
-    accepted-requires-2
+    (λ c κs. search needs)
     returns-2
     all-samples-requires
-    mul-data
-    add-expected
+    (λ c. search needs)
+    (λ c. search needs)
     returns-3
-    cast-count
-    mul-count
+    (λ c. search needs)
+    (λ c. search needs)
     div-count
     returns-4
-    told-requires
+    (λ c κs. search needs)
     returns-5
-    told-requires-2
+    (λ c κs. search needs)
     returns-6)

@@ -9,9 +9,6 @@ use Rattle.wav_format.proofs.Reading.{frame-some}
 use Rattle.wav_format.proofs.frame_size.Statement.{statement}
 use Rattle.wav_format.proofs.frame_size.Tie as tie
 
-samples-per-frame-requires : tie.Need-samples-per-frame-requires
-samples-per-frame-requires c κs = search needs
-
 bounded : (per ch : ℕ) → per ≤ 4704 → ch ≤ 2 → 3 * per * ch ≤ 3 * 4704 * 2
 bounded per ch a b = let t : 3 * per ≤ 3 * 4704 = omega arith in mul-le-mul t b
 
@@ -28,4 +25,4 @@ returns c =
     (rw e refl, rw e (frame-some (c .before .args .rate) (c .before .args .channels) (c .before .pre .0)))
 
 pub frame-size-spec : {M : Type 1} → statement M
-frame-size-spec = tie.close (tie.spec samples-per-frame-requires mul-result mul-result-2 returns)
+frame-size-spec = tie.close (tie.spec (λ c κs. search needs) mul-result mul-result-2 returns)

@@ -22,24 +22,6 @@ file c = now (long c .before .before .args .file)
 returns : tie.Need-returns
 returns c = too-short (now (c .before .before .args .file)) (c .if1 .taken)
 
-shared-slice-read-rate-of : tie.Need-shared-slice-read-rate-of
-shared-slice-read-rate-of c = search needs
-
-rate-of-requires : tie.Need-rate-of-requires
-rate-of-requires c κs = search needs
-
-shared-slice-read-channels-of : tie.Need-shared-slice-read-channels-of
-shared-slice-read-channels-of c = search needs
-
-channels-of-requires : tie.Need-channels-of-requires
-channels-of-requires c κs = search needs
-
-sub-n : tie.Need-sub-n
-sub-n c = search needs
-
-right-data-requires : tie.Need-right-data-requires
-right-data-requires c κs = search needs
-
 has-header-requires : tie.Need-has-header-requires
 has-header-requires c κs =
     let d = told (c .before) in
@@ -67,12 +49,12 @@ read-spec =
     tie.close
     (tie.spec
     returns
-    shared-slice-read-rate-of
-    rate-of-requires
-    shared-slice-read-channels-of
-    channels-of-requires
-    sub-n
-    right-data-requires
+    (λ c. search needs)
+    (λ c κs. search needs)
+    (λ c. search needs)
+    (λ c κs. search needs)
+    (λ c. search needs)
+    (λ c κs. search needs)
     has-header-requires
     returns-2
     returns-3

@@ -14,18 +14,9 @@ returns-2 : tie.Need-returns-2
 unfolding right-data
 returns-2 c = rw (le-leb 1 _ (c .before .if1 .left), lt-leb _ 2 (c .if2 .taken)) refl
 
-frame-size-requires : tie.Need-frame-size-requires
-frame-size-requires c κs = search needs
-
-rem-if3 : tie.Need-rem-if3
-rem-if3 c = search needs
-
 returns-3 : tie.Need-returns-3
 unfolding right-data
 returns-3 c = rw (le-leb 1 _ (c .before .before .before .if1 .left), le-leb _ 2 (c .before .before .if2 .left), ← c .before .frame-size .ensures .0, ne-eqb _ _ (c .if3 .taken)) refl
-
-div-if4 : tie.Need-div-if4
-div-if4 c = search needs
 
 returns-4 : tie.Need-returns-4
 unfolding right-data
@@ -38,4 +29,4 @@ returns-5 c = rw (le-leb 1 _ (c .before .before .before .before .if1 .left), le-
 pub right-data-spec : {M : Type 1} → statement M
 right-data-spec =
     tie.close
-    (tie.spec returns returns-2 frame-size-requires rem-if3 returns-3 div-if4 returns-4 returns-5)
+    (tie.spec returns returns-2 (λ c κs. search needs) (λ c. search needs) returns-3 (λ c. search needs) returns-4 returns-5)

@@ -11,35 +11,17 @@ use Rattle.wav_format.proofs.Writing.{wav-takes, wav-refused, samples-t
 use Rattle.wav_format.proofs.samples_of.Statement.{statement}
 use Rattle.wav_format.proofs.samples_of.Tie as tie
 
-read-requires : tie.Need-read-requires
-read-requires c κs = search needs
-
-is-wav-requires : tie.Need-is-wav-requires
-is-wav-requires c κs = search needs
-
 sub-result : tie.Need-sub-result
 sub-result c = long (now (c .before .before .before .before .args .file)) (wav-takes (now (c .before .before .before .before .args .file)) (c .before .before .read .result) (c .before .before .read .ensures) (sym (c .before .is-wav .ensures) ∙ c .if1 .taken))
 
 part-result-start : tie.Need-part-result-start
 part-result-start c = sub-result c
 
-part-result-end : tie.Need-part-result-end
-part-result-end c = search needs
-
 returns : tie.Need-returns
 returns c =
     let file = now (c .before .before .before .before .before .args .file) in
     let n : length (drop 44 file) ≤ length file - 44 = omega (arith, length-drop 44 file) in
     take-all (length file - 44) (drop 44 file) n ∙ samples-there file (wav-takes file (c .before .before .before .read .result) (c .before .before .before .read .ensures) (sym (c .before .before .is-wav .ensures) ∙ c .before .if1 .taken))
-
-sub-result-2 : tie.Need-sub-result-2
-sub-result-2 c = search needs
-
-part-result-start-2 : tie.Need-part-result-start-2
-part-result-start-2 c = search needs
-
-part-result-end-2 : tie.Need-part-result-end-2
-part-result-end-2 c = search needs
 
 returns-2 : tie.Need-returns-2
 returns-2 c = samples-none _ (wav-refused (now (c .before .before .before .before .before .args .file)) (c .before .before .before .read .result) (c .before .before .before .read .ensures) (sym (c .before .before .is-wav .ensures) ∙ c .before .if1 .left))
@@ -48,13 +30,13 @@ pub samples-of-spec : {M : Type 1} → statement M
 samples-of-spec =
     tie.close
     (tie.spec
-    read-requires
-    is-wav-requires
+    (λ c κs. search needs)
+    (λ c κs. search needs)
     sub-result
     part-result-start
-    part-result-end
+    (λ c. search needs)
     returns
-    sub-result-2
-    part-result-start-2
-    part-result-end-2
+    (λ c. search needs)
+    (λ c. search needs)
+    (λ c. search needs)
     returns-2)

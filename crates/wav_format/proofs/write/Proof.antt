@@ -28,12 +28,6 @@ put c = let d = c .before .before in d .before .before .before .before
 right : (c : tie.Then1) → let a = start (c .before) .args in right-data (a .rate) (a .channels) (length (now (a .bytes))) ≡ true
 right c = sym (c .before .right-data .ensures) ∙ c .if1 .taken
 
-right-data-requires : tie.Need-right-data-requires
-right-data-requires c κs = search needs
-
-add-expected : tie.Need-add-expected
-add-expected c = search needs
-
 returns : tie.Need-returns
 returns c =
     let a = start (c .before .before) .args in
@@ -45,21 +39,6 @@ put-header-requires c κs =
     let a = start (t .before) .args in
     let r = right-is (a .rate) (a .channels) (length (now (a .bytes))) (right t) in
     (r .few, r .told, omega arith)
-
-sub-copy : tie.Need-sub-copy
-sub-copy c = search needs
-
-part-copy-start : tie.Need-part-copy-start
-part-copy-start c = search needs
-
-part-copy-end : tie.Need-part-copy-end
-part-copy-end c = search needs
-
-copy-requires : tie.Need-copy-requires
-copy-requires c κs = search needs
-
-same-length : tie.Need-same-length
-same-length c = search needs
 
 returns-2 : tie.Need-returns-2
 unfolding wav-file
@@ -79,14 +58,14 @@ pub write-spec : {M : Type 1} → statement M
 write-spec =
     tie.close
     (tie.spec
-    right-data-requires
-    add-expected
+    (λ c κs. search needs)
+    (λ c. search needs)
     returns
     put-header-requires
-    sub-copy
-    part-copy-start
-    part-copy-end
-    copy-requires
-    same-length
+    (λ c. search needs)
+    (λ c. search needs)
+    (λ c. search needs)
+    (λ c κs. search needs)
+    (λ c. search needs)
     returns-2
     returns-3)

@@ -7,10 +7,10 @@ use Rattle.numbers.proofs.Lists.{held-some}
 use Rattle.reference.specs.Taps.{F80}
 use Rattle.reference.specs.Stages.{y-wide}
 use Rattle.reference.proofs.Locality.{F80-last}
-use Rattle.lanes.specs.Filters.{Small}
-use Rattle.lanes.proofs.Tables.{filter-F80, absolute-F80}
-use Rattle.route_states.proofs.Arrays.{shifted, held-at}
-use Rattle.route_states.proofs.Filters.{halved-gives, halves-length}
+use Rattle.filters.specs.Filters.{Small}
+use Rattle.filters.proofs.Tables.{filter-F80, absolute-F80}
+use Rattle.routes.proofs.Arrays.{shifted, held-at}
+use Rattle.routes.proofs.Filters.{halved-gives, halves-length}
 use Rattle.stages.proofs.Arrays.{wide-held, wide-small}
 use Rattle.stages.proofs.Smalls.{small-front, small-shift, joined-front, joined-held, joined-small}
 use borrow.Author.Needs.{needs}

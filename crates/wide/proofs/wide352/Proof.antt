@@ -13,11 +13,11 @@ use Rattle.reference.specs.Taps.{S1-WIDE}
 use Rattle.reference.specs.Stages.{fir, u, y-wide}
 use Rattle.reference.proofs.Locality.{F40-last}
 use Rattle.reference.proofs.Sizes.{F40-sum}
-use Rattle.lanes.specs.Filters.{Small}
-use Rattle.lanes.proofs.Signals.{held-as}
-use Rattle.lanes.proofs.Tables.{filter-F40}
-use Rattle.route_states.proofs.Arrays.{shifted, held-at}
-use Rattle.route_states.proofs.Filters.{fir1-gives}
+use Rattle.filters.specs.Filters.{Small}
+use Rattle.filters.proofs.Signals.{held-as}
+use Rattle.filters.proofs.Tables.{filter-F40}
+use Rattle.routes.proofs.Arrays.{shifted, held-at}
+use Rattle.routes.proofs.Filters.{fir1-gives}
 use Rattle.stages.proofs.Arrays.{wide-held, wide-small}
 use Rattle.stages.proofs.Smalls.{small-shift, joined-held, joined-small, fir1-asks}
 use borrow.Author.Needs.{needs}

@@ -7,12 +7,6 @@ use borrow.Author.Needs.{needs}
 use Rattle.dsf.proofs.bytes.byte.Statement.{statement}
 use Rattle.dsf.proofs.bytes.byte.Tie as tie
 
-shared-slice-read-wide : tie.Need-shared-slice-read-wide
-shared-slice-read-wide c = search needs
-
-wide-requires : tie.Need-wide-requires
-wide-requires c κs = search needs
-
 returns : tie.Need-returns
 returns c =
     let a = c .before .before .before .before .args in
@@ -24,4 +18,4 @@ returns-2 c =
     (sym (List·getD-eq-default (now (a .file)) 0 {n = a .at} (omega arith)), omega arith)
 
 pub byte-spec : {M : Type 1} → statement M
-byte-spec = tie.close (tie.spec shared-slice-read-wide wide-requires returns returns-2)
+byte-spec = tie.close (tie.spec (λ c. search needs) (λ c κs. search needs) returns returns-2)

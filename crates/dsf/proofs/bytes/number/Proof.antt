@@ -35,9 +35,6 @@ mul-n c =
 add-byte : tie.Need-add-byte Inv-loop μ-loop
 add-byte c = omega arith
 
-byte-requires : tie.Need-byte-requires Inv-loop μ-loop
-byte-requires c κs = search needs
-
 add-n : tie.Need-add-n Inv-loop μ-loop
 add-n c =
     let a = c .before .before .before .before .args in
@@ -76,7 +73,7 @@ number-spec =
     sub-i
     mul-n
     add-byte
-    byte-requires
+    (λ c κs. search needs)
     add-n
     loop-less
     loop-again

@@ -8,12 +8,6 @@ use Rattle.dsf.specs.Dsf.{data-bytes, blocks}
 use Rattle.dsf.proofs.fields.data_bytes.Statement.{statement}
 use Rattle.dsf.proofs.fields.data_bytes.Tie as tie
 
-add-result : tie.Need-add-result
-add-result c = search needs
-
-mul-result : tie.Need-mul-result
-mul-result c = search needs
-
 mul-result-2 : tie.Need-mul-result-2
 mul-result-2 c =
     let a = c .args in
@@ -28,4 +22,4 @@ returns c =
     (refl, omega (arith, mul-le-mul e (c .pre)))
 
 pub data-bytes-spec : {M : Type 1} → statement M
-data-bytes-spec = tie.close (tie.spec add-result mul-result mul-result-2 returns)
+data-bytes-spec = tie.close (tie.spec (λ c. search needs) (λ c. search needs) mul-result-2 returns)

@@ -5,11 +5,8 @@ use Rattle.dsf.proofs.Tests.{fits-fixed}
 use Rattle.dsf.proofs.fields.holds.Statement.{statement}
 use Rattle.dsf.proofs.fields.holds.Tie as tie
 
-agrees-requires : tie.Need-agrees-requires
-agrees-requires c κs = search needs
-
 returns : tie.Need-returns
 returns c = c .agrees .ensures ∙ fits-fixed _ _ _
 
 pub holds-spec : {M : Type 1} → statement M
-holds-spec = tie.close (tie.spec agrees-requires returns)
+holds-spec = tie.close (tie.spec (λ c κs. search needs) returns)

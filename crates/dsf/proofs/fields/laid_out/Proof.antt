@@ -2,101 +2,11 @@
 use mathlib.Core.Path.{ap, _∙_}
 use mathlib.Core.Bool.{Bool, _&&_}
 use borrow.Author.Needs.{needs}
-use Rattle.report_lines.specs.Text.{text}
+use Rattle.level_lines.specs.Text.{text}
 use Rattle.dsf.specs.Dsf.{bytes}
 use Rattle.dsf.proofs.Tests.{layout-is}
 use Rattle.dsf.proofs.fields.laid_out.Statement.{statement}
 use Rattle.dsf.proofs.fields.laid_out.Tie as tie
-
-slice-aggregate-holds : tie.Need-slice-aggregate-holds
-slice-aggregate-holds c = search needs
-
-holds-requires : tie.Need-holds-requires
-holds-requires c κs = search needs
-
-slice-aggregate-holds-2 : tie.Need-slice-aggregate-holds-2
-slice-aggregate-holds-2 c = search needs
-
-holds-requires-2 : tie.Need-holds-requires-2
-holds-requires-2 c κs = search needs
-
-slice-aggregate-holds-3 : tie.Need-slice-aggregate-holds-3
-slice-aggregate-holds-3 c = search needs
-
-holds-requires-3 : tie.Need-holds-requires-3
-holds-requires-3 c κs = search needs
-
-slice-aggregate-holds-4 : tie.Need-slice-aggregate-holds-4
-slice-aggregate-holds-4 c = search needs
-
-holds-requires-4 : tie.Need-holds-requires-4
-holds-requires-4 c κs = search needs
-
-slice-aggregate-holds-5 : tie.Need-slice-aggregate-holds-5
-slice-aggregate-holds-5 c = search needs
-
-holds-requires-5 : tie.Need-holds-requires-5
-holds-requires-5 c κs = search needs
-
-slice-aggregate-holds-6 : tie.Need-slice-aggregate-holds-6
-slice-aggregate-holds-6 c = search needs
-
-holds-requires-6 : tie.Need-holds-requires-6
-holds-requires-6 c κs = search needs
-
-paired-requires : tie.Need-paired-requires
-paired-requires c κs = search needs
-
-ordered-requires : tie.Need-ordered-requires
-ordered-requires c κs = search needs
-
-slice-aggregate-holds-7 : tie.Need-slice-aggregate-holds-7
-slice-aggregate-holds-7 c = search needs
-
-holds-requires-7 : tie.Need-holds-requires-7
-holds-requires-7 c κs = search needs
-
-slice-aggregate-holds-8 : tie.Need-slice-aggregate-holds-8
-slice-aggregate-holds-8 c = search needs
-
-holds-requires-8 : tie.Need-holds-requires-8
-holds-requires-8 c κs = search needs
-
-slice-aggregate-holds-9 : tie.Need-slice-aggregate-holds-9
-slice-aggregate-holds-9 c = search needs
-
-holds-requires-9 : tie.Need-holds-requires-9
-holds-requires-9 c κs = search needs
-
-both-requires : tie.Need-both-requires
-both-requires c κs = search needs
-
-both-requires-2 : tie.Need-both-requires-2
-both-requires-2 c κs = search needs
-
-both-requires-3 : tie.Need-both-requires-3
-both-requires-3 c κs = search needs
-
-both-requires-4 : tie.Need-both-requires-4
-both-requires-4 c κs = search needs
-
-both-requires-5 : tie.Need-both-requires-5
-both-requires-5 c κs = search needs
-
-both-requires-6 : tie.Need-both-requires-6
-both-requires-6 c κs = search needs
-
-both-requires-7 : tie.Need-both-requires-7
-both-requires-7 c κs = search needs
-
-both-requires-8 : tie.Need-both-requires-8
-both-requires-8 c κs = search needs
-
-both-requires-9 : tie.Need-both-requires-9
-both-requires-9 c κs = search needs
-
-both-requires-10 : tie.Need-both-requires-10
-both-requires-10 c κs = search needs
 
 returns : tie.Need-returns
 unfolding text bytes
@@ -113,34 +23,34 @@ pub laid-out-spec : {M : Type 1} → statement M
 laid-out-spec =
     tie.close
     (tie.spec
-    slice-aggregate-holds
-    holds-requires
-    slice-aggregate-holds-2
-    holds-requires-2
-    slice-aggregate-holds-3
-    holds-requires-3
-    slice-aggregate-holds-4
-    holds-requires-4
-    slice-aggregate-holds-5
-    holds-requires-5
-    slice-aggregate-holds-6
-    holds-requires-6
-    paired-requires
-    ordered-requires
-    slice-aggregate-holds-7
-    holds-requires-7
-    slice-aggregate-holds-8
-    holds-requires-8
-    slice-aggregate-holds-9
-    holds-requires-9
-    both-requires
-    both-requires-2
-    both-requires-3
-    both-requires-4
-    both-requires-5
-    both-requires-6
-    both-requires-7
-    both-requires-8
-    both-requires-9
-    both-requires-10
+    (λ c. search needs)
+    (λ c κs. search needs)
+    (λ c. search needs)
+    (λ c κs. search needs)
+    (λ c. search needs)
+    (λ c κs. search needs)
+    (λ c. search needs)
+    (λ c κs. search needs)
+    (λ c. search needs)
+    (λ c κs. search needs)
+    (λ c. search needs)
+    (λ c κs. search needs)
+    (λ c κs. search needs)
+    (λ c κs. search needs)
+    (λ c. search needs)
+    (λ c κs. search needs)
+    (λ c. search needs)
+    (λ c κs. search needs)
+    (λ c. search needs)
+    (λ c κs. search needs)
+    (λ c κs. search needs)
+    (λ c κs. search needs)
+    (λ c κs. search needs)
+    (λ c κs. search needs)
+    (λ c κs. search needs)
+    (λ c κs. search needs)
+    (λ c κs. search needs)
+    (λ c κs. search needs)
+    (λ c κs. search needs)
+    (λ c κs. search needs)
     returns)

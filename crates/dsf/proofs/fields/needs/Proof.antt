@@ -7,12 +7,6 @@ use Rattle.dsf.proofs.Tests.{channels-few}
 use Rattle.dsf.proofs.fields.needs.Statement.{statement}
 use Rattle.dsf.proofs.fields.needs.Tie as tie
 
-number-requires : tie.Need-number-requires
-number-requires c κs = search needs
-
-number-requires-2 : tie.Need-number-requires-2
-number-requires-2 c κs = search needs
-
 data-bytes-requires : tie.Need-data-bytes-requires
 unfolding channels
 data-bytes-requires c κs = omega (arith, c .number2 .ensures, channels-few _ (c .before .before .before .pre))
@@ -22,4 +16,4 @@ unfolding needed samples channels
 returns c = (c .data-bytes .ensures .0 ∙ ap₂ data-bytes (c .before .before .number .ensures) (c .before .number2 .ensures), c .data-bytes .ensures .1)
 
 pub needs-spec : {M : Type 1} → statement M
-needs-spec = tie.close (tie.spec number-requires number-requires-2 data-bytes-requires returns)
+needs-spec = tie.close (tie.spec (λ c κs. search needs) (λ c κs. search needs) data-bytes-requires returns)

@@ -7,66 +7,6 @@ use Rattle.dsf.proofs.Tests.{pairs-is}
 use Rattle.dsf.proofs.fields.paired.Statement.{statement}
 use Rattle.dsf.proofs.fields.paired.Tie as tie
 
-slice-aggregate-agrees : tie.Need-slice-aggregate-agrees
-slice-aggregate-agrees c = search needs
-
-agrees-requires : tie.Need-agrees-requires
-agrees-requires c κs = search needs
-
-slice-aggregate-agrees-2 : tie.Need-slice-aggregate-agrees-2
-slice-aggregate-agrees-2 c = search needs
-
-agrees-requires-2 : tie.Need-agrees-requires-2
-agrees-requires-2 c κs = search needs
-
-slice-aggregate-agrees-3 : tie.Need-slice-aggregate-agrees-3
-slice-aggregate-agrees-3 c = search needs
-
-agrees-requires-3 : tie.Need-agrees-requires-3
-agrees-requires-3 c κs = search needs
-
-slice-aggregate-agrees-4 : tie.Need-slice-aggregate-agrees-4
-slice-aggregate-agrees-4 c = search needs
-
-agrees-requires-4 : tie.Need-agrees-requires-4
-agrees-requires-4 c κs = search needs
-
-slice-aggregate-agrees-5 : tie.Need-slice-aggregate-agrees-5
-slice-aggregate-agrees-5 c = search needs
-
-agrees-requires-5 : tie.Need-agrees-requires-5
-agrees-requires-5 c κs = search needs
-
-slice-aggregate-agrees-6 : tie.Need-slice-aggregate-agrees-6
-slice-aggregate-agrees-6 c = search needs
-
-agrees-requires-6 : tie.Need-agrees-requires-6
-agrees-requires-6 c κs = search needs
-
-slice-aggregate-agrees-7 : tie.Need-slice-aggregate-agrees-7
-slice-aggregate-agrees-7 c = search needs
-
-agrees-requires-7 : tie.Need-agrees-requires-7
-agrees-requires-7 c κs = search needs
-
-either-requires : tie.Need-either-requires
-either-requires c κs = search needs
-
-either-requires-2 : tie.Need-either-requires-2
-either-requires-2 c κs = search needs
-
-either-requires-3 : tie.Need-either-requires-3
-either-requires-3 c κs = search needs
-
-either-requires-4 : tie.Need-either-requires-4
-either-requires-4 c κs = search needs
-
-either-requires-5 : tie.Need-either-requires-5
-either-requires-5 c κs = search needs
-
-either-requires-6 : tie.Need-either-requires-6
-either-requires-6 c κs = search needs
-
 returns : tie.Need-returns
 unfolding bytes
 returns c =
@@ -80,24 +20,24 @@ pub paired-spec : {M : Type 1} → statement M
 paired-spec =
     tie.close
     (tie.spec
-    slice-aggregate-agrees
-    agrees-requires
-    slice-aggregate-agrees-2
-    agrees-requires-2
-    slice-aggregate-agrees-3
-    agrees-requires-3
-    slice-aggregate-agrees-4
-    agrees-requires-4
-    slice-aggregate-agrees-5
-    agrees-requires-5
-    slice-aggregate-agrees-6
-    agrees-requires-6
-    slice-aggregate-agrees-7
-    agrees-requires-7
-    either-requires
-    either-requires-2
-    either-requires-3
-    either-requires-4
-    either-requires-5
-    either-requires-6
+    (λ c. search needs)
+    (λ c κs. search needs)
+    (λ c. search needs)
+    (λ c κs. search needs)
+    (λ c. search needs)
+    (λ c κs. search needs)
+    (λ c. search needs)
+    (λ c κs. search needs)
+    (λ c. search needs)
+    (λ c κs. search needs)
+    (λ c. search needs)
+    (λ c κs. search needs)
+    (λ c. search needs)
+    (λ c κs. search needs)
+    (λ c κs. search needs)
+    (λ c κs. search needs)
+    (λ c κs. search needs)
+    (λ c κs. search needs)
+    (λ c κs. search needs)
+    (λ c κs. search needs)
     returns)

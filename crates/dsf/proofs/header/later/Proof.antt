@@ -44,36 +44,6 @@ lengths-are c =
     ∙ ap (λ (v : Bool). eqb (stated .result) (total c) && v) (c .before .both2 .ensures)
     ∙ ends-is (head c) (total c) (ap (λ (s : ℕ). eqb s (total c)) (stated .ensures)) size (ap (λ (k : ℕ). leb (92 + k) (total c)) need)
 
-at-frequency-requires : tie.Need-at-frequency-requires
-at-frequency-requires c κs = search needs
-
-number-requires : tie.Need-number-requires
-number-requires c κs = search needs
-
-needs-requires : tie.Need-needs-requires
-needs-requires c κs = search needs
-
-number-requires-2 : tie.Need-number-requires-2
-number-requires-2 c κs = search needs
-
-number-requires-3 : tie.Need-number-requires-3
-number-requires-3 c κs = search needs
-
-add-d : tie.Need-add-d
-add-d c = search needs
-
-add-e : tie.Need-add-e
-add-e c = search needs
-
-both-requires : tie.Need-both-requires
-both-requires c κs = search needs
-
-both-requires-2 : tie.Need-both-requires-2
-both-requires-2 c κs = search needs
-
-both-requires-3 : tie.Need-both-requires-3
-both-requires-3 c κs = search needs
-
 returns : tie.Need-returns
 returns c =
     let t = c .before .before in
@@ -93,16 +63,16 @@ pub later-spec : {M : Type 1} → statement M
 later-spec =
     tie.close
     (tie.spec
-    at-frequency-requires
-    number-requires
-    needs-requires
-    number-requires-2
-    number-requires-3
-    add-d
-    add-e
-    both-requires
-    both-requires-2
-    both-requires-3
+    (λ c κs. search needs)
+    (λ c κs. search needs)
+    (λ c κs. search needs)
+    (λ c κs. search needs)
+    (λ c κs. search needs)
+    (λ c. search needs)
+    (λ c. search needs)
+    (λ c κs. search needs)
+    (λ c κs. search needs)
+    (λ c κs. search needs)
     returns
     returns-2
     returns-3)

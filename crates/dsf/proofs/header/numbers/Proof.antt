@@ -6,21 +6,6 @@ use Rattle.dsf.specs.Reading.{file-header}
 use Rattle.dsf.proofs.header.numbers.Statement.{statement}
 use Rattle.dsf.proofs.header.numbers.Tie as tie
 
-number-requires : tie.Need-number-requires
-number-requires c κs = search needs
-
-number-requires-2 : tie.Need-number-requires-2
-number-requires-2 c κs = search needs
-
-number-requires-3 : tie.Need-number-requires-3
-number-requires-3 c κs = search needs
-
-number-requires-4 : tie.Need-number-requires-4
-number-requires-4 c κs = search needs
-
-add-frames : tie.Need-add-frames
-add-frames c = search needs
-
 returns : tie.Need-returns
 unfolding file-header channel-type channels bits-per-sample samples frames frames-in
 returns c =
@@ -31,4 +16,4 @@ returns c =
     λ i. record { «channel_type» = kind i; channels = count i; «bits_per_sample» = bits i; samples = size i; frames = ap frames-in size i }
 
 pub numbers-spec : {M : Type 1} → statement M
-numbers-spec = tie.close (tie.spec number-requires number-requires-2 number-requires-3 number-requires-4 add-frames returns)
+numbers-spec = tie.close (tie.spec (λ c κs. search needs) (λ c κs. search needs) (λ c κs. search needs) (λ c κs. search needs) (λ c. search needs) returns)

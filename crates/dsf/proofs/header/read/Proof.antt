@@ -9,9 +9,6 @@ use Rattle.dsf.proofs.Head.{whole-head}
 use Rattle.dsf.proofs.header.read.Statement.{statement}
 use Rattle.dsf.proofs.header.read.Tie as tie
 
-read-header-requires : tie.Need-read-header-requires
-read-header-requires c κs = search needs
-
 returns : tie.Need-returns
 returns c =
     let file = now (c .before .before .args .file) in
@@ -22,4 +19,4 @@ returns c =
     }
 
 pub read-spec : {M : Type 1} → statement M
-read-spec = tie.close (tie.spec read-header-requires returns)
+read-spec = tie.close (tie.spec (λ c κs. search needs) returns)

@@ -17,9 +17,6 @@ returns-2 : tie.Need-returns-2
 unfolding header-places
 returns-2 c = too-short _ _ (c .if2 .taken) ∙ sym (at-next _ _ (le-ltb _ _ (c .before .if1 .left)))
 
-laid-out-requires : tie.Need-laid-out-requires
-laid-out-requires c κs = search needs
-
 later-requires : tie.Need-later-requires
 later-requires c κs = (omega arith, sym (c .before .laid-out .ensures) ∙ c .if3 .taken)
 
@@ -33,4 +30,4 @@ returns-4 c = wrong-layout _ _ (c .before .before .if2 .left) (sym (c .before .l
 
 pub verdict-spec : {M : Type 1} → statement M
 verdict-spec =
-    tie.close (tie.spec returns returns-2 laid-out-requires later-requires returns-3 returns-4)
+    tie.close (tie.spec returns returns-2 (λ c κs. search needs) later-requires returns-3 returns-4)

@@ -7,9 +7,6 @@ use borrow.Author.Needs.{needs}
 use Rattle.dsf_frames.proofs.bits.ours.Statement.{statement}
 use Rattle.dsf_frames.proofs.bits.ours.Tie as tie
 
-turn-requires : tie.Need-turn-requires
-turn-requires c κs = search needs
-
 returns : tie.Need-returns
 unfolding our-byte
 returns c = rw (c .before .if1 .taken) (c .turn .ensures)
@@ -19,4 +16,4 @@ unfolding our-byte
 returns-2 c = rw (not-T-is {b = eqb (c .before .args .bits) 1} (λ t. c .if1 .left (eqb→eq _ _ t)))
 
 pub ours-spec : {M : Type 1} → statement M
-ours-spec = tie.close (tie.spec turn-requires returns returns-2)
+ours-spec = tie.close (tie.spec (λ c κs. search needs) returns returns-2)

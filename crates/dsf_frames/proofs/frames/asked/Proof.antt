@@ -11,9 +11,6 @@ use Rattle.dsf_frames.proofs.Asked.{no-frame, begins-late, ends-early, 
 use Rattle.dsf_frames.proofs.frames.asked.Statement.{statement}
 use Rattle.dsf_frames.proofs.frames.asked.Tie as tie
 
-add-if1 : tie.Need-add-if1
-add-if1 c = search needs
-
 returns : tie.Need-returns
 unfolding frames-in
 returns c = no-frame _ _ _ _ _ _ (c .if1 .taken)
@@ -27,9 +24,6 @@ returns-2 c =
     let a = c .before .before .before .args in
     let late : window-start (a .channels) (a .frame) < a .start = rw (← c .before .groups .ensures .0) (c .if2 .taken) in
     begins-late (a .channels) (a .samples) (a .frame) (a .start) (a .size) (a .room) (c .before .before .if1 .left) late
-
-reaches-requires : tie.Need-reaches-requires
-reaches-requires c κs = search needs
 
 mul-expected : tie.Need-mul-expected
 mul-expected c = omega arith
@@ -65,11 +59,11 @@ pub asked-spec : {M : Type 1} → statement M
 asked-spec =
     tie.close
     (tie.spec
-    add-if1
+    (λ c. search needs)
     returns
     groups-requires
     returns-2
-    reaches-requires
+    (λ c κs. search needs)
     mul-expected
     returns-3
     returns-4

@@ -18,21 +18,6 @@ returns c =
     let e = short-file _ _ _ (c .if1 .taken) in
     record { decided = sym e; written = sym (exit-refused _ _ _ (ap is-accepted e)) }
 
-sub-window-frame : tie.Need-sub-window-frame
-sub-window-frame c = search needs
-
-part-window-frame-start : tie.Need-part-window-frame-start
-part-window-frame-start c = search needs
-
-part-window-frame-end : tie.Need-part-window-frame-end
-part-window-frame-end c = search needs
-
-window-frame-requires : tie.Need-window-frame-requires
-window-frame-requires c κs = search needs
-
-same-length : tie.Need-same-length
-same-length c = search needs
-
 returns-2 : tie.Need-returns-2
 returns-2 c =
     let at-else1 = c .before .before .before .before .before in
@@ -46,9 +31,9 @@ frame-spec =
     tie.close
     (tie.spec
     returns
-    sub-window-frame
-    part-window-frame-start
-    part-window-frame-end
-    window-frame-requires
-    same-length
+    (λ c. search needs)
+    (λ c. search needs)
+    (λ c. search needs)
+    (λ c κs. search needs)
+    (λ c. search needs)
     returns-2)

@@ -9,26 +9,8 @@ use borrow.Author.Needs.{needs}
 use Rattle.dsf_frames.proofs.frames.groups.Statement.{statement}
 use Rattle.dsf_frames.proofs.frames.groups.Tie as tie
 
-mul-first : tie.Need-mul-first
-mul-first c = search needs
-
-add-lesser-of : tie.Need-add-lesser-of
-add-lesser-of c = search needs
-
-lesser-of-requires : tie.Need-lesser-of-requires
-lesser-of-requires c κs = search needs
-
-mul-start : tie.Need-mul-start
-mul-start c = search needs
-
 mul-start-2 : tie.Need-mul-start-2
 mul-start-2 c = let s : c .before .args .f * 4704 / 4096 * 4096 ≤ 2 ^ 61 = omega arith in omega (arith, mul-le-mul s (c .before .pre .0))
-
-add-end : tie.Need-add-end
-add-end c = search needs
-
-mul-end : tie.Need-mul-end
-mul-end c = search needs
 
 mul-end-2 : tie.Need-mul-end-2
 mul-end-2 c = let s : (c .lesser-of .result + 4095) / 4096 * 4096 ≤ 2 ^ 61 + 4095 = omega (arith, c .lesser-of .ensures) in omega (arith, mul-le-mul s (c .before .pre .0))
@@ -41,12 +23,12 @@ pub groups-spec : {M : Type 1} → statement M
 groups-spec =
     tie.close
     (tie.spec
-    mul-first
-    add-lesser-of
-    lesser-of-requires
-    mul-start
+    (λ c. search needs)
+    (λ c. search needs)
+    (λ c κs. search needs)
+    (λ c. search needs)
     mul-start-2
-    add-end
-    mul-end
+    (λ c. search needs)
+    (λ c. search needs)
     mul-end-2
     returns)

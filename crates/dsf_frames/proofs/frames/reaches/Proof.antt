@@ -11,11 +11,8 @@ use Rattle.dsf_frames.proofs.frames.reaches.Tie as tie
 returns : tie.Need-returns
 returns c = let a = c .before .args in sym (le-leb (a .end) (a .start + a .size) (omega arith))
 
-sub-result : tie.Need-sub-result
-sub-result c = search needs
-
 returns-2 : tie.Need-returns-2
 returns-2 c = let a = c .before .args in reach-is (a .start) (a .size) (a .end) (omega arith)
 
 pub reaches-spec : {M : Type 1} → statement M
-reaches-spec = tie.close (tie.spec returns sub-result returns-2)
+reaches-spec = tie.close (tie.spec returns (λ c. search needs) returns-2)

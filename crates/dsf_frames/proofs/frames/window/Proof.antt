@@ -13,9 +13,6 @@ returns : tie.Need-returns
 unfolding frame-window
 returns c = sym (rw (lt-leb _ 6 (c .if1 .taken)))
 
-add-if2 : tie.Need-add-if2
-add-if2 c = search needs
-
 returns-2 : tie.Need-returns-2
 unfolding frame-window frames-in
 returns-2 c = sym (rw (le-leb _ _ (c .before .if1 .left), le-ltb _ _ (c .if2 .taken)))
@@ -28,4 +25,4 @@ unfolding frames-in
 returns-3 c = window-is _ _ _ _ (c .before .before .if1 .left) (c .before .if2 .left) (c .groups .ensures)
 
 pub window-spec : {M : Type 1} → statement M
-window-spec = tie.close (tie.spec returns add-if2 returns-2 groups-requires returns-3)
+window-spec = tie.close (tie.spec returns (λ c. search needs) returns-2 groups-requires returns-3)

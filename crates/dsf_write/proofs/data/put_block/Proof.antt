@@ -8,32 +8,11 @@ use borrow.Author.Needs.{needs}
 use Rattle.dsf_write.proofs.data.put_block.Statement.{statement}
 use Rattle.dsf_write.proofs.data.put_block.Tie as tie
 
-div-first : tie.Need-div-first
-div-first c = search needs
-
-mul-first : tie.Need-mul-first
-mul-first c = search needs
-
-sub-lesser-of : tie.Need-sub-lesser-of
-sub-lesser-of c = search needs
-
-lesser-of-requires : tie.Need-lesser-of-requires
-lesser-of-requires c κs = search needs
-
 mul-from : tie.Need-mul-from
 mul-from c = let s = c .before .before .before in omega (arith, start-small (s .pre .1), s .pre .1 .lent)
 
-rem-from : tie.Need-rem-from
-rem-from c = search needs
-
 add-from : tie.Need-add-from
 add-from c = let s = c .before .before .before in omega (arith, in-frames (s .pre .1) 0 (omega arith), s .pre .1 .room)
-
-mul-at : tie.Need-mul-at
-mul-at c = search needs
-
-add-at : tie.Need-add-at
-add-at c = search needs
 
 gather-requires : tie.Need-gather-requires
 gather-requires c κs =
@@ -41,18 +20,6 @@ gather-requires c κs =
     let e = c .before .lesser-of .ensures in
     let held = in-frames (s .pre .1) (c .before .lesser-of .result) (omega arith) in
     (omega (arith, held), s .pre .1 .room, omega (arith, s .pre .1 .lent))
-
-add-zeros : tie.Need-add-zeros
-add-zeros c = search needs
-
-sub-zeros : tie.Need-sub-zeros
-sub-zeros c = search needs
-
-zeros-requires : tie.Need-zeros-requires
-zeros-requires c κs = search needs
-
-same-length : tie.Need-same-length
-same-length c = search needs
 
 returns : tie.Need-returns
 returns c =
@@ -65,18 +32,18 @@ pub put-block-spec : {M : Type 1} → statement M
 put-block-spec =
     tie.close
     (tie.spec
-    div-first
-    mul-first
-    sub-lesser-of
-    lesser-of-requires
+    (λ c. search needs)
+    (λ c. search needs)
+    (λ c. search needs)
+    (λ c κs. search needs)
     mul-from
-    rem-from
+    (λ c. search needs)
     add-from
-    mul-at
-    add-at
+    (λ c. search needs)
+    (λ c. search needs)
     gather-requires
-    add-zeros
-    sub-zeros
-    zeros-requires
-    same-length
+    (λ c. search needs)
+    (λ c. search needs)
+    (λ c κs. search needs)
+    (λ c. search needs)
     returns)

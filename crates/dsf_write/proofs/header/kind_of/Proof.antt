@@ -10,12 +10,9 @@ returns : tie.Need-returns
 unfolding type-of
 returns c = sym (rw (le-leb _ _ (c .if1 .taken)))
 
-add-result : tie.Need-add-result
-add-result c = search needs
-
 returns-2 : tie.Need-returns-2
 unfolding type-of
 returns-2 c = sym (rw (lt-leb _ _ (c .if1 .left)))
 
 pub kind-of-spec : {M : Type 1} → statement M
-kind-of-spec = tie.close (tie.spec returns add-result returns-2)
+kind-of-spec = tie.close (tie.spec returns (λ c. search needs) returns-2)

@@ -9,21 +9,6 @@ use Rattle.dsf_write.proofs.Writing.{then, put-as, pair-is}
 use Rattle.dsf_write.proofs.header.put_format.Statement.{statement}
 use Rattle.dsf_write.proofs.header.put_format.Tie as tie
 
-slice-aggregate-put : tie.Need-slice-aggregate-put
-slice-aggregate-put c = search needs
-
-put-requires : tie.Need-put-requires
-put-requires c κs = search needs
-
-slice-aggregate-put-2 : tie.Need-slice-aggregate-put-2
-slice-aggregate-put-2 c = search needs
-
-put-requires-2 : tie.Need-put-requires-2
-put-requires-2 c κs = search needs
-
-same-length : tie.Need-same-length
-same-length c = search needs
-
 returns : tie.Need-returns
 unfolding format bytes
 returns c =
@@ -37,9 +22,9 @@ pub put-format-spec : {M : Type 1} → statement M
 put-format-spec =
     tie.close
     (tie.spec
-    slice-aggregate-put
-    put-requires
-    slice-aggregate-put-2
-    put-requires-2
-    same-length
+    (λ c. search needs)
+    (λ c κs. search needs)
+    (λ c. search needs)
+    (λ c κs. search needs)
+    (λ c. search needs)
     returns)

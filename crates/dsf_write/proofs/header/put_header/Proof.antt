@@ -1,25 +1,13 @@
 -- `put_header` meets its contract.
 use mathlib.Core.Path.{refl}
 use borrow.Author.Needs.{needs}
-use Rattle.report_lines.specs.Text.{text}
+use Rattle.level_lines.specs.Text.{text}
 use Rattle.dsf.specs.Dsf.{bytes}
 use Rattle.dsf.specs.Headers.{header}
 use Rattle.dsf_write.specs.Putting.{front, format, sizes}
 use Rattle.dsf_write.proofs.Writing.{then}
 use Rattle.dsf_write.proofs.header.put_header.Statement.{statement}
 use Rattle.dsf_write.proofs.header.put_header.Tie as tie
-
-put-front-requires : tie.Need-put-front-requires
-put-front-requires c κs = search needs
-
-put-format-requires : tie.Need-put-format-requires
-put-format-requires c κs = search needs
-
-put-sizes-requires : tie.Need-put-sizes-requires
-put-sizes-requires c κs = search needs
-
-same-length : tie.Need-same-length
-same-length c = search needs
 
 returns : tie.Need-returns
 unfolding header front format sizes text bytes
@@ -31,4 +19,4 @@ returns c =
 pub put-header-spec : {M : Type 1} → statement M
 put-header-spec =
     tie.close
-    (tie.spec put-front-requires put-format-requires put-sizes-requires same-length returns)
+    (tie.spec (λ c κs. search needs) (λ c κs. search needs) (λ c κs. search needs) (λ c. search needs) returns)

@@ -1,27 +1,12 @@
 -- `put_sizes` meets its contract.
 use mathlib.Core.Path.{refl}
 use borrow.Author.Needs.{needs}
-use Rattle.report_lines.specs.Text.{text}
+use Rattle.level_lines.specs.Text.{text}
 use Rattle.dsf.specs.Dsf.{bytes}
 use Rattle.dsf_write.specs.Putting.{sizes}
 use Rattle.dsf_write.proofs.Writing.{then}
 use Rattle.dsf_write.proofs.header.put_sizes.Statement.{statement}
 use Rattle.dsf_write.proofs.header.put_sizes.Tie as tie
-
-put-eight-requires : tie.Need-put-eight-requires
-put-eight-requires c κs = search needs
-
-slice-aggregate-put : tie.Need-slice-aggregate-put
-slice-aggregate-put c = search needs
-
-put-requires : tie.Need-put-requires
-put-requires c κs = search needs
-
-put-eight-requires-2 : tie.Need-put-eight-requires-2
-put-eight-requires-2 c κs = search needs
-
-same-length : tie.Need-same-length
-same-length c = search needs
 
 returns : tie.Need-returns
 unfolding sizes text bytes
@@ -34,9 +19,9 @@ pub put-sizes-spec : {M : Type 1} → statement M
 put-sizes-spec =
     tie.close
     (tie.spec
-    put-eight-requires
-    slice-aggregate-put
-    put-requires
-    put-eight-requires-2
-    same-length
+    (λ c κs. search needs)
+    (λ c. search needs)
+    (λ c κs. search needs)
+    (λ c κs. search needs)
+    (λ c. search needs)
     returns)

@@ -24,12 +24,6 @@ squared-done : (k : ℕ) (x : Float) → k ≡ 5 → x ≡ squared (5 - k) x
 unfolding squared
 squared-done k x e = rw e
 
-magnitude-requires : tie.Need-magnitude-requires Inv-loop μ-loop
-magnitude-requires c κs = search needs
-
-series-requires : tie.Need-series-requires Inv-loop μ-loop
-series-requires c κs = search needs
-
 loop-holds : tie.Need-loop-holds Inv-loop μ-loop
 loop-holds c = (omega arith, refl)
 
@@ -65,4 +59,4 @@ unfolding ofBits ofInt db-to-linear
 returns-2 c = rw (power-is (c .before), c .if1 .left)
 
 pub db-to-linear-spec : {M : Type 1} → statement M
-db-to-linear-spec = tie.close (tie.spec Inv-loop μ-loop magnitude-requires series-requires loop-holds add-counter loop-less loop-again returns returns-2)
+db-to-linear-spec = tie.close (tie.spec Inv-loop μ-loop (λ c κs. search needs) (λ c κs. search needs) loop-holds add-counter loop-less loop-again returns returns-2)

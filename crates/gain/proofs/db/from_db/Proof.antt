@@ -24,12 +24,6 @@ turned-down db a = record {
   made = λ h. let k : refused 3 _ ≡ accepted = rw a at h in let z : _≡_ {A = ℕ} 0 1 = cc in absurd (omega arith);
 }
 
-allowed-requires : tie.Need-allowed-requires
-allowed-requires c κs = search needs
-
-db-to-linear-requires : tie.Need-db-to-linear-requires
-db-to-linear-requires c κs = search needs
-
 returns : tie.Need-returns
 returns c = made (c .before .before .before .args .db) (c .db-to-linear .result) (sym (c .before .before .allowed .ensures) ∙ c .before .if1 .taken) (c .db-to-linear .ensures)
 
@@ -37,4 +31,4 @@ returns-2 : tie.Need-returns-2
 returns-2 c = turned-down (c .before .before .args .db) (sym (c .before .allowed .ensures) ∙ c .if1 .left)
 
 pub from-db-spec : {M : Type 1} → statement M
-from-db-spec = tie.close (tie.spec allowed-requires db-to-linear-requires returns returns-2)
+from-db-spec = tie.close (tie.spec (λ c κs. search needs) (λ c κs. search needs) returns returns-2)

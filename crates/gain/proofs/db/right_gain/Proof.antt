@@ -32,9 +32,6 @@ by-bits : (g : Gain) (x : Float) → allowed (g .db) ≡ true → x ≡ db-to-li
 unfolding right-gain
 by-bits g x a e = rw (a, e)
 
-allowed-requires : tie.Need-allowed-requires
-allowed-requires c κs = search needs
-
 is-allowed : (c : tie.Else1) → allowed (c .before .before .args .g .db) ≡ true
 is-allowed c = sym (c .before .allowed .ensures) ∙ not-false _ (c .if1 .left)
 
@@ -43,9 +40,6 @@ returns c = not-allowed (c .before .before .args .g) (sym (c .before .allowed .e
 
 returns-2 : tie.Need-returns-2
 returns-2 c = no-number (c .before .before .before .args .g) (is-allowed (c .before)) (c .if2 .taken)
-
-db-to-linear-requires : tie.Need-db-to-linear-requires
-db-to-linear-requires c κs = search needs
 
 float-to-bits-result : tie.Need-float-to-bits-result
 float-to-bits-result c = number (c .before .before .before .args .g .linear) (c .if2 .left)
@@ -59,4 +53,4 @@ returns-3 : tie.Need-returns-3
 returns-3 c = by-bits (c .before .before .before .before .args .g) (c .db-to-linear .result) (is-allowed (c .before .before)) (c .db-to-linear .ensures)
 
 pub right-gain-spec : {M : Type 1} → statement M
-right-gain-spec = tie.close (tie.spec allowed-requires returns returns-2 float-to-bits-result db-to-linear-requires float-to-bits-result-2 returns-3)
+right-gain-spec = tie.close (tie.spec (λ c κs. search needs) returns returns-2 float-to-bits-result (λ c κs. search needs) float-to-bits-result-2 returns-3)

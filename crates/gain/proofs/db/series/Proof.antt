@@ -29,9 +29,6 @@ loop-holds : tie.Need-loop-holds Inv-loop μ-loop
 unfolding ofBits ofInt
 loop-holds c = (omega arith, omega arith, refl)
 
-int-to-float-term : tie.Need-int-to-float-term Inv-loop μ-loop
-int-to-float-term c = search needs
-
 add-k : tie.Need-add-k Inv-loop μ-loop
 add-k c = omega arith
 
@@ -51,4 +48,4 @@ returns c =
     series-done _ (l .k) (l .term) (l .sum) e ∙ l .inv .2
 
 pub series-spec : {M : Type 1} → statement M
-series-spec = tie.close (tie.spec Inv-loop μ-loop loop-holds int-to-float-term add-k loop-less loop-again returns)
+series-spec = tie.close (tie.spec Inv-loop μ-loop loop-holds (λ c. search needs) add-k loop-less loop-again returns)

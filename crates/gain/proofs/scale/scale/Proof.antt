@@ -68,9 +68,6 @@ s-is c = rw (z-is (c .before), z-back (c .before .before .before) .1) at (c .cli
 float-to-int-sample : tie.Need-float-to-int-sample
 float-to-int-sample c = rw (s-is (c .before)) (clamp-back _ .0)
 
-cast-clipped : tie.Need-cast-clipped
-cast-clipped c = search needs
-
 returns : tie.Need-returns
 returns c =
     let start = c .before .before .before .before in
@@ -81,4 +78,4 @@ returns c =
     }
 
 pub scale-spec : {M : Type 1} → statement M
-scale-spec = tie.close (tie.spec int-to-float-x nearest-even-requires clip-requires float-to-int-sample cast-clipped returns)
+scale-spec = tie.close (tie.spec int-to-float-x nearest-even-requires clip-requires float-to-int-sample (λ c. search needs) returns)

@@ -67,17 +67,11 @@ within-out c = omega (arith, c .before .loop .inv .same, c .before .before .befo
 gave : (c : tie.After-scale Inv-loop μ-loop) → Clamped (scaled (c .before .before .before .before .before .args .factor) (Y (c .before .before))) (c .scale .result .sample) (c .scale .result .tally)
 gave c = rw (y-back (c .before .before)) at (c .scale .ensures)
 
-no-tally-requires : tie.Need-no-tally-requires Inv-loop μ-loop
-no-tally-requires c κs = search needs
-
 loop-holds : tie.Need-loop-holds Inv-loop μ-loop
 loop-holds c = record { same = refl; reached = zero-le; done = λ k h. absurd (not-suc-le-zero h); told = c .no-tally .ensures ∙ sym (tally-none _ 0) }
 
 mul-scale : tie.Need-mul-scale Inv-loop μ-loop
 mul-scale c = scaled-fits (c .before .loop .i) (length (now (c .before .before .before .args .ys))) 8 (c .loop-test .taken) (c .before .before .before .good .0 .1)
-
-shared-slice-copy-out-scale : tie.Need-shared-slice-copy-out-scale Inv-loop μ-loop
-shared-slice-copy-out-scale c = search needs
 
 scale-requires : tie.Need-scale-requires Inv-loop μ-loop
 scale-requires c κs = rw (y-back (c .before)) (small (c .before), c .before .before .before .before .pre .1 .0)
@@ -141,10 +135,10 @@ scale-block-spec =
     (tie.spec
     Inv-loop
     μ-loop
-    no-tally-requires
+    (λ c κs. search needs)
     loop-holds
     mul-scale
-    shared-slice-copy-out-scale
+    (λ c. search needs)
     scale-requires
     mul-sample
     slice-set-from-sample

@@ -5,14 +5,8 @@ use Rattle.reference.specs.Settings.{converter-of}
 use Rattle.interface.proofs.codes.converter.Statement.{statement}
 use Rattle.interface.proofs.codes.converter.Tie as tie
 
-settings-requires : tie.Need-settings-requires
-settings-requires c κs = search needs
-
-converter-of-requires : tie.Need-converter-of-requires
-converter-of-requires c κs = search needs
-
 returns : tie.Need-returns
 returns c = c .converter-of .ensures ∙ ap converter-of (c .before .settings .ensures)
 
 pub converter-spec : {M : Type 1} → statement M
-converter-spec = tie.close (tie.spec settings-requires converter-of-requires returns)
+converter-spec = tie.close (tie.spec (λ c κs. search needs) (λ c κs. search needs) returns)

@@ -7,39 +7,22 @@ use Rattle.interface.specs.Codes.{hertz, cutoff-number}
 use Rattle.interface.proofs.codes.known_settings.Statement.{statement}
 use Rattle.interface.proofs.codes.known_settings.Tie as tie
 
-rate-of-requires : tie.Need-rate-of-requires
-rate-of-requires c κs = search needs
-
-hertz-requires : tie.Need-hertz-requires
-hertz-requires c κs = search needs
-
-cutoff-of-requires : tie.Need-cutoff-of-requires
-cutoff-of-requires c κs = search needs
-
-cutoff-number-requires : tie.Need-cutoff-number-requires
-cutoff-number-requires c κs = search needs
-
-both-requires : tie.Need-both-requires
-both-requires c κs = search needs
-
-both-requires-2 : tie.Need-both-requires-2
-both-requires-2 c κs = search needs
-
 returns : tie.Need-returns
 returns c =
-    let s = c .before .before .before .before .before .before in
+    let at-rate-of = c .before .before .before .before .before in
+    let s = at-rate-of .before in
     let cutoff-is = c .before .before .cutoff-number .ensures ∙ ap cutoff-number (c .before .before .before .cutoff-of .ensures) in
-    let rate-is = c .before .before .before .before .hertz .ensures ∙ ap hertz (c .before .before .before .before .before .rate-of .ensures) in
+    let rate-is = c .before .before .before .before .hertz .ensures ∙ ap hertz (at-rate-of .rate-of .ensures) in
     c .both2 .ensures ∙ rw (c .before .both .ensures) (ap₂ (λ r q. eqb r (s .args .rate) && (eqb q (s .args .cutoff) && eqb (s .args .floats) 2)) rate-is cutoff-is)
 
 pub known-settings-spec : {M : Type 1} → statement M
 known-settings-spec =
     tie.close
     (tie.spec
-    rate-of-requires
-    hertz-requires
-    cutoff-of-requires
-    cutoff-number-requires
-    both-requires
-    both-requires-2
+    (λ c κs. search needs)
+    (λ c κs. search needs)
+    (λ c κs. search needs)
+    (λ c κs. search needs)
+    (λ c κs. search needs)
+    (λ c κs. search needs)
     returns)

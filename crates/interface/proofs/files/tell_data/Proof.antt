@@ -6,15 +6,6 @@ use borrow.Author.Needs.{needs}
 use Rattle.interface.proofs.files.tell_data.Statement.{statement}
 use Rattle.interface.proofs.files.tell_data.Tie as tie
 
-of-verdict-requires : tie.Need-of-verdict-requires
-of-verdict-requires c κs = search needs
-
-put-two-requires : tie.Need-put-two-requires
-put-two-requires c κs = search needs
-
-same-length : tie.Need-same-length
-same-length c = search needs
-
 returns : tie.Need-returns
 returns c =
     let told = c .before .before .before .before in
@@ -23,4 +14,4 @@ returns c =
     record { number = rw e; numbers = rw e at (c .before .before .put-two .ensures) }
 
 pub tell-data-spec : {M : Type 1} → statement M
-tell-data-spec = tie.close (tie.spec of-verdict-requires put-two-requires same-length returns)
+tell-data-spec = tie.close (tie.spec (λ c κs. search needs) (λ c κs. search needs) (λ c. search needs) returns)

@@ -6,14 +6,8 @@ use Rattle.interface.specs.Progress.{end-number}
 use Rattle.interface.proofs.progress.known_end.Statement.{statement}
 use Rattle.interface.proofs.progress.known_end.Tie as tie
 
-end-of-requires : tie.Need-end-of-requires
-end-of-requires c κs = search needs
-
-end-number-requires : tie.Need-end-number-requires
-end-number-requires c κs = search needs
-
 returns : tie.Need-returns
 returns c = ap (λ n. eqb n (c .before .before .args .n)) (c .end-number .ensures ∙ ap end-number (c .before .end-of .ensures))
 
 pub known-end-spec : {M : Type 1} → statement M
-known-end-spec = tie.close (tie.spec end-of-requires end-number-requires returns)
+known-end-spec = tie.close (tie.spec (λ c κs. search needs) (λ c κs. search needs) returns)

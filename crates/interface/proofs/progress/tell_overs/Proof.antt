@@ -7,21 +7,6 @@ use Rattle.interface.proofs.Lists.{three-set}
 use Rattle.interface.proofs.progress.tell_overs.Statement.{statement}
 use Rattle.interface.proofs.progress.tell_overs.Tie as tie
 
-slice-write-told : tie.Need-slice-write-told
-slice-write-told c = search needs
-
-end-number-requires : tie.Need-end-number-requires
-end-number-requires c κs = search needs
-
-slice-write-told-2 : tie.Need-slice-write-told-2
-slice-write-told-2 c = search needs
-
-slice-write-told-3 : tie.Need-slice-write-told-3
-slice-write-told-3 c = search needs
-
-same-length : tie.Need-same-length
-same-length c = search needs
-
 returns : tie.Need-returns
 returns c =
     let s = c .before .before .before in
@@ -32,9 +17,9 @@ pub tell-overs-spec : {M : Type 1} → statement M
 tell-overs-spec =
     tie.close
     (tie.spec
-    slice-write-told
-    end-number-requires
-    slice-write-told-2
-    slice-write-told-3
-    same-length
+    (λ c. search needs)
+    (λ c κs. search needs)
+    (λ c. search needs)
+    (λ c. search needs)
+    (λ c. search needs)
     returns)

@@ -8,25 +8,11 @@ use borrow.Author.Needs.{needs}
 use Rattle.interface.proofs.results.tell.Statement.{statement}
 use Rattle.interface.proofs.results.tell.Tie as tie
 
-of-verdict-requires : tie.Need-of-verdict-requires
-of-verdict-requires c κs = search needs
-
-put-two-requires : tie.Need-put-two-requires
-put-two-requires c κs = search needs
-
-slice-write-decibels : tie.Need-slice-write-decibels
-slice-write-decibels c = search needs
-
-same-length : tie.Need-same-length
-same-length c = search needs
-
-same-length-2 : tie.Need-same-length-2
-same-length-2 c = search needs
-
 returns : tie.Need-returns
 returns c =
-    let s = c .before .before .before .before .before .before .before in
-    let v = c .before .before .before .before .of-verdict in
+    let at-of-verdict = c .before .before .before .before in
+    let s = at-of-verdict .before .before .before in
+    let v = at-of-verdict .of-verdict in
     let e : v .result ≡ report (decision (s .args .v)) = v .ensures in
     record {
       told = record { number = rw e; decibels = rw e (one-set (now (s .args .decibels)) _ (s .pre .1)) };
@@ -37,9 +23,9 @@ pub tell-spec : {M : Type 1} → statement M
 tell-spec =
     tie.close
     (tie.spec
-    of-verdict-requires
-    put-two-requires
-    slice-write-decibels
-    same-length
-    same-length-2
+    (λ c κs. search needs)
+    (λ c κs. search needs)
+    (λ c. search needs)
+    (λ c. search needs)
+    (λ c. search needs)
     returns)

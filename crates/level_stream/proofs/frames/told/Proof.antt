@@ -6,27 +6,6 @@ use Rattle.level_stream.proofs.Buffers.{accepted-lines, accepted-clips,
 use Rattle.level_stream.proofs.frames.told.Statement.{statement}
 use Rattle.level_stream.proofs.frames.told.Tie as tie
 
-one-frame-requires : tie.Need-one-frame-requires
-one-frame-requires c κs = search needs
-
-move-on-requires : tie.Need-move-on-requires
-move-on-requires c κs = search needs
-
-add-t22 : tie.Need-add-t22
-add-t22 c = search needs
-
-add-t23 : tie.Need-add-t23
-add-t23 c = search needs
-
-same-length : tie.Need-same-length
-same-length c = search needs
-
-same-length-2 : tie.Need-same-length-2
-same-length-2 c = search needs
-
-same-length-3 : tie.Need-same-length-3
-same-length-3 c = search needs
-
 -- the places before: where the frame is told, and the entry
 abbrev framed : tie.After-struct-known2 → tie.After-one-frame
 framed c = let moved = c .before .before .before .before in let passed = moved .before .before .before in passed .before .before .before
@@ -53,11 +32,11 @@ pub told-spec : {M : Type 1} → statement M
 told-spec =
     tie.close
     (tie.spec
-    one-frame-requires
-    move-on-requires
-    add-t22
-    add-t23
-    same-length
-    same-length-2
-    same-length-3
+    (λ c κs. search needs)
+    (λ c κs. search needs)
+    (λ c. search needs)
+    (λ c. search needs)
+    (λ c. search needs)
+    (λ c. search needs)
+    (λ c. search needs)
     returns)

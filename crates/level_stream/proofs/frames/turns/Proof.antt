@@ -20,35 +20,11 @@ Inv-loop conv size from to three₀ samples₀ text₀ end s₀ more₀ three sa
 abbrev μ-loop : tie.MeasureT-loop
 μ-loop conv size from to three₀ samples₀ text₀ end s₀ more₀ three samples text s more = more
 
-mul-end : tie.Need-mul-end Inv-loop μ-loop
-mul-end c = search needs
-
-sub-fill : tie.Need-sub-fill Inv-loop μ-loop
-sub-fill c = search needs
-
-part-fill-start : tie.Need-part-fill-start Inv-loop μ-loop
-part-fill-start c = search needs
-
-part-fill-end : tie.Need-part-fill-end Inv-loop μ-loop
-part-fill-end c = search needs
-
-fill-requires : tie.Need-fill-requires Inv-loop μ-loop
-fill-requires c κs = search needs
-
-none-requires : tie.Need-none-requires Inv-loop μ-loop
-none-requires c κs = search needs
-
 loop-holds : tie.Need-loop-holds Inv-loop μ-loop
 loop-holds c = (search needs, search needs, search needs, omega arith, omega arith, λ _. record { turns = []; led = record { came = omega arith; room = omega arith; frames = refl; clipped = refl; states = ap (replicate 6) (c .before .none .ensures) } })
 
 turn-requires : tie.Need-turn-requires Inv-loop μ-loop
 turn-requires c κs = ((omega arith, omega arith, omega (arith, eqb-true)), ((omega arith, omega arith), (search needs, search needs, search needs)))
-
-sub-more : tie.Need-sub-more Inv-loop μ-loop
-sub-more c = search needs
-
-loop-less : tie.Need-loop-less Inv-loop μ-loop
-loop-less c = search needs
 
 loop-again : tie.Need-loop-again Inv-loop μ-loop
 loop-again c = let turned = c .before .before .before .before .before in
@@ -65,38 +41,11 @@ ended c g few = let read = c .before .before .before .before in
     let s = read .before .before .before .before .before in
     all-told (s .args .conv) (s .args .size) _ (s .pre .1 .0) (s .pre .1 .1) (c .loop .inv .5 g) few
 
-same-length : tie.Need-same-length Inv-loop μ-loop
-same-length c = search needs
-
-same-length-2 : tie.Need-same-length-2 Inv-loop μ-loop
-same-length-2 c = search needs
-
-same-length-3 : tie.Need-same-length-3 Inv-loop μ-loop
-same-length-3 c = search needs
-
 returns : tie.Need-returns Inv-loop μ-loop
 returns c = ended (c .before .before .before .before)
 
-same-length-4 : tie.Need-same-length-4 Inv-loop μ-loop
-same-length-4 c = search needs
-
-same-length-5 : tie.Need-same-length-5 Inv-loop μ-loop
-same-length-5 c = search needs
-
-same-length-6 : tie.Need-same-length-6 Inv-loop μ-loop
-same-length-6 c = search needs
-
 returns-2 : tie.Need-returns-2 Inv-loop μ-loop
 returns-2 c = ended (c .before .before)
-
-same-length-7 : tie.Need-same-length-7 Inv-loop μ-loop
-same-length-7 c = search needs
-
-same-length-8 : tie.Need-same-length-8 Inv-loop μ-loop
-same-length-8 c = search needs
-
-same-length-9 : tie.Need-same-length-9 Inv-loop μ-loop
-same-length-9 c = search needs
 
 returns-3 : tie.Need-returns-3 Inv-loop μ-loop
 returns-3 c = ended (c .before)
@@ -107,26 +56,26 @@ turns-spec =
     (tie.spec
     Inv-loop
     μ-loop
-    mul-end
-    sub-fill
-    part-fill-start
-    part-fill-end
-    fill-requires
-    none-requires
+    (λ c. search needs)
+    (λ c. search needs)
+    (λ c. search needs)
+    (λ c. search needs)
+    (λ c κs. search needs)
+    (λ c κs. search needs)
     loop-holds
     turn-requires
-    sub-more
-    loop-less
+    (λ c. search needs)
+    (λ c. search needs)
     loop-again
-    same-length
-    same-length-2
-    same-length-3
+    (λ c. search needs)
+    (λ c. search needs)
+    (λ c. search needs)
     returns
-    same-length-4
-    same-length-5
-    same-length-6
+    (λ c. search needs)
+    (λ c. search needs)
+    (λ c. search needs)
     returns-2
-    same-length-7
-    same-length-8
-    same-length-9
+    (λ c. search needs)
+    (λ c. search needs)
+    (λ c. search needs)
     returns-3)

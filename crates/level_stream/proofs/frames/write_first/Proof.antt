@@ -9,11 +9,5 @@ use Rattle.level_stream.proofs.frames.write_first.Tie as tie
 slice-aggregate-written : tie.Need-slice-aggregate-written
 slice-aggregate-written c = sym (length-take-le (c .before .before .args .n) (now (c .before .before .args .text)) (c .before .before .pre))
 
-written-requires : tie.Need-written-requires
-written-requires c κs = search needs
-
-returns : tie.Need-returns
-returns c = search needs
-
 pub write-first-spec : {M : Type 1} → statement M
-write-first-spec = tie.close (tie.spec slice-aggregate-written written-requires returns)
+write-first-spec = tie.close (tie.spec slice-aggregate-written (λ c κs. search needs) (λ c. search needs))

@@ -24,7 +24,10 @@ asked s = known-flag (s .args .lent) && conversion-understood (the-settings s) (
 
 -- the entry, from the place of the test
 abbrev start : tie.After-both → tie.Start
-start c = c .before .before .before .before .before .before .before .before .before .before .before .before
+start c =
+    let past = c .before .before .before .before .before in
+    let past-past = past .before .before .before .before .before in
+    past-past .before .before
 
 -- what the test finds
 found : (c : tie.After-both) → c .both .result ≡ asked (start c)
@@ -38,47 +41,27 @@ fit c =
     let s = start (c .before) in
     lengths (the-settings s) (the-input s) (old s) (both-true (known-flag (s .args .lent)) _ (known c) .1)
 
-understood-requires : tie.Need-understood-requires
-understood-requires c κs = search needs
-
-known-flag-requires : tie.Need-known-flag-requires
-known-flag-requires c κs = search needs
-
-both-requires : tie.Need-both-requires
-both-requires c κs = search needs
-
 converter-requires : tie.Need-converter-requires
 converter-requires c κs = fit c .floats
 
-convert-desk-parts-requires : tie.Need-convert-desk-parts-requires
-convert-desk-parts-requires c κs = search needs
-
 tell-conversion-requires : tie.Need-tell-conversion-requires
 tell-conversion-requires c κs =
-    let l = fit (c .before .before .before .before .before .before .before .before .before .before .before) in
+    let past = c .before .before .before .before .before in
+    let past-past = past .before .before .before .before .before in
+    let l = fit (past-past .before) in
     (l .firsts, l .told)
-
-same-length : tie.Need-same-length
-same-length c = search needs
-
-same-length-2 : tie.Need-same-length-2
-same-length-2 c = search needs
-
-same-length-3 : tie.Need-same-length-3
-same-length-3 c = search needs
-
-same-length-4 : tie.Need-same-length-4
-same-length-4 c = search needs
-
-same-length-5 : tie.Need-same-length-5
-same-length-5 c = search needs
 
 returns : tie.Need-returns
 returns c =
-    let told = c .before .before .before .before .before .before .tell-conversion .ensures in
-    let made = c .before .before .before .before .before .before .before .before .before .before .before .before .before .before .convert-desk-parts in
-    worked (known (c .before .before .before .before .before .before .before .before .before .before .before .before .before .before .before .before .before .before))
-    (record { made = made .result; promise = rw (c .before .before .before .before .before .before .before .before .before .before .before .before .before .before .before .before .before .converter .ensures) at (made .ensures); told = told .0; counted = told .1 })
+    let past = c .before .before .before .before .before in
+    let at-tell-conversion = past .before in
+    let past-at-tell-conversion = at-tell-conversion .before .before .before .before .before in
+    let at-convert-desk-parts = past-at-tell-conversion .before .before .before in
+    let at-converter = at-convert-desk-parts .before .before .before in
+    let told = at-tell-conversion .tell-conversion .ensures in
+    let made = at-convert-desk-parts .convert-desk-parts in
+    worked (known (at-converter .before))
+    (record { made = made .result; promise = rw (at-converter .converter .ensures) at (made .ensures); told = told .0; counted = told .1 })
 
 returns-2 : tie.Need-returns-2
 returns-2 c =
@@ -89,16 +72,16 @@ pub puigneht-convert-desk-spec : {M : Type 1} → statement M
 puigneht-convert-desk-spec =
     tie.close
     (tie.spec
-    understood-requires
-    known-flag-requires
-    both-requires
+    (λ c κs. search needs)
+    (λ c κs. search needs)
+    (λ c κs. search needs)
     converter-requires
-    convert-desk-parts-requires
+    (λ c κs. search needs)
     tell-conversion-requires
-    same-length
-    same-length-2
-    same-length-3
-    same-length-4
-    same-length-5
+    (λ c. search needs)
+    (λ c. search needs)
+    (λ c. search needs)
+    (λ c. search needs)
+    (λ c. search needs)
     returns
     returns-2)

@@ -9,15 +9,6 @@ use Rattle.puigneht.proofs.Calls.{turned-away, worked}
 use Rattle.puigneht.proofs.files.puigneht_dsf_window.Statement.{statement}
 use Rattle.puigneht.proofs.files.puigneht_dsf_window.Tie as tie
 
-window-requires : tie.Need-window-requires
-window-requires c κs = search needs
-
-put-two-requires : tie.Need-put-two-requires
-put-two-requires c κs = search needs
-
-same-length : tie.Need-same-length
-same-length c = search needs
-
 returns : tie.Need-returns
 returns c =
     let put = c .before .before in
@@ -28,4 +19,4 @@ returns-2 : tie.Need-returns-2
 returns-2 c = turned-away (ne-eqb _ _ (c .if1 .left)) refl
 
 pub puigneht-dsf-window-spec : {M : Type 1} → statement M
-puigneht-dsf-window-spec = tie.close (tie.spec window-requires put-two-requires same-length returns returns-2)
+puigneht-dsf-window-spec = tie.close (tie.spec (λ c κs. search needs) (λ c κs. search needs) (λ c. search needs) returns returns-2)

@@ -23,26 +23,11 @@ start c = c .before .before .before
 found : (c : tie.After-both) → c .both .result ≡ asked (start c)
 found c = c .both .ensures ∙ ap (λ b. b && eqb (length (now (start c .args .told))) 3) (c .before .known-end .ensures)
 
-known-end-requires : tie.Need-known-end-requires
-known-end-requires c κs = search needs
-
-both-requires : tie.Need-both-requires
-both-requires c κs = search needs
-
-in-progress-requires : tie.Need-in-progress-requires
-in-progress-requires c κs = search needs
-
-overs-requires : tie.Need-overs-requires
-overs-requires c κs = search needs
-
 tell-overs-requires : tie.Need-tell-overs-requires
 tell-overs-requires c κs =
     let test = c .before .before .before in
     let s = start (test .before) in
     eqb-true (length (now (s .args .told))) 3 (both-true (known-end (s .args .end)) _ (sym (found (test .before)) ∙ test .if1 .taken) .1)
-
-same-length : tie.Need-same-length
-same-length c = search needs
 
 returns : tie.Need-returns
 returns c =
@@ -60,11 +45,11 @@ pub puigneht-overs-spec : {M : Type 1} → statement M
 puigneht-overs-spec =
     tie.close
     (tie.spec
-    known-end-requires
-    both-requires
-    in-progress-requires
-    overs-requires
+    (λ c κs. search needs)
+    (λ c κs. search needs)
+    (λ c κs. search needs)
+    (λ c κs. search needs)
     tell-overs-requires
-    same-length
+    (λ c. search needs)
     returns
     returns-2)

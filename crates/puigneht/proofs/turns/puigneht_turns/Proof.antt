@@ -23,24 +23,6 @@ found c =
     let s = start c in
     c .both2 .ensures ∙ ap (λ b. eqb (length (now (s .args .dues))) (length (now (s .args .frames))) && b) (c .before .both .ensures)
 
-both-requires : tie.Need-both-requires
-both-requires c κs = search needs
-
-both-requires-2 : tie.Need-both-requires-2
-both-requires-2 c κs = search needs
-
-simulate-requires : tie.Need-simulate-requires
-simulate-requires c κs = search needs
-
-of-verdict-requires : tie.Need-of-verdict-requires
-of-verdict-requires c κs = search needs
-
-same-length : tie.Need-same-length
-same-length c = search needs
-
-same-length-2 : tie.Need-same-length-2
-same-length-2 c = search needs
-
 returns : tie.Need-returns
 returns c =
     let made = c .before .before .before .before in
@@ -56,11 +38,11 @@ pub puigneht-turns-spec : {M : Type 1} → statement M
 puigneht-turns-spec =
     tie.close
     (tie.spec
-    both-requires
-    both-requires-2
-    simulate-requires
-    of-verdict-requires
-    same-length
-    same-length-2
+    (λ c κs. search needs)
+    (λ c κs. search needs)
+    (λ c κs. search needs)
+    (λ c κs. search needs)
+    (λ c. search needs)
+    (λ c. search needs)
     returns
     returns-2)

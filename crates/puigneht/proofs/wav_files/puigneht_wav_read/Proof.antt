@@ -18,17 +18,8 @@ understood c = c .before .before
 abbrev told : tie.After-slice-known2 → tie.After-tell-file
 told c = c .before .before
 
-read-requires : tie.Need-read-requires
-read-requires c κs = search needs
-
-samples-of-requires : tie.Need-samples-of-requires
-samples-of-requires c κs = search needs
-
 tell-file-requires : tie.Need-tell-file-requires
 tell-file-requires c κs = understood (c .before) .if1 .taken
-
-same-length : tie.Need-same-length
-same-length c = search needs
 
 returns : tie.Need-returns
 returns c =
@@ -46,9 +37,9 @@ pub puigneht-wav-read-spec : {M : Type 1} → statement M
 puigneht-wav-read-spec =
     tie.close
     (tie.spec
-    read-requires
-    samples-of-requires
+    (λ c κs. search needs)
+    (λ c κs. search needs)
     tell-file-requires
-    same-length
+    (λ c. search needs)
     returns
     returns-2)

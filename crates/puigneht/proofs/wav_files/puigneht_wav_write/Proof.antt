@@ -19,20 +19,8 @@ done c = c .before .before .before
 abbrev told : tie.After-put-two → tie.After-of-verdict
 told c = c .before .before
 
-written-requires : tie.Need-written-requires
-written-requires c κs = search needs
-
-of-verdict-requires : tie.Need-of-verdict-requires
-of-verdict-requires c κs = search needs
-
 put-two-requires : tie.Need-put-two-requires
 put-two-requires c κs = understood (done (c .before)) .if1 .taken
-
-same-length : tie.Need-same-length
-same-length c = search needs
-
-same-length-2 : tie.Need-same-length-2
-same-length-2 c = search needs
 
 returns : tie.Need-returns
 returns c =
@@ -54,10 +42,10 @@ pub puigneht-wav-write-spec : {M : Type 1} → statement M
 puigneht-wav-write-spec =
     tie.close
     (tie.spec
-    written-requires
-    of-verdict-requires
+    (λ c κs. search needs)
+    (λ c κs. search needs)
     put-two-requires
-    same-length
-    same-length-2
+    (λ c. search needs)
+    (λ c. search needs)
     returns
     returns-2)

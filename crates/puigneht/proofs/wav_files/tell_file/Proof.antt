@@ -11,36 +11,6 @@ use Rattle.puigneht.proofs.wav_files.tell_file.Tie as tie
 abbrev start : tie.After-slice-known → tie.Start
 start c = c .before
 
-enum-known-made : tie.Need-enum-known-made
-enum-known-made c = search needs
-
-hertz-requires : tie.Need-hertz-requires
-hertz-requires c κs = search needs
-
-slice-write-told : tie.Need-slice-write-told
-slice-write-told c = search needs
-
-cast-told : tie.Need-cast-told
-cast-told c = search needs
-
-slice-write-told-2 : tie.Need-slice-write-told-2
-slice-write-told-2 c = search needs
-
-slice-write-told-3 : tie.Need-slice-write-told-3
-slice-write-told-3 c = search needs
-
-slice-write-told-4 : tie.Need-slice-write-told-4
-slice-write-told-4 c = search needs
-
-enum-known-made-2 : tie.Need-enum-known-made-2
-enum-known-made-2 c = search needs
-
-of-error-requires : tie.Need-of-error-requires
-of-error-requires c κs = search needs
-
-same-length : tie.Need-same-length
-same-length c = search needs
-
 returns : tie.Need-returns
 returns c =
     let m = c .before .before .before in
@@ -54,15 +24,15 @@ pub tell-file-spec : {M : Type 1} → statement M
 tell-file-spec =
     tie.close
     (tie.spec
-    enum-known-made
-    hertz-requires
-    slice-write-told
-    cast-told
-    slice-write-told-2
-    slice-write-told-3
-    slice-write-told-4
-    enum-known-made-2
-    of-error-requires
-    same-length
+    (λ c. search needs)
+    (λ c κs. search needs)
+    (λ c. search needs)
+    (λ c. search needs)
+    (λ c. search needs)
+    (λ c. search needs)
+    (λ c. search needs)
+    (λ c. search needs)
+    (λ c κs. search needs)
+    (λ c. search needs)
     returns
     returns-2)

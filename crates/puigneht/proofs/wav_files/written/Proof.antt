@@ -19,18 +19,6 @@ known c = c .before .before
 number : (c : tie.After-hertz) → c .hertz .result ≡ codes.hertz (codes.rate-of (start (c .before) .args .rate))
 number c = c .hertz .ensures ∙ ap codes.hertz (c .before .rate-of .ensures)
 
-rate-of-requires : tie.Need-rate-of-requires
-rate-of-requires c κs = search needs
-
-hertz-requires : tie.Need-hertz-requires
-hertz-requires c κs = search needs
-
-write-requires : tie.Need-write-requires
-write-requires c κs = search needs
-
-same-length : tie.Need-same-length
-same-length c = search needs
-
 returns : tie.Need-returns
 returns c =
     let w = c .before .before in
@@ -49,9 +37,9 @@ pub written-spec : {M : Type 1} → statement M
 written-spec =
     tie.close
     (tie.spec
-    rate-of-requires
-    hertz-requires
-    write-requires
-    same-length
+    (λ c κs. search needs)
+    (λ c κs. search needs)
+    (λ c κs. search needs)
+    (λ c. search needs)
     returns
     returns-2)

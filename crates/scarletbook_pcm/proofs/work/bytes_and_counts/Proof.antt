@@ -11,58 +11,45 @@ use Rattle.scarletbook_pcm.proofs.Same.{slices-accepted, ran-bytes, ran
 use Rattle.scarletbook_pcm.proofs.work.bytes_and_counts.Statement.{statement}
 use Rattle.scarletbook_pcm.proofs.work.bytes_and_counts.Tie as tie
 
-cast-count : tie.Need-cast-count
-cast-count c = search needs
-
-mul-count : tie.Need-mul-count
-mul-count c = search needs
-
 div-count : tie.Need-div-count
-div-count c = omega (arith, some-channel (c .before .before .before .before .before .before .args .conv) (c .before .before .before .before .before .before .pre .0 .opens))
-
-present-requires : tie.Need-present-requires
-present-requires c κs = search needs
-
-present-requires-2 : tie.Need-present-requires-2
-present-requires-2 c κs = search needs
-
-array-borrow-prefix-items : tie.Need-array-borrow-prefix-items
-array-borrow-prefix-items c = search needs
-
-slice-aggregate-convert-slices : tie.Need-slice-aggregate-convert-slices
-slice-aggregate-convert-slices c = search needs
+div-count c =
+    let past = c .before .before .before .before .before in
+    let entry = past .before in
+    omega (arith, some-channel (entry .args .conv) (entry .pre .0 .opens))
 
 convert-slices-requires : tie.Need-convert-slices-requires
 unfolding frame-count all-samples channel-samples
-convert-slices-requires c κs = let s = c .before .before .before .before .before .before .before .before .before .before .before in
+convert-slices-requires c κs =
+    let at-struct-known = c .before .before .before .before .before in
+    let past-at-struct-known = at-struct-known .before .before .before .before .before in
+    let s = past-at-struct-known .before in
     let a = s .args in
-    rw (c .before .before .before .before .present .ensures, c .before .before .before .present2 .ensures) (slices-accepted (a .conv) (a .has-before) (now (a .before)) (now (a .frames)) (a .has-after) (now (a .after)) (s .pre .0) (c .before .before .before .before .before .struct-known .given .1 .1 .1 .0 .1 .0), (record { items = λ e. absurd (true≢false e); bytes = λ e. s .pre .1 .0 }, omega (arith, s .pre .1 .1)))
-
-same-length : tie.Need-same-length
-same-length c = search needs
-
-same-length-2 : tie.Need-same-length-2
-same-length-2 c = search needs
+    rw (c .before .before .before .before .present .ensures, c .before .before .before .present2 .ensures) (slices-accepted (a .conv) (a .has-before) (now (a .before)) (now (a .frames)) (a .has-after) (now (a .after)) (s .pre .0) (at-struct-known .struct-known .given .1 .1 .1 .0 .1 .0), (record { items = λ e. absurd (true≢false e); bytes = λ e. s .pre .1 .0 }, omega (arith, s .pre .1 .1)))
 
 returns : tie.Need-returns
 unfolding frame-count
-returns c = let s = c .before .before .before .before .before .before .before .before .before .before .before .before .before .before .before .before .before in
+returns c =
+    let at-convert-slices = c .before .before .before .before .before in
+    let at-present2 = at-convert-slices .before .before .before .before in
+    let at-present = at-present2 .before in
+    let past-at-present = at-present .before .before .before .before .before in
+    let s = past-at-present .before .before in
     let a = s .args in
-    let ran = rw (c .before .before .before .before .before .before .before .before .before .before .present .ensures, c .before .before .before .before .before .before .before .before .before .present2 .ensures) at (c .before .before .before .before .before .convert-slices .ensures) in
+    let ran = rw (at-present .present .ensures, at-present2 .present2 .ensures) at (at-convert-slices .convert-slices .ensures) in
     (ran-bytes (a .conv) (a .has-before) (now (a .before)) (now (a .frames)) (a .has-after) (now (a .after)) (s .pre .0) ran refl, (ran-stats (a .conv) (a .has-before) (now (a .before)) (now (a .frames)) (a .has-after) (now (a .after)) (s .pre .0) ran, ran-counts (a .conv) (a .has-before) (now (a .before)) (now (a .frames)) (a .has-after) (now (a .after)) (s .pre .0) ran (s .pre .1 .1)))
 
 pub bytes-and-counts-spec : {M : Type 1} → statement M
 bytes-and-counts-spec =
     tie.close
     (tie.spec
-    cast-count
-    mul-count
+    (λ c. search needs)
+    (λ c. search needs)
     div-count
-    present-requires
-    present-requires-2
-    array-borrow-prefix-items
-    slice-aggregate-convert-slices
+    (λ c κs. search needs)
+    (λ c κs. search needs)
+    (λ c. search needs)
+    (λ c. search needs)
     convert-slices-requires
-    same-length
-    same-length-2
+    (λ c. search needs)
+    (λ c. search needs)
     returns)

@@ -19,17 +19,8 @@ absent t l e = rw e
 returns : tie.Need-returns
 returns c = there _ _ (c .if1 .taken)
 
-sub-result : tie.Need-sub-result
-sub-result c = search needs
-
-part-result-start : tie.Need-part-result-start
-part-result-start c = search needs
-
-part-result-end : tie.Need-part-result-end
-part-result-end c = search needs
-
 returns-2 : tie.Need-returns-2
 returns-2 c = absent _ _ (c .before .if1 .left)
 
 pub present-spec : {M : Type 1} → statement M
-present-spec = tie.close (tie.spec returns sub-result part-result-start part-result-end returns-2)
+present-spec = tie.close (tie.spec returns (λ c. search needs) (λ c. search needs) (λ c. search needs) returns-2)

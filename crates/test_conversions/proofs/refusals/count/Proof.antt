@@ -13,9 +13,6 @@ Inv-loop question rows n₀ i₀ n i = (n ≤ i) × (i ≤ length rows / 9)
 abbrev μ-loop : tie.MeasureT-loop
 μ-loop question rows n₀ i₀ n i = length rows / 9 - i
 
-loop-holds : tie.Need-loop-holds Inv-loop μ-loop
-loop-holds c = search needs
-
 mul-right : tie.Need-mul-right Inv-loop μ-loop
 mul-right c = omega arith
 
@@ -37,9 +34,6 @@ part-right-start c = omega arith
 part-right-end : tie.Need-part-right-end Inv-loop μ-loop
 part-right-end c = omega arith
 
-right-requires : tie.Need-right-requires Inv-loop μ-loop
-right-requires c κs = search needs
-
 add-n : tie.Need-add-n Inv-loop μ-loop
 add-n c = omega arith
 
@@ -52,16 +46,13 @@ loop-less c = omega arith
 loop-again : tie.Need-loop-again Inv-loop μ-loop
 loop-again c = (⊎-elim (λ w. omega arith) (λ w. omega arith) (c .if1 .came), omega arith)
 
-returns : tie.Need-returns Inv-loop μ-loop
-returns c = search needs
-
 pub count-spec : {M : Type 1} → statement M
 count-spec =
     tie.close
     (tie.spec
     Inv-loop
     μ-loop
-    loop-holds
+    (λ c. search needs)
     mul-right
     mul-right-2
     add-right
@@ -69,9 +60,9 @@ count-spec =
     sub-right
     part-right-start
     part-right-end
-    right-requires
+    (λ c κs. search needs)
     add-n
     add-i
     loop-less
     loop-again
-    returns)
+    (λ c. search needs))

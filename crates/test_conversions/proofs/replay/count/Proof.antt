@@ -12,9 +12,6 @@ Inv-loop question rows headers all₀ yes₀ i₀ all yes' i = (all ≤ i) × (y
 abbrev μ-loop : tie.MeasureT-loop
 μ-loop question rows headers all₀ yes₀ i₀ all yes' i = length rows / 19 - i
 
-loop-holds : tie.Need-loop-holds Inv-loop μ-loop
-loop-holds c = search needs
-
 mul-tried : tie.Need-mul-tried Inv-loop μ-loop
 mul-tried c = omega arith
 
@@ -36,9 +33,6 @@ part-tried-start c = omega arith
 part-tried-end : tie.Need-part-tried-end Inv-loop μ-loop
 part-tried-end c = omega arith
 
-tried-requires : tie.Need-tried-requires Inv-loop μ-loop
-tried-requires c κs = search needs
-
 add-all : tie.Need-add-all Inv-loop μ-loop
 add-all c = omega arith
 
@@ -51,19 +45,13 @@ add-i c = omega arith
 loop-less : tie.Need-loop-less Inv-loop μ-loop
 loop-less c = omega arith
 
-loop-again : tie.Need-loop-again Inv-loop μ-loop
-loop-again c = search needs
-
-returns : tie.Need-returns Inv-loop μ-loop
-returns c = search needs
-
 pub count-spec : {M : Type 1} → statement M
 count-spec =
     tie.close
     (tie.spec
     Inv-loop
     μ-loop
-    loop-holds
+    (λ c. search needs)
     mul-tried
     mul-tried-2
     add-tried
@@ -71,10 +59,10 @@ count-spec =
     sub-tried
     part-tried-start
     part-tried-end
-    tried-requires
+    (λ c κs. search needs)
     add-all
     add-yes
     add-i
     loop-less
-    loop-again
-    returns)
+    (λ c. search needs)
+    (λ c. search needs))

@@ -6,20 +6,11 @@ use native.Mathlib.Nat.{mul-le-mul}
 use Rattle.test_conversions.proofs.row.times.Statement.{statement}
 use Rattle.test_conversions.proofs.row.times.Tie as tie
 
-returns : tie.Need-returns
-returns c = search needs
-
-returns-2 : tie.Need-returns-2
-returns-2 c = search needs
-
 below : (a b : ℕ) → a < 2 ^ 32 → b < 2 ^ 32 → a * b < 2 ^ 64
 below a b m n = let h : a * b ≤ 4294967295 * 4294967295 = mul-le-mul {n₂ = 4294967295} {m₂ = 4294967295} (omega arith) (omega arith) in omega arith
 
 mul-result : tie.Need-mul-result
 mul-result c = record { fits = below (c .before .before .args .a) (c .before .before .args .b) (omega arith) (omega arith) }
 
-returns-3 : tie.Need-returns-3
-returns-3 c = search needs
-
 pub times-spec : {M : Type 1} → statement M
-times-spec = tie.close (tie.spec returns returns-2 mul-result returns-3)
+times-spec = tie.close (tie.spec (λ c. search needs) (λ c. search needs) mul-result (λ c. search needs))

@@ -11,18 +11,6 @@ Inv-loop n part whole from yes₀ i₀ yes' i = (yes' ≤ i) × (i ≤ n)
 abbrev μ-loop : tie.MeasureT-loop
 μ-loop n part whole from yes₀ i₀ yes' i = n - i
 
-loop-holds : tie.Need-loop-holds Inv-loop μ-loop
-loop-holds c = search needs
-
-place-requires : tie.Need-place-requires Inv-loop μ-loop
-place-requires c κs = search needs
-
-bytes-same-requires : tie.Need-bytes-same-requires Inv-loop μ-loop
-bytes-same-requires c κs = search needs
-
-one-requires : tie.Need-one-requires Inv-loop μ-loop
-one-requires c κs = search needs
-
 add-yes : tie.Need-add-yes Inv-loop μ-loop
 add-yes c = omega arith
 
@@ -32,24 +20,18 @@ add-i c = omega arith
 loop-less : tie.Need-loop-less Inv-loop μ-loop
 loop-less c = omega arith
 
-loop-again : tie.Need-loop-again Inv-loop μ-loop
-loop-again c = search needs
-
-returns : tie.Need-returns Inv-loop μ-loop
-returns c = search needs
-
 pub bytes-spec : {M : Type 1} → statement M
 bytes-spec =
     tie.close
     (tie.spec
     Inv-loop
     μ-loop
-    loop-holds
-    place-requires
-    bytes-same-requires
-    one-requires
+    (λ c. search needs)
+    (λ c κs. search needs)
+    (λ c κs. search needs)
+    (λ c κs. search needs)
     add-yes
     add-i
     loop-less
-    loop-again
-    returns)
+    (λ c. search needs)
+    (λ c. search needs))

@@ -13,12 +13,6 @@ Inv-loop album place first last bytes₀ k₀ bytes k = length bytes ≡ length 
 abbrev μ-loop : tie.MeasureT-loop
 μ-loop album place first last bytes₀ k₀ bytes k = length bytes₀ - k
 
-loop-holds : tie.Need-loop-holds Inv-loop μ-loop
-loop-holds c = search needs
-
-part-byte-requires : tie.Need-part-byte-requires Inv-loop μ-loop
-part-byte-requires c κs = search needs
-
 slice-write-bytes : tie.Need-slice-write-bytes Inv-loop μ-loop
 slice-write-bytes c = omega arith
 
@@ -28,26 +22,17 @@ add-k c = omega arith
 loop-less : tie.Need-loop-less Inv-loop μ-loop
 loop-less c = omega arith
 
-loop-again : tie.Need-loop-again Inv-loop μ-loop
-loop-again c = search needs
-
-same-length : tie.Need-same-length Inv-loop μ-loop
-same-length c = search needs
-
-returns : tie.Need-returns Inv-loop μ-loop
-returns c = search needs
-
 pub part-spec : {M : Type 1} → statement M
 part-spec =
     tie.close
     (tie.spec
     Inv-loop
     μ-loop
-    loop-holds
-    part-byte-requires
+    (λ c. search needs)
+    (λ c κs. search needs)
     slice-write-bytes
     add-k
     loop-less
-    loop-again
-    same-length
-    returns)
+    (λ c. search needs)
+    (λ c. search needs)
+    (λ c. search needs))

@@ -14,14 +14,8 @@ abbrev μ-loop : tie.MeasureT-loop
 mul-from : tie.Need-mul-from Inv-loop μ-loop
 mul-from c = omega arith
 
-loop-holds : tie.Need-loop-holds Inv-loop μ-loop
-loop-holds c = search needs
-
 mul-if1 : tie.Need-mul-if1 Inv-loop μ-loop
 mul-if1 c = omega arith
-
-element-copy-out-if1 : tie.Need-element-copy-out-if1 Inv-loop μ-loop
-element-copy-out-if1 c = search needs
 
 add-if1 : tie.Need-add-if1 Inv-loop μ-loop
 add-if1 c = omega arith
@@ -29,23 +23,11 @@ add-if1 c = omega arith
 mul-if1-2 : tie.Need-mul-if1-2 Inv-loop μ-loop
 mul-if1-2 c = omega arith
 
-element-copy-out-if1-2 : tie.Need-element-copy-out-if1-2 Inv-loop μ-loop
-element-copy-out-if1-2 c = search needs
-
-returns : tie.Need-returns Inv-loop μ-loop
-returns c = search needs
-
 add-i : tie.Need-add-i Inv-loop μ-loop
 add-i c = omega arith
 
 loop-less : tie.Need-loop-less Inv-loop μ-loop
 loop-less c = omega arith
-
-loop-again : tie.Need-loop-again Inv-loop μ-loop
-loop-again c = search needs
-
-returns-2 : tie.Need-returns-2 Inv-loop μ-loop
-returns-2 c = search needs
 
 pub same-spec : {M : Type 1} → statement M
 same-spec =
@@ -54,14 +36,14 @@ same-spec =
     Inv-loop
     μ-loop
     mul-from
-    loop-holds
+    (λ c. search needs)
     mul-if1
-    element-copy-out-if1
+    (λ c. search needs)
     add-if1
     mul-if1-2
-    element-copy-out-if1-2
-    returns
+    (λ c. search needs)
+    (λ c. search needs)
     add-i
     loop-less
-    loop-again
-    returns-2)
+    (λ c. search needs)
+    (λ c. search needs))

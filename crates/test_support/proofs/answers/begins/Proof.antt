@@ -20,20 +20,8 @@ loop-holds : tie.Need-loop-holds Inv-loop μ-loop
 unfolding begins-as
 loop-holds c = (omega arith, refl)
 
-byte-requires : tie.Need-byte-requires Inv-loop μ-loop
-byte-requires c κs = search needs
-
-cast-both : tie.Need-cast-both Inv-loop μ-loop
-cast-both c = search needs
-
 add-at : tie.Need-add-at Inv-loop μ-loop
 add-at c = omega arith
-
-at-requires : tie.Need-at-requires Inv-loop μ-loop
-at-requires c κs = search needs
-
-both-requires : tie.Need-both-requires Inv-loop μ-loop
-both-requires c κs = search needs
 
 add-k : tie.Need-add-k Inv-loop μ-loop
 add-k c = omega arith
@@ -57,11 +45,11 @@ begins-spec =
     Inv-loop
     μ-loop
     loop-holds
-    byte-requires
-    cast-both
+    (λ c κs. search needs)
+    (λ c. search needs)
     add-at
-    at-requires
-    both-requires
+    (λ c κs. search needs)
+    (λ c κs. search needs)
     add-k
     loop-less
     loop-again

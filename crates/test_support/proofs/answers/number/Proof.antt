@@ -27,12 +27,6 @@ mul-byte c = omega arith
 add-byte : tie.Need-add-byte Inv-loop μ-loop
 add-byte c = omega arith
 
-byte-requires : tie.Need-byte-requires Inv-loop μ-loop
-byte-requires c κs = search needs
-
-digit-requires : tie.Need-digit-requires Inv-loop μ-loop
-digit-requires c κs = search needs
-
 add-n : tie.Need-add-n Inv-loop μ-loop
 add-n c = omega arith
 
@@ -59,8 +53,8 @@ number-spec =
     mul-n
     mul-byte
     add-byte
-    byte-requires
-    digit-requires
+    (λ c κs. search needs)
+    (λ c κs. search needs)
     add-n
     add-k
     loop-less

@@ -13,12 +13,6 @@ Inv-loop file₀ yes₀ k₀ file yes' k = (length file ≡ length file₀) × (
 abbrev μ-loop : tie.MeasureT-loop
 μ-loop file₀ yes₀ k₀ file yes' k = 44 - k
 
-loop-holds : tie.Need-loop-holds Inv-loop μ-loop
-loop-holds c = search needs
-
-refused-at-requires : tie.Need-refused-at-requires Inv-loop μ-loop
-refused-at-requires c κs = search needs
-
 add-yes : tie.Need-add-yes Inv-loop μ-loop
 add-yes c = omega arith
 
@@ -28,26 +22,17 @@ add-k c = omega arith
 loop-less : tie.Need-loop-less Inv-loop μ-loop
 loop-less c = omega arith
 
-loop-again : tie.Need-loop-again Inv-loop μ-loop
-loop-again c = search needs
-
-same-length : tie.Need-same-length Inv-loop μ-loop
-same-length c = search needs
-
-returns : tie.Need-returns Inv-loop μ-loop
-returns c = search needs
-
 pub header-refused-spec : {M : Type 1} → statement M
 header-refused-spec =
     tie.close
     (tie.spec
     Inv-loop
     μ-loop
-    loop-holds
-    refused-at-requires
+    (λ c. search needs)
+    (λ c κs. search needs)
     add-yes
     add-k
     loop-less
-    loop-again
-    same-length
-    returns)
+    (λ c. search needs)
+    (λ c. search needs)
+    (λ c. search needs))

@@ -11,15 +11,6 @@ Inv-loop question headers yes₀ i₀ yes' i = (i ≤ 24) × (yes' ≤ i)
 abbrev μ-loop : tie.MeasureT-loop
 μ-loop question headers yes₀ i₀ yes' i = 24 - i
 
-loop-holds : tie.Need-loop-holds Inv-loop μ-loop
-loop-holds c = search needs
-
-right-requires : tie.Need-right-requires Inv-loop μ-loop
-right-requires c κs = search needs
-
-one-requires : tie.Need-one-requires Inv-loop μ-loop
-one-requires c κs = search needs
-
 add-yes : tie.Need-add-yes Inv-loop μ-loop
 add-yes c = omega arith
 
@@ -29,23 +20,17 @@ add-i c = omega arith
 loop-less : tie.Need-loop-less Inv-loop μ-loop
 loop-less c = omega arith
 
-loop-again : tie.Need-loop-again Inv-loop μ-loop
-loop-again c = search needs
-
-returns : tie.Need-returns Inv-loop μ-loop
-returns c = search needs
-
 pub count-spec : {M : Type 1} → statement M
 count-spec =
     tie.close
     (tie.spec
     Inv-loop
     μ-loop
-    loop-holds
-    right-requires
-    one-requires
+    (λ c. search needs)
+    (λ c κs. search needs)
+    (λ c κs. search needs)
     add-yes
     add-i
     loop-less
-    loop-again
-    returns)
+    (λ c. search needs)
+    (λ c. search needs))

@@ -11,8 +11,8 @@ use mir.Val.{SFits}
 use mir.Facts.{toZ-ofZ}
 use borrow.Author.Needs.{needs}
 use Rattle.numbers.specs.Lists.{tabulate}
-use Rattle.report_lines.specs.Text.{joined, Printed}
-use Rattle.report_lines.proofs.Printing.{then}
+use Rattle.level_lines.specs.Text.{joined, Printed}
+use Rattle.level_lines.proofs.Printing.{then}
 use Rattle.turns_lines.specs.Lines.{album-line}
 use Rattle.turns_lines.specs.Steps.{lines-of}
 use Rattle.turns_lines.proofs.Told.{nothing, one-more}
@@ -32,29 +32,11 @@ abbrev μ-loop : tie.MeasureT-loop
 loop-holds : tie.Need-loop-holds Inv-loop μ-loop
 loop-holds c = let s = c .before .before in (omega arith, omega arith, s .pre .2, nothing _ (now (s .args .out)))
 
-mul-album-line : tie.Need-mul-album-line Inv-loop μ-loop
-mul-album-line c = search needs
-
-shared-slice-read-album-line : tie.Need-shared-slice-read-album-line Inv-loop μ-loop
-shared-slice-read-album-line c = search needs
-
-mul-album-line-2 : tie.Need-mul-album-line-2 Inv-loop μ-loop
-mul-album-line-2 c = search needs
-
-shared-slice-copy-out-album-line : tie.Need-shared-slice-copy-out-album-line Inv-loop μ-loop
-shared-slice-copy-out-album-line c = search needs
-
 album-line-requires : tie.Need-album-line-requires Inv-loop μ-loop
 album-line-requires c κs =
     let i = c .before .before .before in
     let s = i .before .before .before .before in
     omega (arith, i .before .loop .inv .1, i .before .loop .inv .2, i .loop-test .taken, s .pre .0)
-
-add-a : tie.Need-add-a Inv-loop μ-loop
-add-a c = search needs
-
-loop-less : tie.Need-loop-less Inv-loop μ-loop
-loop-less c = search needs
 
 loop-again : tie.Need-loop-again Inv-loop μ-loop
 loop-again c =
@@ -69,17 +51,11 @@ loop-again c =
       one-more (each (now (s .args .finishes)) (now (s .args .late))) (l .a) (l .inv .3) (rw (toZ-ofZ fits) at (p .album-line .ensures .0)),
     )
 
-latest-requires : tie.Need-latest-requires Inv-loop μ-loop
-latest-requires c κs = search needs
-
 latest-line-requires : tie.Need-latest-line-requires Inv-loop μ-loop
 latest-line-requires c κs =
     let n = c .before .before in
     let s = n .before .before .before .before in
     omega (arith, n .before .loop .inv .0, n .before .loop .inv .1, n .before .loop .inv .2, s .pre .0)
-
-same-length : tie.Need-same-length Inv-loop μ-loop
-same-length c = search needs
 
 returns : tie.Need-returns Inv-loop μ-loop
 unfolding lines-of
@@ -100,15 +76,15 @@ all-lines-spec =
     Inv-loop
     μ-loop
     loop-holds
-    mul-album-line
-    shared-slice-read-album-line
-    mul-album-line-2
-    shared-slice-copy-out-album-line
+    (λ c. search needs)
+    (λ c. search needs)
+    (λ c. search needs)
+    (λ c. search needs)
     album-line-requires
-    add-a
-    loop-less
+    (λ c. search needs)
+    (λ c. search needs)
     loop-again
-    latest-requires
+    (λ c κs. search needs)
     latest-line-requires
-    same-length
+    (λ c. search needs)
     returns)

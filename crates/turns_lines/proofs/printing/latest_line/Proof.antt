@@ -2,26 +2,11 @@
 use native.Mathlib.Omega.{arith}
 use mir.Facts.{toZ-ofZ}
 use borrow.Author.Needs.{needs}
-use Rattle.report_lines.specs.Text.{text, joined}
-use Rattle.report_lines.proofs.Printing.{then, line}
+use Rattle.level_lines.specs.Text.{text, joined}
+use Rattle.level_lines.proofs.Printing.{then, line}
 use Rattle.turns_lines.specs.Lines.{latest-line}
 use Rattle.turns_lines.proofs.printing.latest_line.Statement.{statement}
 use Rattle.turns_lines.proofs.printing.latest_line.Tie as tie
-
-slice-aggregate-labelled-signed : tie.Need-slice-aggregate-labelled-signed
-slice-aggregate-labelled-signed c = search needs
-
-labelled-signed-requires : tie.Need-labelled-signed-requires
-labelled-signed-requires c κs = search needs
-
-slice-aggregate-put : tie.Need-slice-aggregate-put
-slice-aggregate-put c = search needs
-
-put-requires : tie.Need-put-requires
-put-requires c κs = search needs
-
-same-length : tie.Need-same-length
-same-length c = search needs
 
 returns : tie.Need-returns
 unfolding latest-line joined text
@@ -36,9 +21,9 @@ pub latest-line-spec : {M : Type 1} → statement M
 latest-line-spec =
     tie.close
     (tie.spec
-    slice-aggregate-labelled-signed
-    labelled-signed-requires
-    slice-aggregate-put
-    put-requires
-    same-length
+    (λ c. search needs)
+    (λ c κs. search needs)
+    (λ c. search needs)
+    (λ c κs. search needs)
+    (λ c. search needs)
     returns)

@@ -40,36 +40,18 @@ field-requires c κs = (c .before .loop .inv .0, omega arith)
 field-requires-2 : tie.Need-field-requires-2 Inv-loop μ-loop
 field-requires-2 c κs = (c .field .ensures .within, omega arith)
 
-same-length : tie.Need-same-length Inv-loop μ-loop
-same-length c = search needs
-
-same-length-2 : tie.Need-same-length-2 Inv-loop μ-loop
-same-length-2 c = search needs
-
 returns : tie.Need-returns Inv-loop μ-loop
 returns c =
     let f = c .before .before in
     stops (turn f .loop .inv .4) (f .before .before .loop-test .taken) (f .before .field .ensures) (f .field2 .ensures) (λ p q. omega (arith, c .if1 .taken)) _ _
-
-same-length-3 : tie.Need-same-length-3 Inv-loop μ-loop
-same-length-3 c = search needs
-
-same-length-4 : tie.Need-same-length-4 Inv-loop μ-loop
-same-length-4 c = search needs
 
 returns-2 : tie.Need-returns-2 Inv-loop μ-loop
 returns-2 c =
     let f = c .before .before .before .before in
     stops (turn f .loop .inv .4) (f .before .before .loop-test .taken) (f .before .field .ensures) (f .field2 .ensures) (λ p q. omega (arith, c .if2 .taken)) _ _
 
-mul-frames : tie.Need-mul-frames Inv-loop μ-loop
-mul-frames c = search needs
-
 slice-write-frames : tie.Need-slice-write-frames Inv-loop μ-loop
 slice-write-frames c = omega (arith, room (fields c), turn (fields c) .loop .inv .2)
-
-mul-dues : tie.Need-mul-dues Inv-loop μ-loop
-mul-dues c = search needs
 
 slice-write-dues : tie.Need-slice-write-dues Inv-loop μ-loop
 slice-write-dues c = omega (arith, room (fields c), turn (fields c) .loop .inv .3)
@@ -97,12 +79,6 @@ loop-again c =
       goes-on (l .inv .4) (f .before .before .loop-test .taken) one two lf ld (omega (arith, room f, l .inv .2)) (omega (arith, room f, l .inv .3)),
     )
 
-same-length-5 : tie.Need-same-length-5 Inv-loop μ-loop
-same-length-5 c = search needs
-
-same-length-6 : tie.Need-same-length-6 Inv-loop μ-loop
-same-length-6 c = search needs
-
 returns-3 : tie.Need-returns-3 Inv-loop μ-loop
 returns-3 c =
     let l = c .before .loop in
@@ -117,19 +93,19 @@ albums-spec =
     loop-holds
     field-requires
     field-requires-2
-    same-length
-    same-length-2
+    (λ c. search needs)
+    (λ c. search needs)
     returns
-    same-length-3
-    same-length-4
+    (λ c. search needs)
+    (λ c. search needs)
     returns-2
-    mul-frames
+    (λ c. search needs)
     slice-write-frames
-    mul-dues
+    (λ c. search needs)
     slice-write-dues
     add-a
     loop-less
     loop-again
-    same-length-5
-    same-length-6
+    (λ c. search needs)
+    (λ c. search needs)
     returns-3)

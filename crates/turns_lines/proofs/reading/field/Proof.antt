@@ -5,9 +5,6 @@ use Rattle.turns_lines.proofs.Fields.{no-end, ended}
 use Rattle.turns_lines.proofs.reading.field.Statement.{statement}
 use Rattle.turns_lines.proofs.reading.field.Tie as tie
 
-end-at-requires : tie.Need-end-at-requires
-end-at-requires c κs = search needs
-
 sub-number : tie.Need-sub-number
 sub-number c = omega (arith, c .before .end-at .ensures .from)
 
@@ -16,12 +13,6 @@ part-number-start c = omega (arith, c .before .end-at .ensures .from)
 
 part-number-end : tie.Need-part-number-end
 part-number-end c = omega (arith, c .before .end-at .ensures .within)
-
-number-requires : tie.Need-number-requires
-number-requires c κs = search needs
-
-add-t9 : tie.Need-add-t9
-add-t9 c = search needs
 
 returns : tie.Need-returns
 returns c =
@@ -36,11 +27,11 @@ pub field-spec : {M : Type 1} → statement M
 field-spec =
     tie.close
     (tie.spec
-    end-at-requires
+    (λ c κs. search needs)
     sub-number
     part-number-start
     part-number-end
-    number-requires
-    add-t9
+    (λ c κs. search needs)
+    (λ c. search needs)
     returns
     returns-2)

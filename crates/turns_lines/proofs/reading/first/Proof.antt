@@ -11,11 +11,8 @@ returns c = no-digit (c .before .args .b) (λ d l e. omega arith)
 returns-2 : tie.Need-returns-2
 returns-2 c = no-digit (c .before .before .args .b) (λ d l e. omega arith)
 
-cast-result : tie.Need-cast-result
-cast-result c = search needs
-
 returns-3 : tie.Need-returns-3
 returns-3 c = digit _ _ (omega arith) (omega arith)
 
 pub first-spec : {M : Type 1} → statement M
-first-spec = tie.close (tie.spec returns returns-2 cast-result returns-3)
+first-spec = tie.close (tie.spec returns returns-2 (λ c. search needs) returns-3)

@@ -6,9 +6,6 @@ use Rattle.turns_lines.proofs.Digits as digits
 use Rattle.turns_lines.proofs.reading.more.Statement.{statement}
 use Rattle.turns_lines.proofs.reading.more.Tie as tie
 
-first-requires : tie.Need-first-requires
-first-requires c κs = search needs
-
 returns : tie.Need-returns
 returns c = λ t h r. digits.no-more h r (c .before .first .ensures) (λ l p q. omega arith)
 
@@ -18,18 +15,9 @@ returns-2 c = λ t h r. digits.no-more h r (c .before .before .first .ensures) (
 returns-3 : tie.Need-returns-3
 returns-3 c = λ t h r. digits.no-more h r (c .before .before .before .first .ensures) (λ l p q. omega arith)
 
-mul-cap : tie.Need-mul-cap
-mul-cap c = search needs
-
-add-cap : tie.Need-add-cap
-add-cap c = search needs
-
-cap-requires : tie.Need-cap-requires
-cap-requires c κs = search needs
-
 returns-4 : tie.Need-returns-4
 returns-4 c = λ t h r. rw (c .cap .ensures) (digits.more h r (c .before .before .before .before .first .ensures) (omega arith) (pos-of-ne-zero (c .before .before .if2 .left)) (omega arith))
 
 pub more-spec : {M : Type 1} → statement M
 more-spec =
-    tie.close (tie.spec first-requires returns returns-2 returns-3 mul-cap add-cap cap-requires returns-4)
+    tie.close (tie.spec (λ c κs. search needs) returns returns-2 returns-3 (λ c. search needs) (λ c. search needs) (λ c κs. search needs) returns-4)

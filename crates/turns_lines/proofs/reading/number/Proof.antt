@@ -24,9 +24,6 @@ returns c = empty (now (c .before .before .args .text)) (c .if1 .taken)
 shared-slice-read-first : tie.Need-shared-slice-read-first Inv-loop μ-loop
 shared-slice-read-first c = pos-of-ne-zero (c .before .if1 .left)
 
-first-requires : tie.Need-first-requires Inv-loop μ-loop
-first-requires c κs = search needs
-
 loop-holds : tie.Need-loop-holds Inv-loop μ-loop
 loop-holds c =
     let text = now (c .before .before .before .before .args .text) in
@@ -36,9 +33,6 @@ loop-holds c =
 shared-slice-read-more : tie.Need-shared-slice-read-more Inv-loop μ-loop
 shared-slice-read-more c = omega arith
 
-more-requires : tie.Need-more-requires Inv-loop μ-loop
-more-requires c κs = search needs
-
 add-k : tie.Need-add-k Inv-loop μ-loop
 add-k c = omega arith
 
@@ -47,16 +41,20 @@ loop-less c = omega arith
 
 loop-again : tie.Need-loop-again Inv-loop μ-loop
 loop-again c =
-    let l = c .before .before .before .loop in
-    let text = now (c .before .before .before .before .before .before .before .before .args .text) in
+    let at-loop = c .before .before .before in
+    let entry = at-loop .before .before .before .before .before in
+    let l = at-loop .loop in
+    let text = now (entry .args .text) in
     let in-text : l .k < length text = omega arith in
     let some : 0 < length (take (l .k) text) = rw (length-take-le (l .k) text (l .inv .1)) (l .inv .0) in
     (omega arith, omega arith, rw (add-one, take-suc text (l .k) 0 in-text) (c .more .ensures (take (l .k) text) some (l .inv .2)))
 
 returns-2 : tie.Need-returns-2 Inv-loop μ-loop
 returns-2 c =
-    let text = now (c .before .before .before .before .before .before .args .text) in
-    rw (take-all (c .before .loop .k) text (omega arith)) at (c .before .loop .inv .2)
+    let at-loop = c .before in
+    let entry = at-loop .before .before .before .before .before in
+    let text = now (entry .args .text) in
+    rw (take-all (at-loop .loop .k) text (omega arith)) at (at-loop .loop .inv .2)
 
 pub number-spec : {M : Type 1} → statement M
 number-spec =
@@ -66,10 +64,10 @@ number-spec =
     μ-loop
     returns
     shared-slice-read-first
-    first-requires
+    (λ c κs. search needs)
     loop-holds
     shared-slice-read-more
-    more-requires
+    (λ c κs. search needs)
     add-k
     loop-less
     loop-again

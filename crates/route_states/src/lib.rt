@@ -1,1 +1,0 @@
-// Routes and what the stage arrays hold between two blocks: definitions and laws, with no code.
