@@ -75,7 +75,8 @@ returns-2 c = so-far (c .before .before .before .before .before)
 loop-again : tie.Need-loop-again Inv-loop μ-loop
 loop-again c = let third = c .before .before in
     let l = third .before .before .before .loop in
-    let a = third .before .before .before .before .before .before .args in
+    let past-third = third .before .before .before .before .before in
+    let a = past-third .before .args in
     let f : SFits w32 (sample (denote.Ref.now (a .items)) (a .n) (a .c) (l .at + 2)) = record { sfits = third .before .end-of-arg .given } in
     let z : third .end-of .result ≡ end-of (sample (denote.Ref.now (a .items)) (a .n) (a .c) (l .at + 2)) = third .end-of .ensures ∙ ap end-of (toZ-ofZ f) in
     let quiet = sym z ∙ no-end _ (sym (c .before .same-end2 .ensures) ∙ c .if2 .left) in
