@@ -119,9 +119,6 @@ module _ (m n : ℕ) (few : m ≤ 116) (late : 1000 ≤ n) where
   margin-near Hz352800 Wide first = omega arith
 
   module _ (rate : PcmRate) (cutoff : Cutoff) (first : Bool) where
-    pub margin-byte-near : n < 2 ^ 50 → first-byte cutoff (margin-from rate cutoff m first n) < 2 ^ 62
-    margin-byte-near l = omega (arith, first-byte-near cutoff (margin-from rate cutoff m first n), margin-near rate cutoff first)
-
     -- the first byte of a block's values, and of the next one's
     abbrev pub block-byte : ℕ
     block-byte = first-byte cutoff (margin-from rate cutoff m first n + 2 * m)

@@ -85,7 +85,7 @@ module _ {ch count : ℕ} {b f a : List ℕ} (lent : Lent ch count b f a) where
   unfolding byte-at channel-byte
   held c q off m l =
       let e : (q * 4704 + off) * ch + c ≡ q * size + (off * ch + c) = omega arith in
-      rw e (in-frame q (off * ch + c) (digits-lt l m))
+      ap (λ (i : ℕ). getD (sequence ch (lent-run b f a)) i 0x69) e ∙ in-frame q (off * ch + c) (digits-lt l m)
 
   -- a part that is handed back is nothing or one frame
   pub part-length : (q : ℕ) {part : List ℕ} → part ≡ frame-part ch count b f a q → 0 < length part → length part ≡ frame-length ch

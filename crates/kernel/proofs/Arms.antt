@@ -12,11 +12,16 @@ use Rattle.reference.specs.declared.Cutoff.the-variants.{Standard, Low, Wide}
 use Rattle.reference.proofs.Cutoff as cutoffs
 use Rattle.reference.proofs.PcmRate as rates
 
-third : {A : Type 0} → OneOf (0 ∷ 1 ∷ []) 2 → A
+-- the third is neither
+pub third : {A : Type 0} → OneOf (0 ∷ 1 ∷ []) 2 → A
 third k = absurd (⊎-elim (λ (q : 2 ≡ 0). omega arith) (λ (q : 2 ≡ 1). omega arith) k)
 
+-- the cutoff is Standard or Low
+abbrev pub Narrow : Cutoff → Type 0
+Narrow cutoff = OneOf (0 ∷ 1 ∷ []) (tagOf cutoffs.the-type cutoff)
+
 -- what holds for either of them holds there
-pub in-narrow : {A : Type 0} (cutoff : Cutoff) → OneOf (0 ∷ 1 ∷ []) (tagOf cutoffs.the-type cutoff) → (cutoff ≡ Standard → A) → (cutoff ≡ Low → A) → A
+pub in-narrow : {A : Type 0} (cutoff : Cutoff) → Narrow cutoff → (cutoff ≡ Standard → A) → (cutoff ≡ Low → A) → A
 in-narrow Standard k f g = f refl
 in-narrow Low k f g = g refl
 in-narrow Wide k f g = third k

@@ -11,15 +11,17 @@ use lib.ListN.{length, getD, take, length-take, List·getD-append, List·getD-eq
 use lib.Seq.{getD-take}
 use Rattle.numbers.specs.Lists.{Held}
 use Rattle.numbers.proofs.Lists.{below-or, held-none}
-use Rattle.reference.specs.Taps.{S1-WIDE, F40, F80}
+use Rattle.reference.specs.Taps.{S1, S1-WIDE, F40, F80}
 use Rattle.reference.specs.Stages.{M, u, v, w, y-narrow, y-wide}
 use Rattle.reference.specs.declared.PcmRate.{PcmRate}
 use Rattle.reference.specs.declared.PcmRate.the-variants.{Hz88200, Hz176400, Hz352800}
 use Rattle.reference.specs.declared.Cutoff.{Cutoff}
 use Rattle.reference.specs.declared.Cutoff.the-variants.{Standard, Low, Wide}
 use Rattle.reference.proofs.Locality.{F40-last, F80-last}
-use Rattle.routes.specs.Routes.{LowPass, HalvedFilter, halves-of, LastFilter, lent-taps, Taps, SomeTaps, input, stride, around, first-byte, fresh, margin-from, block-length, y-of, Kept, State, Brought}
+use Rattle.routes.specs.Routes.{LowPass, HalvedFilter, halves-of, LastFilter, FirstTables, lent-taps, Taps, SomeTaps, input, stride, around, first-byte, fresh, margin-from, block-length, y-of, Kept, State, Brought}
+use Rattle.tables.specs.Tables.{ByteTables}
 use Rattle.routes.proofs.Filters.{halves-length}
+use Rattle.kernel.proofs.Arms.{third, Narrow}
 
 -- ---- parts
 
@@ -77,8 +79,7 @@ module _ {h : List ℤ} {bytes : List ℕ} {x kept x' kept' y : List ℤ} where
       let r = g F β n t m b s in
       (first-held (r .0) rest l, r .1)
 
-  -- Low goes by Standard's functions
-  pub as-low : (rate : PcmRate) (first : Bool) → Blocked rate Standard first h bytes x kept x' kept' y → Blocked rate Low first h bytes x kept x' kept' y
+  as-low : (rate : PcmRate) (first : Bool) → Blocked rate Standard first h bytes x kept x' kept' y → Blocked rate Low first h bytes x kept x' kept' y
   unfolding LastFilter lent-taps input stride around first-byte fresh margin-from block-length y-of Kept
   as-low Hz88200 first g F β n t m b s =
       let r = g F β n (record { last = t .last; lent = t .lent }) m b (record { margin = s .margin; w-kept = tt }) in
@@ -92,6 +93,11 @@ module _ {h : List ℤ} {bytes : List ℕ} {x kept x' kept' y : List ℤ} where
   as-low Hz352800 false g F β n t m b s =
       let r = g F β n (record { last = t .last; lent = t .lent }) m b (record { margin = s .margin; w-kept = s .w-kept }) in
       (r .0, record { margin = r .1 .margin; w-kept = r .1 .w-kept })
+
+  pub either-blocked : (rate : PcmRate) (cutoff : Cutoff) → Narrow cutoff → (first : Bool) → Blocked rate Standard first h bytes x kept x' kept' y → Blocked rate cutoff first h bytes x kept x' kept' y
+  either-blocked rate Standard k first g = g
+  either-blocked rate Low k first g = as-low rate first g
+  either-blocked rate Wide k first g = third k
 
   pub blocked-88 : (first : Bool)
       → ((F : List ℤ) (β : ℕ → ℕ) (n : ℕ) → LowPass F → h ≡ halves-of F → 1000 ≤ n → Held 0 β (2 * (2 * n + M F) - 19) 372 (take 372 bytes) → Held (pos 0) (v β) (2 * n - M F) (2 * M F) x
@@ -154,7 +160,25 @@ module _ {h : List ℤ} {bytes : List ℕ} {x kept x' kept' y : List ℤ} where
       let r = g β n m (placed (front-held b 347 (omega arith)) _ (omega arith)) (rw e at (s .margin)) in
       (r .0, record { margin = rw e (r .1); w-kept = tt })
 
--- ---- what the routes' functions ask
+-- ---- Standard and Low share an arm: what it is asked and what it gives is Standard's
+
+pub either-tables : (cutoff : Cutoff) → Narrow cutoff → {t : List ℤ} → FirstTables cutoff t → ByteTables S1 8 t
+unfolding FirstTables
+either-tables Standard k b = b
+either-tables Low k b = b
+either-tables Wide k b = third k
+
+pub either-fresh : (cutoff : Cutoff) → Narrow cutoff → (first : Bool) → fresh Hz352800 cutoff first ≡ fresh Hz352800 Standard first
+unfolding fresh
+either-fresh Standard k first = refl
+either-fresh Low k true = refl
+either-fresh Low k false = refl
+either-fresh Wide k first = third k
+
+pub fresh-few : (first : Bool) → (168 ≤ fresh Hz352800 Standard first) × (fresh Hz352800 Standard first ≤ 184)
+unfolding fresh
+fresh-few true = (lit≤ tt, lit≤ tt)
+fresh-few false = (lit≤ tt, lit≤ tt)
 
 lent-low : (rate : PcmRate) (F : List ℤ) → lent-taps rate Low F ≡ lent-taps rate Standard F
 unfolding lent-taps
@@ -163,9 +187,11 @@ lent-low Hz176400 F = refl
 lent-low Hz352800 F = refl
 
 module _ {h : List ℤ} where
-  pub standard-taps : (rate : PcmRate) → SomeTaps rate Low h → SomeTaps rate Standard h
+  pub either-taps : (rate : PcmRate) (cutoff : Cutoff) → Narrow cutoff → SomeTaps rate cutoff h → SomeTaps rate Standard h
   unfolding LastFilter
-  standard-taps rate t = record { F = t .F; taps = record { last = t .taps .last; lent = t .taps .lent ∙ lent-low rate (t .F) } }
+  either-taps rate Standard k t = t
+  either-taps rate Low k t = record { F = t .F; taps = record { last = t .taps .last; lent = t .taps .lent ∙ lent-low rate (t .F) } }
+  either-taps rate Wide k t = third k
 
   pub halved-taps : SomeTaps Hz88200 Standard h → HalvedFilter h
   unfolding LastFilter lent-taps
@@ -195,13 +221,3 @@ module _ {h : List ℤ} where
   pub wide-352 : SomeTaps Hz352800 Wide h → h ≡ F40
   unfolding LastFilter lent-taps
   wide-352 t = t .taps .lent ∙ t .taps .last
-
-pub fresh-low : (first : Bool) → fresh Hz352800 Low first ≡ fresh Hz352800 Standard first
-unfolding fresh
-fresh-low true = refl
-fresh-low false = refl
-
-pub fresh-few : (first : Bool) → (168 ≤ fresh Hz352800 Standard first) × (fresh Hz352800 Standard first ≤ 184)
-unfolding fresh
-fresh-few true = (lit≤ tt, lit≤ tt)
-fresh-few false = (lit≤ tt, lit≤ tt)

@@ -68,7 +68,7 @@ pub fn around(cutoff: Cutoff) -> usize
 // filter has taps up to place m.
 pub fn start(rate: PcmRate, cutoff: Cutoff, m: usize, n: usize) -> usize
     requires { ⌜ (m ≤ 116) × (1000 ≤ n) × (n < 1000000000000) × (n % 2 ≡ 0) ⌝ }
-    ensures { λ r. ⌜ r ≡ first-byte cutoff (margin-from rate cutoff m true n) ⌝ }
+    ensures { λ r. ⌜ (r ≡ first-byte cutoff (margin-from rate cutoff m true n)) × (r ≤ 4 * n) ⌝ }
 {
     match rate {
         PcmRate::Hz88200 => match cutoff {

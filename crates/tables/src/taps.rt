@@ -1,25 +1,5 @@
 // Taps from the centre outwards: place 0 is the centre tap, place k the taps at -k and +k.
 
-// Halfband at 352.8 kHz: passband 48 kHz, stopband from 128.4 kHz. Length 31, taps scaled by 2^24.
-pub const HB: [i32; 16] = [
-    8388608,
-    5235718,
-    0,
-    -1487952,
-    0,
-    644686,
-    0,
-    -277535,
-    0,
-    105711,
-    0,
-    -32783,
-    0,
-    7382,
-    0,
-    -923,
-];
-
 // Sharp filter at 176.4 kHz: passband 40 kHz, stopband from 48 kHz (also 80/96 kHz at 352.8 kHz). Length 121, taps scaled by 2^24.
 pub const F40: [i32; 61] = [
     8258102,

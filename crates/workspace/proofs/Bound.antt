@@ -1,30 +1,19 @@
 -- What is bound once a call: the taps in the front of their array, and what makes a run ready.
-use mathlib.Core.Path.{_≡_, _∙_, ap, ap₂}
+use mathlib.Core.Path.{_≡_, _∙_, ap₂}
 use mathlib.Core.List.{List, _++_, append-assoc}
-use Prim.Native.Nat.{ℕ, _+_, _-_, _*_, _/_, _≤_}
+use Prim.Native.Nat.{ℕ, _+_, _-_, _*_, _/_}
 use native.Mathlib.Omega.{arith}
 use borrow.Rule.Slice.PartMut.{putMid}
-use lib.IntN.{ℤ, pos}
+use lib.IntN.{ℤ}
 use lib.ListN.{length, take, length-append}
 use lib.Seq.{take-at}
 use Rattle.numbers.specs.Sums.{at0}
-use Rattle.numbers.proofs.Lists.{is-tabulate, length-tabulate}
-use Rattle.reference.specs.Stages.{tap}
 use Rattle.reference.specs.declared.Converter.{Converter}
-use Rattle.filters.specs.Filters.{even-taps, odd-taps, Filled}
+use Rattle.filters.specs.Filters.{Filled}
+use Rattle.filters.proofs.Signals.{is-even, is-odd}
 use Rattle.routes.specs.Routes.{FirstTables, last-taps, halves-of, lent-taps}
 use Rattle.blocks.specs.Blocks.{Ready}
 use Rattle.workspace.specs.Accepted.{Accepted}
-
--- every second tap of f
-module _ (f : List ℤ) {old new : List ℤ} where
-  even-is : Filled (λ k. at0 f (2 * k + 0)) old new → length old ≡ (length f + 1) / 2 → new ≡ even-taps f
-  unfolding even-taps
-  even-is g e = is-tabulate (λ k. tap f (2 * k)) 0 ((length f + 1) / 2) (pos 0) new (g .same ∙ e) (λ i l. g .is i (omega arith) ∙ ap (tap f) (omega arith))
-
-  odd-is : Filled (λ k. at0 f (2 * k + 1)) old new → length old ≡ length f / 2 → new ≡ odd-taps f
-  unfolding odd-taps
-  odd-is g e = is-tabulate (λ k. tap f (2 * k + 1)) 0 (length f / 2) (pos 0) new (g .same ∙ e) (λ i l. g .is i (omega arith) ∙ ap (tap f) (omega arith))
 
 -- the even ones, and then the odd ones after them
 pub halves-bound : (f rest : List ℤ) {old new old' new' : List ℤ} → Filled (λ k. at0 f (2 * k + 0)) old new → length old ≡ (length f + 1) / 2
@@ -35,7 +24,7 @@ halves-bound f rest {new = new} {new' = new'} g e g' e' =
     let long : length new ≡ (length f + 1) / 2 = g .same ∙ e in
     let long' : length new' ≡ length f / 2 = g' .same ∙ e' in
     rw (take-at new rest ((length f + 1) / 2) (omega arith), ← append-assoc)
-    (take-at (new ++ new') _ (length f) (omega (arith, length-append new new')) ∙ ap₂ (λ a b. a ++ b) (even-is f g e) (odd-is f g' e'))
+    (take-at (new ++ new') _ (length f) (omega (arith, length-append new new')) ∙ ap₂ (λ a b. a ++ b) (is-even f g e) (is-odd f g' e'))
 
 -- the taps F that are bound are the route's
 pub made-ready : {conv : Converter} {n : ℕ} {b f a : List ℕ} {tables taps : List ℤ} → Accepted conv n b f a → FirstTables (conv .cutoff) tables

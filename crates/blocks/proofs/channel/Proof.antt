@@ -17,7 +17,7 @@ use Rattle.channel_bytes.specs.Lent.{lent-run, byte-at}
 use Rattle.routes.specs.Routes.{last-taps, y-of, first-byte, margin-from, block-length}
 use Rattle.routes.proofs.Routes.{a-frame}
 use Rattle.blocks.specs.Blocks.{Made}
-use Rattle.blocks.proofs.Places.{next-block, some-taps, few-taps, margin-byte-near, margin-fits, block-fits}
+use Rattle.blocks.proofs.Places.{next-block, some-taps, few-taps, margin-fits, block-fits}
 use Rattle.blocks.proofs.Sums.{last-of, Sized, Smalls, Staged, Blocks, run-samples, even-frame, zeros-small, staged-begins, staged-gives, staged-near, blocks-none, blocks-more, room-items, room-bytes, room-same, values-small, block-made, made-drawn, made-fits}
 use Rattle.blocks.proofs.channel.Statement.{statement}
 use Rattle.blocks.proofs.channel.Tie as tie
@@ -38,15 +38,17 @@ known c = c .before .before
 abbrev entry : tie.After-slice-known Inv-loop μ-loop → tie.Start Inv-loop μ-loop
 entry c = c .before .before .before .before
 
--- the last place of the taps, and the frame's first sample, counted from the frame before the run
+-- the last place of the taps
 few : (c : tie.After-block-length Inv-loop μ-loop) → length (now (entry (known c) .args .taps)) - 1 ≤ 116
 few c = omega (arith, few-taps (entry (known c) .pre .0 .last))
 
-first-sample : (c : tie.After-block-length Inv-loop μ-loop) → let i = c .before .samples-per-frame .result + entry (known c) .args .n in (1000 ≤ i) × (i < 1000000000000) × (i % 2 ≡ 0)
-first-sample c =
+-- the samples of a frame, and the frame's first sample
+begins : (c : tie.After-block-length Inv-loop μ-loop) → let spf = c .before .samples-per-frame .result in let n = entry (known c) .args .n in
+    (1000 ≤ spf) × (spf ≤ 4704) × (spf % 2 ≡ 0) × (n ≤ 540000 * 4704) × (n % 2 ≡ 0)
+begins c =
     let s = entry (known c) in
-    let e = c .before .samples-per-frame .ensures .0 in
-    (omega (arith, e, a-frame (s .args .conv .rate)), omega (arith, e, s .pre .1 .1, run-samples (s .args .conv) (s .pre .0 .slices)), omega (arith, e, even-frame (s .args .conv .rate), s .pre .1 .3))
+    let e = c .before .samples-per-frame .ensures in
+    (omega (arith, e .0, a-frame (s .args .conv .rate)), e .1, rw (e .0) (even-frame (s .args .conv .rate)), omega (arith, s .pre .1 .1, run-samples (s .args .conv) (s .pre .0 .slices)), s .pre .1 .3)
 
 sub-last : tie.Need-sub-last Inv-loop μ-loop
 sub-last c = omega (arith, some-taps (entry (known c) .pre .0 .last))
@@ -55,18 +57,16 @@ mul-margin : tie.Need-mul-margin Inv-loop μ-loop
 mul-margin c = omega (arith, few c)
 
 add-start : tie.Need-add-start Inv-loop μ-loop
-add-start c = omega (arith, first-sample c)
+add-start c = omega (arith, begins c)
 
 start-requires : tie.Need-start-requires Inv-loop μ-loop
-start-requires c κs = let i = first-sample c in (few c, i .0, i .1, i .2)
+start-requires c κs = (few c, omega (arith, begins c), omega (arith, begins c), omega (arith, begins c))
 
 gather-requires : tie.Need-gather-requires Inv-loop μ-loop
 gather-requires c κs =
     let b = c .before .before in
     let s = entry (known b) in
-    let i = first-sample b in
-    let near = margin-byte-near (length (now (s .args .taps)) - 1) (b .before .samples-per-frame .result + s .args .n) (few b) (i .0) (s .args .conv .rate) (s .args .conv .cutoff) true (omega (arith, i .1)) in
-    (s .pre .0 .slices, (omega (arith, s .pre .1 .0), omega (arith, c .before .start .ensures, near), omega (arith, few b), margin-fits (s .args .conv .cutoff) (length (now (s .args .taps)) - 1) (few b)))
+    (s .pre .0 .slices, (omega (arith, s .pre .1 .0), omega (arith, c .before .start .ensures .1, begins b), omega (arith, few b), margin-fits (s .args .conv .cutoff) (length (now (s .args .taps)) - 1) (few b)))
 
 -- the margin's bytes are there
 abbrev begun : tie.After-x Inv-loop μ-loop → tie.After-gather Inv-loop μ-loop
@@ -88,8 +88,9 @@ loop-holds c =
     let b = numbers g in
     let s = entry (known b) in
     let conv = s .args .conv in
+    let β = byte-at (conv .channels) (now (s .args .before)) (now (s .args .frames)) (now (s .args .after)) (s .args .channel) in
     let last = length (now (s .args .taps)) - 1 in
-    let from = g .before .before .start .ensures ∙ ap (λ z. first-byte (conv .cutoff) (margin-from (conv .rate) (conv .cutoff) last true (z + s .args .n))) (b .before .samples-per-frame .ensures .0) in (
+    let from = g .before .before .start .ensures .0 ∙ ap (λ z. first-byte (conv .cutoff) (margin-from (conv .rate) (conv .cutoff) last true (z + s .args .n))) (b .before .samples-per-frame .ensures .0) in (
       record {
         of-bytes = g .gather .kept .1 .1 .1 .1 .1 .1 .1 .0;
         of-odd = m .margin .kept .1 .1 .1 .1 .0;
@@ -99,7 +100,7 @@ loop-holds c =
         of-samples = refl;
       },
       record { x-small = m .margin .ensures .0; kept-small = zeros-small 184 },
-      blocks-none (staged-begins (s .pre .0) _ (s .args .n) last refl (s .pre .1 .3) from (g .gather .ensures .0) (g .gather .ensures .1) (m .margin .ensures .1)) (c .no-tally .ensures),
+      blocks-none (staged-begins (s .pre .0) β (s .args .n) last refl (s .pre .1 .3) from (g .gather .ensures .0) (g .gather .ensures .1) (m .margin .ensures .1)) (c .no-tally .ensures),
     )
 
 -- ---- in the loop

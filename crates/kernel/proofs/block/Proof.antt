@@ -5,73 +5,59 @@ use native.Mathlib.Omega.{arith}
 use borrow.Author.Needs.{needs}
 use denote.Ref.{now}
 use Rattle.reference.specs.declared.PcmRate.the-variants.{Hz88200, Hz176400, Hz352800}
-use Rattle.reference.specs.declared.Cutoff.the-variants.{Standard, Low, Wide}
-use Rattle.routes.specs.Routes.{LastFilter, FirstTables, lent-taps, fresh, block-length}
+use Rattle.reference.specs.declared.Cutoff.the-variants.{Standard, Wide}
+use Rattle.routes.specs.Routes.{FirstTables, fresh, block-length}
 use Rattle.routes.proofs.Arrays.{part-length}
-use Rattle.kernel.proofs.Arms.{in-narrow}
-use Rattle.kernel.proofs.Blocks.{blocked-front, as-low, blocked-88, blocked-176, blocked-352, blocked-wide176, blocked-wide352, no-wide-88, wide-176, wide-352, standard-taps, halved-taps, plain-176, plain-352, fresh-low, fresh-few}
+use Rattle.kernel.proofs.Blocks.{blocked-front, blocked-88, blocked-176, blocked-352, blocked-wide176, blocked-wide352, either-tables, either-fresh, either-taps, either-blocked, fresh-few, halved-taps, plain-176, plain-352, no-wide-88, wide-176, wide-352}
 use Rattle.kernel.proofs.block.Statement.{statement}
 use Rattle.kernel.proofs.block.Tie as tie
 
+-- ---- Standard and Low
+
 narrow88-requires : tie.Need-narrow88-requires
-unfolding FirstTables
 narrow88-requires c κs =
     let t = c .before .before .before .before in
     let m = t .before .before in
     let s = m .before .before in
-    let cutoff = s .args .cutoff in
-    let taps = rw (t .enum-told .given .1) at (s .pre .1 .0) in
+    let taps = either-taps Hz88200 (s .args .cutoff) (m .match .keys1) (rw (t .enum-told .given .1) at (s .pre .1 .0)) in
     let l = s .pre .1 .1 .0 in (
-      in-narrow cutoff (m .match .keys1) (λ e. rw e at (s .pre .0)) (λ e. rw e at (s .pre .0)),
-      (
-        in-narrow cutoff (m .match .keys1) (λ e. halved-taps (rw e at taps)) (λ e. halved-taps (standard-taps Hz88200 (rw e at taps))),
-        ((part-length 0 372 (now (s .args .bytes)) (omega arith), l .1, l .2, part-length 0 84 (now (s .args .y)) (omega arith)), s .pre .1 .1 .1 .0),
-      ),
+      either-tables (s .args .cutoff) (m .match .keys1) (s .pre .0),
+      (halved-taps taps, ((part-length 0 372 (now (s .args .bytes)) (omega arith), l .1, l .2, part-length 0 84 (now (s .args .y)) (omega arith)), s .pre .1 .1 .1 .0)),
     )
 
 narrow176-requires : tie.Need-narrow176-requires
-unfolding FirstTables
 narrow176-requires c κs =
     let t = c .before .before .before .before in
     let m = t .before .before in
     let s = m .before .before in
-    let cutoff = s .args .cutoff in
-    let taps = rw (t .enum-told2 .given .1) at (s .pre .1 .0) in
+    let taps = either-taps Hz176400 (s .args .cutoff) (m .match .keys1) (rw (t .enum-told2 .given .1) at (s .pre .1 .0)) in
     let l = s .pre .1 .1 .0 in (
-      in-narrow cutoff (m .match .keys1) (λ e. rw e at (s .pre .0)) (λ e. rw e at (s .pre .0)),
-      (
-        in-narrow cutoff (m .match .keys1) (λ e. plain-176 (rw e at taps)) (λ e. plain-176 (standard-taps Hz176400 (rw e at taps))),
-        ((part-length 0 372 (now (s .args .bytes)) (omega arith), l .1, l .2, part-length 0 168 (now (s .args .y)) (omega arith)), s .pre .1 .1 .1 .0),
-      ),
+      either-tables (s .args .cutoff) (m .match .keys1) (s .pre .0),
+      (plain-176 taps, ((part-length 0 372 (now (s .args .bytes)) (omega arith), l .1, l .2, part-length 0 168 (now (s .args .y)) (omega arith)), s .pre .1 .1 .1 .0)),
     )
 
 -- at 352,800 k values of w are new
 new-values : (c : tie.After-fresh) → c .fresh .result ≡ fresh Hz352800 Standard (c .before .before .before .before .before .args .first)
 new-values c =
     let m = c .before .before .before in
-    let e = rw (c .before .enum-told3 .given .1) at (c .fresh .ensures .0) in
-    in-narrow (m .before .before .args .cutoff) (m .match .keys1) (λ q. rw q at e) (λ q. (rw q at e) ∙ fresh-low (m .before .before .args .first))
+    let a = m .before .before .args in
+    (rw (c .before .enum-told3 .given .1) at (c .fresh .ensures .0)) ∙ either-fresh (a .cutoff) (m .match .keys1) (a .first)
 
 part-narrow352-end : tie.Need-part-narrow352-end
 part-narrow352-end c = omega (arith, new-values c, fresh-few (c .before .before .before .before .before .args .first))
 
 narrow352-requires : tie.Need-narrow352-requires
-unfolding FirstTables
 narrow352-requires c κs =
     let f = c .before .before .before .before .before in
     let t = f .before in
     let m = t .before .before in
     let s = m .before .before in
-    let cutoff = s .args .cutoff in
-    let taps = rw (t .enum-told3 .given .1) at (s .pre .1 .0) in
+    let taps = either-taps Hz352800 (s .args .cutoff) (m .match .keys1) (rw (t .enum-told3 .given .1) at (s .pre .1 .0)) in
     let l = s .pre .1 .1 .0 in
     let k = f .fresh .result in
     let few : (168 ≤ k) × (k ≤ 184) = rw (new-values f) (fresh-few (s .args .first)) in (
-      in-narrow cutoff (m .match .keys1) (λ e. rw e at (s .pre .0)) (λ e. rw e at (s .pre .0)),
-      (
-        in-narrow cutoff (m .match .keys1) (λ e. plain-352 (rw e at taps)) (λ e. plain-352 (standard-taps Hz352800 (rw e at taps))),
-        ((few .0, few .1, part-length 0 (2 * k + 36) (now (s .args .bytes)) (omega arith) ∙ omega arith, l .1, l .2, l .3, l .4), (s .pre .1 .1 .1 .0, s .pre .1 .1 .1 .1)),
-      ),
+      either-tables (s .args .cutoff) (m .match .keys1) (s .pre .0),
+      (plain-352 taps, ((few .0, few .1, part-length 0 (2 * k + 36) (now (s .args .bytes)) (omega arith) ∙ omega arith, l .1, l .2, l .3, l .4), (s .pre .1 .1 .1 .0, s .pre .1 .1 .1 .1))),
     )
 
 returns : tie.Need-returns
@@ -81,17 +67,10 @@ returns c =
     let t = n .before .before .before .before .before in
     let m = t .before .before in
     let s = m .before .before in
+    let first = s .args .first in
     let g = n .narrow88 in
-    let gives = blocked-88 (s .args .first) (g .ensures .1) in
-    let long = g .kept .1 .1 .1 .1 .1 .0 ∙ part-length 0 84 (now (s .args .y)) (omega arith) in (
-      g .ensures .0,
-      (
-        s .pre .1 .1 .1 .1,
-        rw (t .enum-told .given .1) (in-narrow (s .args .cutoff) (m .match .keys1)
-            (λ e. rw e (blocked-front Hz88200 Standard (s .args .first) _ (omega (arith, long)) gives))
-            (λ e. rw e (blocked-front Hz88200 Low (s .args .first) _ (omega (arith, long)) (as-low Hz88200 (s .args .first) gives)))),
-      ),
-    )
+    let long = g .kept .1 .1 .1 .1 .1 .0 ∙ part-length 0 84 (now (s .args .y)) (omega arith) in
+    (g .ensures .0, (s .pre .1 .1 .1 .1, rw (t .enum-told .given .1) (either-blocked Hz88200 (s .args .cutoff) (m .match .keys1) first (blocked-front Hz88200 Standard first _ (omega (arith, long)) (blocked-88 first (g .ensures .1))))))
 
 returns-2 : tie.Need-returns-2
 unfolding block-length
@@ -100,29 +79,22 @@ returns-2 c =
     let t = n .before .before .before .before .before in
     let m = t .before .before in
     let s = m .before .before in
+    let first = s .args .first in
     let g = n .narrow176 in
-    let gives = blocked-176 (s .args .first) (g .ensures .1) in
-    let long = g .kept .1 .1 .1 .1 .1 .0 ∙ part-length 0 168 (now (s .args .y)) (omega arith) in (
-      g .ensures .0,
-      (
-        s .pre .1 .1 .1 .1,
-        rw (t .enum-told2 .given .1) (in-narrow (s .args .cutoff) (m .match .keys1)
-            (λ e. rw e (blocked-front Hz176400 Standard (s .args .first) _ (omega (arith, long)) gives))
-            (λ e. rw e (blocked-front Hz176400 Low (s .args .first) _ (omega (arith, long)) (as-low Hz176400 (s .args .first) gives)))),
-      ),
-    )
+    let long = g .kept .1 .1 .1 .1 .1 .0 ∙ part-length 0 168 (now (s .args .y)) (omega arith) in
+    (g .ensures .0, (s .pre .1 .1 .1 .1, rw (t .enum-told2 .given .1) (either-blocked Hz176400 (s .args .cutoff) (m .match .keys1) first (blocked-front Hz176400 Standard first _ (omega (arith, long)) (blocked-176 first (g .ensures .1))))))
 
 returns-3 : tie.Need-returns-3
 returns-3 c =
     let n = c .before .before .before .before in
-    let past-f = n .before .before .before .before .before in
-    let f = past-f .before in
-    let t = f .before in
+    let f = n .before .before .before .before .before in
+    let k = f .before in
+    let t = k .before in
     let m = t .before .before in
     let s = m .before .before in
+    let first = s .args .first in
     let g = n .narrow352 .ensures in
-    let gives = blocked-352 (s .args .first) (f .fresh .result) (new-values f) (g .1 .1) in
-    (g .0, (g .1 .0, rw (t .enum-told3 .given .1) (in-narrow (s .args .cutoff) (m .match .keys1) (λ e. rw e gives) (λ e. rw e (as-low Hz352800 (s .args .first) gives)))))
+    (g .0, (g .1 .0, rw (t .enum-told3 .given .1) (either-blocked Hz352800 (s .args .cutoff) (m .match .keys1) first (blocked-352 first (k .fresh .result) (new-values k) (g .1 .1)))))
 
 -- ---- Wide
 returns-4 : tie.Need-returns-4

@@ -10,20 +10,19 @@ use Rattle.routes.proofs.Arrays.{part-length}
 use Rattle.stages.proofs.Arrays.{wide-held, wide-small}
 use Rattle.stages.proofs.Smalls.{small-put}
 use Rattle.kernel.proofs.Arms.{in-narrow}
-use Rattle.kernel.proofs.Blocks.{front-held, first-held, part-bytes, Margined}
+use Rattle.kernel.proofs.Blocks.{front-held, first-held, part-bytes, Margined, either-tables}
 use Rattle.kernel.proofs.margin.Statement.{statement}
 use Rattle.kernel.proofs.margin.Tie as tie
 
 -- ---- Standard and Low
 
 half-band-requires : tie.Need-half-band-requires
-unfolding FirstTables
 half-band-requires c κs =
     let m = c .before .before .before in
     let s = m .before .before in
     let n = s .args .n in
     let long = part-length 0 n (now (s .args .x)) (omega arith) in (
-      in-narrow (s .args .cutoff) (m .match .keys1) (λ e. rw e at (s .pre .0)) (λ e. rw e at (s .pre .0)),
+      either-tables (s .args .cutoff) (m .match .keys1) (s .pre .0),
       (
         omega (arith, long),
         omega (arith, long, part-length 0 (n + 15) (now (s .args .odd)) (omega arith)),
