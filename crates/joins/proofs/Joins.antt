@@ -13,7 +13,8 @@ use Rattle.numbers.proofs.Lists.{getD-tabulate, tabulate-join, total-join}
 use Rattle.reference.specs.Frames.{Run, frame-length, frame-count, sequence}
 use Rattle.reference.specs.Output.{samples-per-frame, clipped, item, channel-samples, all-samples, samples, channel-clips, stats, frame-clips, per-frame-clips}
 use Rattle.reference.specs.Refusals.{rack, accepted, decide, decision, is-accepted, held-places, input-places, byte-lengths, run-lengths, convert-places, convert-run-places}
-use Rattle.reference.specs.Promises.{if-lent, no-clips}
+use Rattle.reference.specs.Promises.{if-lent}
+use Rattle.reference.specs.Statistics.{no-stats}
 use Rattle.reference.specs.declared.Converter.{Converter}
 use Rattle.reference.specs.declared.ConvertStats.{ConvertStats}
 use Rattle.reference.specs.declared.Limit.{Limit}
@@ -85,7 +86,7 @@ module _ (conv : Converter) (opens : decide (held-places conv) ≡ accepted) whe
   unfolding is-answered-accepted right-lengths
   accepted-right call = ap is-accepted (answered call)
 
-  left : (call : Call conv) → is-accepted (decide (lengths call)) ≡ false → Unchanged call × (answer-of call .stats ≡ no-clips)
+  left : (call : Call conv) → is-accepted (decide (lengths call)) ≡ false → Unchanged call × (answer-of call .stats ≡ no-stats)
   left (convert c) e =
       let no = ap is-accepted (convert-skip c) ∙ e in
       ((c .promise .written ∙ exit-refused _ _ _ no, c .promise .per-frame ∙ exit-refused _ _ _ no), c .promise .answered .counted ∙ exit-refused _ _ _ no)

@@ -11,7 +11,8 @@ use Rattle.reference.specs.Frames.{Run, frame-bytes, frame-count, frame, before
 use Rattle.reference.specs.Stages.{reach}
 use Rattle.reference.specs.Output.{samples, channel-clips, per-frame-clips}
 use Rattle.reference.specs.Refusals.{rack, accepted, Place, decide, decision, is-accepted, held-places, input-places, byte-lengths, run-lengths}
-use Rattle.reference.specs.Promises.{BytesPromise, ConvertRunPromise, no-clips}
+use Rattle.reference.specs.Promises.{BytesPromise, ConvertRunPromise}
+use Rattle.reference.specs.Statistics.{no-stats}
 use Rattle.reference.specs.declared.Converter.{Converter}
 use Rattle.reference.specs.declared.Converted.{Converted}
 use Rattle.reference.specs.declared.Limit.{Limit}
@@ -138,7 +139,7 @@ pub record Decided {conv : Converter} (call : Call conv) : Type 0 where
   pub right : right-lengths call ≡ true → is-answered-accepted call ≡ true
   pub wrong : right-lengths call ≡ false → is-answered-accepted call ≡ false
   pub unchanged : right-lengths call ≡ false → Unchanged call
-  pub uncounted : right-lengths call ≡ false → answer-of call .stats ≡ no-clips
+  pub uncounted : right-lengths call ≡ false → answer-of call .stats ≡ no-stats
 
 -- n₀ + n₁ + …
 unfoldable pub add-up : List ℕ → ℕ

@@ -14,3 +14,7 @@ greater x y = cond (ltZ x y) y x
 unfoldable pub picked : (ℤ → ℤ → ℤ) → ℤ → (ℕ → ℤ) → ℕ → ℕ → ℤ
 picked pick start f a zero = start
 picked pick start f a (suc n) = pick (picked pick start f a n) (f (a + n))
+
+-- what is picked of f a, …, f (a + n - 1); of no numbers, f a
+abbrev pub extreme : (ℤ → ℤ → ℤ) → (ℕ → ℤ) → ℕ → ℕ → ℤ
+extreme pick f a n = picked pick (f a) f a n

@@ -69,9 +69,13 @@ pub fn converter_of(settings: Settings) -> Converter
     }
 }
 
-// Samples that the clamp changed, by channel; an unused channel has 0.
+// What a conversion tells of its samples, by channel: how many the clamp changed, the lowest and the highest number before the clamp, and whether
+// the channel has no samples. Then all its numbers are 0.
 pub struct ConvertStats {
     pub clipped: [u64; 6],
+    pub lowest: [i64; 6],
+    pub highest: [i64; 6],
+    pub empty: [bool; 6],
 }
 
 // Whose limit of frames a call has: the rack's, or the listening desk's.

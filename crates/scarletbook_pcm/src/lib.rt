@@ -3,7 +3,8 @@ ghost use mathlib.Core.Path.{_≡_};
 ghost use Rattle.reference.specs.Frames.{run};
 ghost use Rattle.reference.specs.Output as output;
 ghost use Rattle.reference.specs.Stages.{reach};
-ghost use Rattle.reference.specs.Promises.{OpeningPromise, no-clips, ConvertRunPromise, ConvertFramePromise, BytesPromise, ConvertPromise, DeskPromise, PackPromise};
+ghost use Rattle.reference.specs.Promises.{OpeningPromise, ConvertRunPromise, ConvertFramePromise, BytesPromise, ConvertPromise, DeskPromise, PackPromise};
+ghost use Rattle.reference.specs.Statistics.{no-stats};
 use reference::ConvertStats;
 use reference::Converted;
 use reference::Converter;
@@ -68,7 +69,7 @@ pub fn open(settings: Settings) -> Opened
 }
 
 fn nothing_counted() -> ConvertStats
-    ensures { λ r. ⌜ r ≡ no-clips ⌝ }
+    ensures { λ r. ⌜ r ≡ no-stats ⌝ }
 {
     ConvertStats { clipped: [0u64; 6] }
 }

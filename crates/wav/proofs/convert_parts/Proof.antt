@@ -5,7 +5,7 @@ use mathlib.Core.List.{List, []}
 use borrow.Author.Needs.{needs}
 use Rattle.reference.specs.Frames.{Run, run}
 use Rattle.reference.specs.Refusals.{Place, accepted, decide}
-use Rattle.reference.specs.Promises.{no-clips}
+use Rattle.reference.specs.Statistics.{no-stats}
 use Rattle.reference.specs.declared.Verdict.the-variants.{Accepted}
 use Rattle.refusals.proofs.Steps.{passed, turned-down}
 use Rattle.wav_checks.specs.Places.{wav-places}
@@ -53,7 +53,7 @@ sub-convert-parts c =
     let p = c .before .before in
     let t = begun p in
     let s = start (t .before .before) in
-    mid-long (s .args .conv) (run-of s) (s .args .lent) (now (s .args .out)) (now (s .args .counts)) (t .before .before .call .result) (t .before .before .call .ensures) (ok t) _ [] [] (record { verdict = Accepted; stats = no-clips }) (p .put-header .ensures)
+    mid-long (s .args .conv) (run-of s) (s .args .lent) (now (s .args .out)) (now (s .args .counts)) (t .before .before .call .result) (t .before .before .call .ensures) (ok t) _ [] [] (record { verdict = Accepted; stats = no-stats }) (p .put-header .ensures)
 
 part-convert-parts-start : tie.Need-part-convert-parts-start
 part-convert-parts-start c = sub-convert-parts c
@@ -67,7 +67,7 @@ returns c =
     converted (s .args .conv) (run-of s) (s .args .lent) (now (s .args .out)) (now (s .args .counts)) (t .before .before .call .result) (t .before .before .call .ensures) (ok t) _ _ _ (d .convert-parts .result) (p .put-header .ensures) (d .convert-parts .ensures)
 
 returns-2 : tie.Need-returns-2
-unfolding no-clips
+unfolding no-stats
 returns-2 c =
     let s = start (c .before .before) in
     wav-refused (s .args .conv) (run-of s) (s .args .lent) (now (s .args .out)) (now (s .args .counts)) (c .before .before .call .result) (c .before .before .call .ensures) (turned-down (places s) (c .before .before .call .ensures) (c .before .accepted .ensures) (c .if1 .left)) _ refl
