@@ -1,32 +1,43 @@
 -- Laws of tallies: of nothing, of two stretches that meet, of stretches that agree; what is counted, and that it fits.
 use mathlib.Core.Path.{_≡_, refl, ap}
-use mathlib.Core.Bool.{Bool, true, false, cond}
+use mathlib.Core.Bool.{Bool, true, false, cond, _&&_}
 use Prim.Native.Nat.{ℕ, zero, suc, _+_, _^_, _≤_, _<_}
+use native.Mathlib.Nat.{zero-add}
 use native.Mathlib.Omega.{arith}
+use lib.Dec.{eqb, eqb·suc-zero}
 use lib.IntN.{ℤ}
+use Rattle.numbers.specs.Extremes.{lesser, greater, extreme0}
 use Rattle.numbers.specs.Lists.{total, count}
+use Rattle.numbers.proofs.Extremes.{least-best, greatest-best, extreme0-join, extreme0-same}
 use Rattle.numbers.proofs.Lists.{total-join, total-same}
 use Rattle.reference.specs.Scaling.{clips}
 use Rattle.gain.specs.Tallies.{tally, none, joined, Joins}
 
 pub tally-none : (f : ℕ → ℤ) (a : ℕ) → tally f a 0 ≡ none
-unfolding tally none total
+unfolding tally none total extreme0
 tally-none f a = refl
+
+none-of-both : (m n : ℕ) → (eqb m 0 && eqb n 0) ≡ eqb (m + n) 0
+none-of-both zero n = rw zero-add refl
+none-of-both (suc m) n =
+    let e : suc m + n ≡ suc (m + n) = omega arith in
+    rw (e, eqb·suc-zero m, eqb·suc-zero (m + n)) refl
 
 pub tally-join : (f : ℕ → ℤ) (a m n : ℕ) → joined (tally f a m) (tally f (a + m) n) ≡ tally f a (m + n)
 unfolding tally joined
-tally-join f a m n = rw (total-join _ a m n)
+tally-join f a m n = rw (total-join _ a m n, extreme0-join least-best f a m n, extreme0-join greatest-best f a m n, none-of-both m n) refl
 
 -- f from a on and g from b on agree at n places
 pub tally-same : (f g : ℕ → ℤ) (a b n : ℕ) → ((k : ℕ) → k < n → f (a + k) ≡ g (b + k)) → tally f a n ≡ tally g b n
 unfolding tally
-tally-same f g a b n h = ap (λ (x : ℕ). record { clipped = x }) (total-same _ _ a b n (λ k l. ap (λ (z : ℤ). cond (clips z) 1 0) (h k l)))
+tally-same f g a b n h =
+    rw (total-same (λ k. cond (clips (f k)) 1 0) (λ k. cond (clips (g k)) 1 0) a b n (λ k l. ap (λ (z : ℤ). cond (clips z) 1 0) (h k l)), extreme0-same lesser f g a b n h, extreme0-same greater f g a b n h)
 
 at-most-one : (b : Bool) → cond b 1 0 ≤ 1
 at-most-one true = omega arith
 at-most-one false = omega arith
 
-few : (p : ℕ → Bool) (a n : ℕ) → count p a n ≤ n
+pub few : (p : ℕ → Bool) (a n : ℕ) → count p a n ≤ n
 unfolding total
 few p a zero = omega arith
 few p a (suc n) = omega (arith, few p a n, at-most-one (p (a + n)))
