@@ -1,27 +1,19 @@
 -- Laws of tallies: of nothing, of two stretches that meet, of stretches that agree; what is counted, and that it fits.
 use mathlib.Core.Path.{_≡_, refl, ap}
-use mathlib.Core.Bool.{Bool, true, false, cond, _&&_}
+use mathlib.Core.Bool.{Bool, true, false, cond}
 use Prim.Native.Nat.{ℕ, zero, suc, _+_, _^_, _≤_, _<_}
-use native.Mathlib.Nat.{zero-add}
 use native.Mathlib.Omega.{arith}
-use lib.Dec.{eqb, eqb·suc-zero}
 use lib.IntN.{ℤ}
 use Rattle.numbers.specs.Extremes.{lesser, greater, extreme0}
 use Rattle.numbers.specs.Lists.{total, count}
-use Rattle.numbers.proofs.Extremes.{least-best, greatest-best, extreme0-join, extreme0-same}
-use Rattle.numbers.proofs.Lists.{total-join, total-same}
+use Rattle.numbers.proofs.Extremes.{least-best, greatest-best, none-of-both, extreme0-join, extreme0-same}
+use Rattle.numbers.proofs.Lists.{total-join, total-same, count-few}
 use Rattle.reference.specs.Scaling.{clips}
 use Rattle.gain.specs.Tallies.{tally, none, joined, Joins}
 
 pub tally-none : (f : ℕ → ℤ) (a : ℕ) → tally f a 0 ≡ none
 unfolding tally none total extreme0
 tally-none f a = refl
-
-none-of-both : (m n : ℕ) → (eqb m 0 && eqb n 0) ≡ eqb (m + n) 0
-none-of-both zero n = rw zero-add refl
-none-of-both (suc m) n =
-    let e : suc m + n ≡ suc (m + n) = omega arith in
-    rw (e, eqb·suc-zero m, eqb·suc-zero (m + n)) refl
 
 pub tally-join : (f : ℕ → ℤ) (a m n : ℕ) → joined (tally f a m) (tally f (a + m) n) ≡ tally f a (m + n)
 unfolding tally joined
@@ -33,22 +25,13 @@ unfolding tally
 tally-same f g a b n h =
     rw (total-same (λ k. cond (clips (f k)) 1 0) (λ k. cond (clips (g k)) 1 0) a b n (λ k l. ap (λ (z : ℤ). cond (clips z) 1 0) (h k l)), extreme0-same lesser f g a b n h, extreme0-same greater f g a b n h)
 
-at-most-one : (b : Bool) → cond b 1 0 ≤ 1
-at-most-one true = omega arith
-at-most-one false = omega arith
-
-pub few : (p : ℕ → Bool) (a n : ℕ) → count p a n ≤ n
-unfolding total
-few p a zero = omega arith
-few p a (suc n) = omega (arith, few p a n, at-most-one (p (a + n)))
-
 pub tally-clipped : (f : ℕ → ℤ) (a n : ℕ) → tally f a n .clipped ≡ count (λ k. clips (f k)) a n
 unfolding tally
 tally-clipped f a n = refl
 
 pub tally-few : (f : ℕ → ℤ) (a n : ℕ) → tally f a n .clipped ≤ n
 unfolding tally
-tally-few f a n = few (λ k. clips (f k)) a n
+tally-few f a n = count-few (λ k. clips (f k)) a n
 
 pub tally-fits : (f g : ℕ → ℤ) (a b m n : ℕ) → m + n < 2 ^ 64 → Joins (tally f a m) (tally g b n)
 unfolding Joins

@@ -1,7 +1,7 @@
 -- Laws of the least and the greatest: equal stretches, stretches joined.
 use mathlib.Core.Path.{_≡_, refl, sym, ap, _∙_}
 use mathlib.Core.Logic.{_⊎_, inl, inr, ⊎-elim}
-use mathlib.Core.Bool.{Bool, true, false, cond}
+use mathlib.Core.Bool.{Bool, true, false, cond, _&&_}
 use Prim.Native.Nat.{ℕ, zero, suc, _+_, _<_, _≤_}
 use native.Mathlib.Nat.{add-zero, zero-add}
 use native.Mathlib.Omega.{arith}
@@ -24,6 +24,13 @@ extreme0-same pick f g a b zero h = refl
 extreme0-same pick f g a b (suc n) h =
     let e : f a ≡ g b = rw (add-zero a, add-zero b) at (h 0 (omega arith)) in
     rw e (picked-same pick (g b) f g a b (suc n) h)
+
+-- there are no numbers in two stretches just if there are none in either
+pub none-of-both : (m n : ℕ) → (eqb m 0 && eqb n 0) ≡ eqb (m + n) 0
+none-of-both zero n = rw zero-add refl
+none-of-both (suc m) n =
+    let e : suc m + n ≡ suc (m + n) = omega arith in
+    rw (e, eqb·suc-zero m, eqb·suc-zero (m + n)) refl
 
 -- ---- the order of ℤ, by parts
 

@@ -21,7 +21,7 @@ use Rattle.numbers.specs.Extremes.{lesser, greater, picked}
 use Rattle.numbers.proofs.Integers.{sfits-abs}
 use Rattle.reference.specs.Scaling.{scaled, clamp, clips}
 use Rattle.gain.specs.Scale.{Clamped}
-use Rattle.gain.proofs.Tallies.{few}
+use Rattle.numbers.proofs.Lists.{count-few}
 use Rattle.gain.proofs.Scaling.{clamp-fits}
 use Rattle.gain.proofs.Order.{least-y, greatest-y, block-told}
 use Rattle.gain.proofs.scale.scale_block.Statement.{statement}
@@ -100,7 +100,7 @@ add-clipped c =
     let at = sc .before .before in
     let start = at .before .before in
     let p : ℕ → Bool = λ k. clips (F (start .args .factor) (now (start .args .ys)) k) in
-    omega (arith, few p 0 (at .before .loop .i + 1), few-more p (at .before .loop .i) (at .before .loop .inv .counted) (gave sc .is-clipped), at .loop-test .taken, start .good .0 .1)
+    omega (arith, count-few p 0 (at .before .loop .i + 1), few-more p (at .before .loop .i) (at .before .loop .inv .counted) (gave sc .is-clipped), at .loop-test .taken, start .good .0 .1)
 
 cast-short : tie.Need-cast-short Inv-loop μ-loop
 cast-short c = let at = c .before .before .before .before in rw (y-back at) (sfits-abs (small at))
