@@ -43,4 +43,4 @@ returns-2 c =
     subst (λ (z : ℤ). natAbs z < 2147483648) (sym (toZ-ofZ (fits n (above c)) ∙ ap (λ (z : ℤ). z -ℤ pos 2147483648) (read n (above c)))) (size n (above c))
 
 pub lowered-spec : {M : Type 1} → statement M
-lowered-spec = tie.close (tie.spec (λ c. search needs) returns (λ c. search needs) sub-result returns-2)
+lowered-spec = tie.close (tie.spec returns (λ c. search needs) sub-result returns-2)
