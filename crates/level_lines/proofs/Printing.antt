@@ -21,6 +21,17 @@ pub byte : {old : List ℕ} {at : ℕ} (b : ℕ) → at < length old → Printed
 unfolding with-text
 byte {old} {at} b h = record { written = rw add-one (set-split old at b h); after = refl }
 
+pub none-printed : (old : List ℕ) → Printed [] old 0 old 0
+unfolding with-text
+none-printed old = record { written = refl; after = refl }
+
+-- a text as long as the list
+pub filled : {t old new : List ℕ} {n : ℕ} → Printed t old 0 new n → length old ≡ length t → new ≡ t
+unfolding with-text
+filled {t} {old} p e =
+    let none : drop (0 + length t) old ≡ [] = drop-of-length-le old {i = 0 + length t} (omega arith) in
+    p .written ∙ rw (none, append-nil)
+
 -- a text past a list's end
 beyond : (l : List ℕ) (at : ℕ) (t : List ℕ) → length l ≤ at → with-text l at t ≡ l ++ t
 unfolding with-text

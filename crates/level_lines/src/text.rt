@@ -42,14 +42,10 @@ pub fn decimal(out: &mut [u8], at: usize, n: u64) -> usize
 }
 
 // |z|, also of the lowest.
-fn size(z: i64) -> u64
+pub fn size(z: i64) -> u64
     ensures { λ r. ⌜ r ≡ natAbs z ⌝ }
 {
-    if z < 0 {
-        (-1 - z) as u64 + 1
-    } else {
-        z as u64
-    }
+    if z < 0 { (-1 - z) as u64 + 1 } else { z as u64 }
 }
 
 // z in decimal, with a minus sign if it is below 0.

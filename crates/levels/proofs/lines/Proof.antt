@@ -16,11 +16,10 @@ use Rattle.numbers.specs.Lists.{tabulate}
 use Rattle.numbers.proofs.Lists.{getD-tabulate, length-tabulate, is-tabulate, below-or}
 use Rattle.level_lines.specs.Text.{joined, Printed}
 use Rattle.level_lines.specs.Lines.{level-line}
-use Rattle.level_lines.proofs.Printing.{more}
+use Rattle.level_lines.proofs.Printing.{none-printed, more}
 use Rattle.overs.specs.Overs.{none, overs-of}
 use Rattle.overs.specs.declared.Progress.{Progress}
 use Rattle.levels.specs.Levels.{level-of, states-after}
-use Rattle.levels.proofs.Reports.{none-printed}
 use Rattle.levels.proofs.lines.Statement.{statement}
 use Rattle.levels.proofs.lines.Tie as tie
 
