@@ -1,44 +1,15 @@
 -- Request 14: the level sheet, as text over the statistics.
-use mathlib.Core.List.{List, [], _∷_, _++_, map}
+use mathlib.Core.List.{List, [], _∷_, _++_}
 use mathlib.Core.Bool.{Bool, true, false, _||_}
-use Prim.Native.Nat.{ℕ, zero, suc, _-_}
-use lib.Dec.{ltb}
-use lib.IntN.{ℤ, pos}
-use lib.ListN.{length, getD, replicate}
+use Prim.Native.Nat.{ℕ, zero, suc}
+use lib.IntN.{pos}
+use lib.ListN.{getD}
 use Rattle.numbers.specs.Lists.{tabulate, total}
 use Rattle.reference.specs.declared.ConvertStats.{ConvertStats}
-use Rattle.level_lines.specs.Text.{text, joined, decimal, signed}
-use Rattle.level_lines.specs.Lines.{printed}
-
--- ---- columns
-
--- an entry of a line: the width of its column, and its text
-pub record Entry : Type 0 where
-  pub width : ℕ
-  pub shown : List ℕ
-
-abbrev pub entry : ℕ → List ℕ → Entry
-entry width t = record { width = width; shown = t }
-
--- right-aligned with blanks; columns may touch
-unfoldable pub column : Entry → List ℕ
-column e = replicate (e .width - length (e .shown)) 32 ++ e .shown
-
--- a line: its columns, and a newline
-unfoldable pub line : List Entry → List ℕ
-line es = printed (map column es)
-
--- an entry of the line is too wide for its column
-unfoldable pub too-wide : List Entry → Bool
-too-wide [] = false
-too-wide (e ∷ es) = ltb (e .width) (length (e .shown)) || too-wide es
+use Rattle.level_lines.specs.Text.{joined, decimal}
+use Rattle.columns.specs.Columns.{Entry, entry, line, too-wide, level}
 
 -- ---- the lines
-
--- lowest or highest; a single hyphen where there are no samples
-unfoldable pub level : Bool → ℤ → List ℕ
-level true z = text "-"
-level false z = signed z
 
 -- channel c: its number, clips, lowest and highest before the clamp
 unfoldable pub channel-line : ConvertStats → ℕ → List Entry

@@ -1,4 +1,4 @@
-// The level sheet for the sleeve, from a conversion's statistics; and the statistics of two stretches as those of one.
+// The level sheet for the sleeve, from a conversion's statistics.
 ghost use mathlib.Core.Path.{_≡_};
 ghost use mathlib.Core.Bool.{false, _||_};
 ghost use Prim.Native.Nat.{_+_, _*_, _<_, _≤_};
@@ -7,15 +7,13 @@ ghost use Rattle.numbers.specs.Lists.{tabulate};
 ghost use Rattle.reference.specs.Refusals.{decide, decision};
 ghost use Rattle.level_lines.specs.Text.{joined, decimal, Printed};
 ghost use Rattle.sheet.specs.Sheet as sheets;
-ghost use Rattle.sheet.specs.Sheet.{line, too-wide, channel-line, sum-line, sheet, some-below, sheet-too-wide};
+ghost use Rattle.columns.specs.Columns.{line, too-wide};
+ghost use Rattle.sheet.specs.Sheet.{channel-line, sum-line, sheet, some-below, sheet-too-wide};
 ghost use Rattle.sheet.specs.Promises.{sheet-length, sheet-places, SheetPromise};
 use level_lines::text;
 use reference::ConvertStats;
 use reference::PcmError;
 use reference::Verdict;
-
-mod columns;
-pub mod stretches;
 
 fn either(p: bool, q: bool) -> bool
     ensures { λ r. ⌜ r ≡ (p || q) ⌝ }

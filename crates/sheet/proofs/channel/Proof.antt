@@ -13,7 +13,8 @@ use Rattle.level_lines.specs.Text.{joined, text}
 use Rattle.level_lines.proofs.Numerals.{one-digit}
 use Rattle.level_lines.proofs.Printing as printing
 use Rattle.level_lines.proofs.Printing.{then}
-use Rattle.sheet.specs.Sheet.{line, level, channel-line}
+use Rattle.columns.specs.Columns.{line}
+use Rattle.sheet.specs.Sheet.{channel-line}
 use Rattle.sheet.proofs.Widths.{clips-fit, lowest-fits, highest-fits}
 use Rattle.sheet.proofs.channel.Statement.{statement}
 use Rattle.sheet.proofs.channel.Tie as tie

@@ -8,7 +8,8 @@ use borrow.Author.Needs.{needs}
 use Rattle.numbers.specs.Lists.{tabulate}
 use Rattle.level_lines.specs.Text.{joined, Printed}
 use Rattle.level_lines.proofs.Printing.{none-printed, more}
-use Rattle.sheet.specs.Sheet.{line, channel-line}
+use Rattle.columns.specs.Columns.{line}
+use Rattle.sheet.specs.Sheet.{channel-line}
 use Rattle.sheet.proofs.Widths.{none-of}
 use Rattle.sheet.proofs.channels_of.Statement.{statement}
 use Rattle.sheet.proofs.channels_of.Tie as tie

@@ -4,8 +4,9 @@ use borrow.Author.Needs.{needs}
 use Rattle.level_lines.specs.Text.{joined, text}
 use Rattle.level_lines.proofs.Printing as printing
 use Rattle.level_lines.proofs.Printing.{then}
-use Rattle.sheet.specs.Sheet.{line, sum-line}
-use Rattle.sheet.proofs.Widths.{only-blanks}
+use Rattle.columns.specs.Columns.{line}
+use Rattle.columns.proofs.Widths.{only-blanks}
+use Rattle.sheet.specs.Sheet.{sum-line}
 use Rattle.sheet.proofs.last.Statement.{statement}
 use Rattle.sheet.proofs.last.Tie as tie
 

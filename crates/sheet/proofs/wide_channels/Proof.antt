@@ -4,7 +4,8 @@ use mathlib.Core.Bool.{_||_}
 use Prim.Native.Nat.{_-_, _≤_}
 use native.Mathlib.Omega.{arith}
 use borrow.Author.Needs.{needs}
-use Rattle.sheet.specs.Sheet.{too-wide, channel-line, some-below}
+use Rattle.columns.specs.Columns.{too-wide}
+use Rattle.sheet.specs.Sheet.{channel-line, some-below}
 use Rattle.sheet.proofs.Widths.{some-more}
 use Rattle.sheet.proofs.wide_channels.Statement.{statement}
 use Rattle.sheet.proofs.wide_channels.Tie as tie
