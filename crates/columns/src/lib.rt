@@ -22,10 +22,10 @@ pub fn digits(n: u64) -> usize
 }
 
 // How many characters a channel's lowest or highest has, its sign counted.
-pub fn level_width(empty: bool, z: i64) -> usize
-    ensures { λ r. ⌜ r ≡ length (defs.level «empty» z) ⌝ }
+pub fn level_width(none: bool, z: i64) -> usize
+    ensures { λ r. ⌜ r ≡ length (defs.level none z) ⌝ }
 {
-    if empty {
+    if none {
         return 1;
     }
     let n = digits(text::size(z));

@@ -22,7 +22,7 @@ module _ (c : tie.After-digits) where
   size-digits : c .digits .result ≡ length (decimal (natAbs (t (c .before .before .before .args .z))))
   size-digits = c .digits .ensures .0 ∙ ap (λ (n : ℕ). length (decimal n)) (c .before .size .ensures)
 
-  shown : length (level (c .before .before .before .args .empty) (c .before .before .before .args .z)) ≡ length (signed (c .before .before .before .args .z))
+  shown : length (level (c .before .before .before .args .none) (c .before .before .before .args .z)) ≡ length (signed (c .before .before .before .args .z))
   shown = ap length (some-level _ (c .before .before .before .args .z) (c .before .before .if1 .left))
 
 returns-2 : tie.Need-returns-2
