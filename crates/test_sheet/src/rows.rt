@@ -1,4 +1,4 @@
-// Statistics out of a row of numbers.
+// Statistics out of rows of numbers.
 use reference::ConvertStats;
 use test_support::at;
 
@@ -32,23 +32,36 @@ pub fn statistics(row: &[u64]) -> ConvertStats {
     }
 }
 
-// Whether two statistics have the same clip counts, levels and marks.
-pub fn same(a: ConvertStats, b: ConvertStats) -> bool {
-    let clips_a = a.clipped;
-    let clips_b = b.clipped;
-    let low_a = a.lowest;
-    let low_b = b.lowest;
-    let high_a = a.highest;
-    let high_b = b.highest;
-    let no_a = a.empty;
-    let no_b = b.empty;
-    let mut equal = 0usize;
+fn flag(yes: bool) -> u64 {
+    if yes { 1 } else { 0 }
+}
+
+// Whether a number with its sign is the one of a row.
+fn is_signed(z: i64, n: u64) -> bool {
+    z == signed(n)
+}
+
+// Whether the statistics are those of a row.
+pub fn are(s: ConvertStats, row: &[u64]) -> bool {
+    let clipped = s.clipped;
+    let lowest = s.lowest;
+    let highest = s.highest;
+    let empty = s.empty;
     let mut c = 0usize;
     while c < 6 {
-        if clips_a[c] == clips_b[c] && low_a[c] == low_b[c] && high_a[c] == high_b[c] && no_a[c] == no_b[c] {
-            equal += 1;
+        if clipped[c] != at(row, c) {
+            return false;
+        }
+        if !is_signed(lowest[c], at(row, 6 + c)) {
+            return false;
+        }
+        if !is_signed(highest[c], at(row, 12 + c)) {
+            return false;
+        }
+        if flag(empty[c]) != at(row, 18 + c) {
+            return false;
         }
         c += 1;
     }
-    equal == 6
+    true
 }
