@@ -1,11 +1,11 @@
 -- Modules 7 and 8: the samples of a run, as numbers and as bytes, and its statistics.
 use mathlib.Core.List.{List}
-use mathlib.Core.Bool.{Bool, cond, not, _&&_}
+use mathlib.Core.Bool.{Bool, true, cond}
 use Prim.Native.Nat.{ℕ, _+_, _-_, _*_, _/_, _%_, _^_}
-use lib.Dec.{ltb}
+use lib.Dec.{eqb, ltb}
 use lib.IntN.{ℤ, pos, negsuc}
 use lib.ListN.{length, getD}
-use Rattle.numbers.specs.Extremes.{lesser, greater, extreme}
+use Rattle.numbers.specs.Extremes.{lesser, greater, extreme0}
 use Rattle.numbers.specs.Lists.{tabulate, total, count}
 use Rattle.reference.specs.Frames.{Run, frame-count, sequence, channel-byte}
 use Rattle.reference.specs.Stages.{y}
@@ -67,13 +67,13 @@ module _ (conv : Converter) (r : Run) where
 
   -- ---- request 6: how far over
 
-  -- whether channel c has no samples: an unused one, and every one of a run of no frames
-  unfoldable pub channel-empty : ℕ → Bool
-  channel-empty c = not (ltb c (conv .channels) && ltb 0 channel-samples)
-
-  -- the least or the greatest of its numbers before the clamp; 0 where it has no samples
+  -- the least or the greatest number of channel c before the clamp; 0 where it has no samples
   unfoldable pub channel-extreme : (ℤ → ℤ → ℤ) → ℕ → ℤ
-  channel-extreme pick c = cond (channel-empty c) (pos 0) (extreme pick (unclamped c) 0 channel-samples)
+  channel-extreme pick c = cond (ltb c (conv .channels)) (extreme0 pick (unclamped c) 0 channel-samples) (pos 0)
+
+  -- whether it has none: an unused channel, and every one of a run of no frames
+  unfoldable pub channel-empty : ℕ → Bool
+  channel-empty c = cond (ltb c (conv .channels)) (eqb channel-samples 0) true
 
   unfoldable pub stats : ConvertStats
   stats = record {

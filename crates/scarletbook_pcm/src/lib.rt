@@ -71,7 +71,12 @@ pub fn open(settings: Settings) -> Opened
 fn nothing_counted() -> ConvertStats
     ensures { λ r. ⌜ r ≡ no-stats ⌝ }
 {
-    ConvertStats { clipped: [0u64; 6] }
+    ConvertStats {
+        clipped: [0u64; 6],
+        lowest: [0i64; 6],
+        highest: [0i64; 6],
+        empty: [true; 6],
+    }
 }
 
 // 32-bit samples of a run. An absent neighbour's slice is neither read nor measured.
