@@ -1,12 +1,12 @@
 // The statistics of two stretches as those of one.
 ghost use mathlib.Core.Path.{_≡_};
 ghost use mathlib.Core.Bool.{true, cond, _&&_};
-ghost use lib.IntN.{pos};
 ghost use lib.ListN.{getD};
-ghost use Rattle.numbers.specs.Extremes as extremes;
+ghost use Rattle.numbers.specs.Extremes.{lesser, greater, pick-unmarked};
+ghost use Rattle.numbers.specs.Sums.{at0};
 ghost use Rattle.numbers.specs.Lists.{tabulate};
 ghost use Rattle.reference.specs.Statistics as statistics;
-ghost use Rattle.reference.specs.Statistics.{pick-of, joined-stats};
+ghost use Rattle.reference.specs.Statistics.{joined-stats};
 use reference::ConvertStats;
 
 const MOST_CLIPS: u64 = 18446744073709551615;
@@ -33,36 +33,19 @@ fn clips(a: [u64; 6], b: [u64; 6]) -> [u64; 6]
     clipped
 }
 
-fn lesser(a: i64, b: i64) -> i64
-    ensures { λ r. ⌜ r ≡ extremes.lesser a b ⌝ }
-{
-    if b < a { b } else { a }
-}
-
-fn greater(a: i64, b: i64) -> i64
-    ensures { λ r. ⌜ r ≡ extremes.greater a b ⌝ }
-{
-    if a < b { b } else { a }
-}
-
 // The highest or the lowest of those of x and y that have samples; 0 where neither has.
 fn of_those(high: bool, no_x: bool, x: i64, no_y: bool, y: i64) -> i64
-    ensures { λ r. ⌜ r ≡ pick-of (cond «high» extremes.greater extremes.lesser) «no_x» x «no_y» y ⌝ }
+    ensures { λ r. ⌜ r ≡ pick-unmarked (cond «high» greater lesser) «no_x» x «no_y» y ⌝ }
 {
-    if no_x {
-        if no_y { 0 } else { y }
-    } else if no_y {
-        x
-    } else if high {
-        greater(x, y)
-    } else {
-        lesser(x, y)
+    if high {
+        return reference::highest_of(no_x, x, no_y, y);
     }
+    reference::lowest_of(no_x, x, no_y, y)
 }
 
 // So in each channel.
 fn levels(high: bool, no_a: [bool; 6], a: [i64; 6], no_b: [bool; 6], b: [i64; 6]) -> [i64; 6]
-    ensures { λ r. ⌜ r ≡ tabulate (λ c. pick-of (cond «high» extremes.greater extremes.lesser) (getD «no_a» c true) (getD a c (pos 0)) (getD «no_b» c true) (getD b c (pos 0))) 0 6 ⌝ }
+    ensures { λ r. ⌜ r ≡ tabulate (λ c. pick-unmarked (cond «high» greater lesser) (getD «no_a» c true) (at0 a c) (getD «no_b» c true) (at0 b c)) 0 6 ⌝ }
 {
     let mut found = [0i64; 6];
     let mut c = 0usize;

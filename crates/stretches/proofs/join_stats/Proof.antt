@@ -1,12 +1,12 @@
 -- `join_stats` meets its contract.
 use mathlib.Core.Path.{_≡_}
 use borrow.Author.Needs.{needs}
-use Rattle.reference.specs.Statistics.{joined-stats}
+use Rattle.reference.specs.Statistics.{of-both, joined-stats}
 use Rattle.stretches.proofs.join_stats.Statement.{statement}
 use Rattle.stretches.proofs.join_stats.Tie as tie
 
 returns : tie.Need-returns
-unfolding joined-stats
+unfolding joined-stats of-both
 returns c =
     let at-highest = c .before in
     let at-lowest = at-highest .before in

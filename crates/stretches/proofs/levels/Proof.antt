@@ -9,18 +9,18 @@ use lib.ListN.{length, getD, length-set}
 use mir.Syntax.{w64}
 use mir.Val.{SFits}
 use mir.Facts.{toZ-ofZ}
-use Rattle.numbers.specs.Extremes.{lesser, greater}
+use Rattle.numbers.specs.Extremes.{lesser, greater, pick-unmarked}
+use Rattle.numbers.specs.Sums.{at0}
 use Rattle.numbers.specs.Lists.{Held}
 use Rattle.numbers.proofs.Lists.{getD-any, held-none, held-more, is-tabulate}
 use Rattle.numbers.proofs.Machine.{val}
-use Rattle.reference.specs.Statistics.{pick-of}
 use Rattle.stretches.proofs.levels.Statement.{statement}
 use Rattle.stretches.proofs.levels.Tie as tie
 
 abbrev Inv-loop : tie.InvT-loop
 Inv-loop high no-a a no-b b found₀ c₀ found c =
     (c ≤ 6) × (length found ≡ 6)
-    × Held (pos 0) (λ j. pick-of (cond high greater lesser) (getD no-a j true) (getD a j (pos 0)) (getD no-b j true) (getD b j (pos 0))) 0 c found
+    × Held (pos 0) (λ j. pick-unmarked (cond high greater lesser) (getD no-a j true) (at0 a j) (getD no-b j true) (at0 b j)) 0 c found
 
 abbrev μ-loop : tie.MeasureT-loop
 μ-loop high no-a a no-b b found₀ c₀ found c = 6 - c
