@@ -18,12 +18,15 @@ unfolding picked
 picked-same pick start f g a b zero h = refl
 picked-same pick start f g a b (suc n) h = rw (picked-same pick start f g a b n (λ k l. h k (omega arith)), h n (omega arith)) refl
 
+pub extreme-same : (pick : ℤ → ℤ → ℤ) (f g : ℕ → ℤ) (a b n : ℕ) → 0 < n → ((k : ℕ) → k < n → f (a + k) ≡ g (b + k)) → extreme pick f a n ≡ extreme pick g b n
+extreme-same pick f g a b n some same =
+    let e : f a ≡ g b = rw (add-zero a, add-zero b) at (same 0 some) in
+    rw e (picked-same pick (g b) f g a b n same)
+
 pub extreme0-same : (pick : ℤ → ℤ → ℤ) (f g : ℕ → ℤ) (a b n : ℕ) → ((k : ℕ) → k < n → f (a + k) ≡ g (b + k)) → extreme0 pick f a n ≡ extreme0 pick g b n
 unfolding extreme0
 extreme0-same pick f g a b zero h = refl
-extreme0-same pick f g a b (suc n) h =
-    let e : f a ≡ g b = rw (add-zero a, add-zero b) at (h 0 (omega arith)) in
-    rw e (picked-same pick (g b) f g a b (suc n) h)
+extreme0-same pick f g a b (suc n) h = extreme-same pick f g a b (suc n) (omega arith) h
 
 -- there are no numbers in two stretches just if there are none in either
 pub none-of-both : (m n : ℕ) → (eqb m 0 && eqb n 0) ≡ eqb (m + n) 0
