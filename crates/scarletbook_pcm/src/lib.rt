@@ -68,7 +68,7 @@ pub fn open(settings: Settings) -> Opened
     Opened { verdict, converter }
 }
 
-pub fn nothing_counted() -> ConvertStats
+fn nothing_counted() -> ConvertStats
     ensures { λ r. ⌜ r ≡ no-stats ⌝ }
 {
     ConvertStats {

@@ -89,7 +89,7 @@ fn turns(conv: Converter, size: usize, from: i32, three: &mut [u8], samples: &mu
 {
     let end = 2 * size;
     let first = fill(from, &mut three[size..end]);
-    let stats = scarletbook_pcm::nothing_counted();
+    let stats = reference::no_stats();
     let mut s = State {
         frames: 0,
         stats,
