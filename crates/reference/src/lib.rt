@@ -4,6 +4,7 @@ ghost use Prim.Native.Nat.{_≤_};
 ghost use Rattle.numbers.specs.Extremes as extremes;
 ghost use Rattle.reference.specs.Output.{samples-per-frame};
 ghost use Rattle.reference.specs.Settings.{converter-of};
+ghost use Rattle.reference.specs.Statistics.{no-stats};
 
 // Bytes of one channel in a frame.
 pub const FRAME_BYTES: usize = 4704;
@@ -77,6 +78,18 @@ pub struct ConvertStats {
     pub lowest: [i64; 6],
     pub highest: [i64; 6],
     pub empty: [bool; 6],
+}
+
+// Of no samples.
+pub fn no_stats() -> ConvertStats
+    ensures { λ r. ⌜ r ≡ no-stats ⌝ }
+{
+    ConvertStats {
+        clipped: [0u64; 6],
+        lowest: [0i64; 6],
+        highest: [0i64; 6],
+        empty: [true; 6],
+    }
 }
 
 pub fn lesser(a: i32, b: i32) -> i32
