@@ -1,5 +1,5 @@
 -- The statistics of a run are small, and those of its pieces join.
-use mathlib.Core.Path.{_≡_, refl, ap}
+use mathlib.Core.Path.{_≡_, refl, ap, _∙_}
 use mathlib.Core.Bool.{Bool, true, false, cond, not, _&&_, and-eq-true-iff, true≢false}
 use mathlib.Core.List.{List}
 use Prim.Native.Nat.{ℕ, zero, suc, _+_, _*_, _^_, _≤_, _<_}
@@ -25,6 +25,7 @@ use Rattle.gain.proofs.Records.{right-bounded}
 use Rattle.gain.proofs.Scaling.{scaled-small}
 use Rattle.joins.specs.Joins.{AcceptedConverter, AcceptedRun}
 use Rattle.joins.proofs.Joins.{cut-runs-join}
+use Rattle.stretches.proofs.Ends.{either-end}
 use Rattle.sheet.specs.Sheet.{sheet, sheet-too-wide}
 use Rattle.sheet.specs.Promises.{sheet-length, sheet-places}
 use Rattle.sheet_laws.specs.Runs.{Held, NumbersFit, NeverTooWide, CutSheetsJoin}
@@ -103,4 +104,4 @@ never-too-wide conv r held ok fits channels n e =
 pub cut-sheets-join : CutSheetsJoin
 cut-sheets-join conv r calls ok fits joins channels =
     let e = cut-runs-join conv r calls ok fits joins .told in
-    record { same-text = ap (sheet channels) e; same-decision = λ n. ap (λ s. decide (sheet-places channels s n)) e }
+    record { from-first = either-end _ ∙ e; same-text = ap (sheet channels) e; same-decision = λ n. ap (λ s. decide (sheet-places channels s n)) e }

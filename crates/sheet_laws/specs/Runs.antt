@@ -7,10 +7,11 @@ use lib.Dec.{T}
 use lib.Ieee.{binary64, fits}
 use Rattle.reference.specs.Frames.{Run}
 use Rattle.reference.specs.Output.{stats}
-use Rattle.reference.specs.Statistics.{all-joined}
+use Rattle.reference.specs.Statistics.{no-stats, all-joined}
 use Rattle.reference.specs.Refusals.{decide, refusal-number}
 use Rattle.reference.specs.declared.Converter.{Converter}
 use Rattle.joins.specs.Joins.{Call, answer-of, accepted-calls, AcceptedConverter, AcceptedRun, JoinTo}
+use Rattle.stretches.specs.Joining.{joined-on}
 use Rattle.sheet.specs.Sheet.{sheet, sheet-too-wide}
 use Rattle.sheet.specs.Promises.{sheet-places}
 
@@ -30,8 +31,10 @@ NeverTooWide =
     (conv : Converter) (r : Run) → Held conv → AcceptedConverter conv → AcceptedRun conv r → (channels n : ℕ)
     → refusal-number (decide (sheet-places channels (stats conv r) n)) ≡ 20 → ⊥
 
--- for a list as in demand 3: the sheet of the calls' joined statistics is the whole run's, and is refused just where that is
+-- for a list as in demand 3: joined one after the other, the calls' statistics are the whole run's, so that their sheet is its sheet, and is refused just
+-- where that is
 pub record SheetOfRun {conv : Converter} (r : Run) (calls : List (Call conv)) (channels : ℕ) : Type 0 where
+  pub from-first : joined-on no-stats (map (λ call. answer-of call .stats) (accepted-calls calls)) ≡ stats conv r
   pub same-text : sheet channels (all-joined (map (λ call. answer-of call .stats) (accepted-calls calls))) ≡ sheet channels (stats conv r)
   pub same-decision : (n : ℕ) → decide (sheet-places channels (all-joined (map (λ call. answer-of call .stats) (accepted-calls calls))) n) ≡ decide (sheet-places channels (stats conv r) n)
 
