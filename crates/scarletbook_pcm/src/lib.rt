@@ -4,8 +4,6 @@ ghost use Rattle.reference.specs.Frames.{run};
 ghost use Rattle.reference.specs.Output as output;
 ghost use Rattle.reference.specs.Stages.{reach};
 ghost use Rattle.reference.specs.Promises.{OpeningPromise, ConvertRunPromise, ConvertFramePromise, BytesPromise, ConvertPromise, DeskPromise, PackPromise};
-ghost use Rattle.reference.specs.Statistics.{no-stats};
-use reference::ConvertStats;
 use reference::Converted;
 use reference::Converter;
 use reference::Cutoff;
@@ -68,17 +66,6 @@ pub fn open(settings: Settings) -> Opened
     Opened { verdict, converter }
 }
 
-fn nothing_counted() -> ConvertStats
-    ensures { λ r. ⌜ r ≡ no-stats ⌝ }
-{
-    ConvertStats {
-        clipped: [0u64; 6],
-        lowest: [0i64; 6],
-        highest: [0i64; 6],
-        empty: [true; 6],
-    }
-}
-
 // 32-bit samples of a run. An absent neighbour's slice is neither read nor measured.
 pub fn convert_run_parts<'a>(
     conv: Converter,
@@ -96,7 +83,7 @@ pub fn convert_run_parts<'a>(
         let stats = work::items(conv, has_before, before, frames, has_after, after, out);
         return Converted { verdict, stats };
     }
-    let stats = nothing_counted();
+    let stats = reference::no_stats();
     Converted { verdict, stats }
 }
 
@@ -117,7 +104,7 @@ pub fn convert_frame_parts<'a>(
         let stats = work::items(conv, has_before, before, frames, has_after, after, out);
         return Converted { verdict, stats };
     }
-    let stats = nothing_counted();
+    let stats = reference::no_stats();
     Converted { verdict, stats }
 }
 
@@ -165,7 +152,7 @@ fn bytes_under<'a>(
         let stats = work::bytes(conv, has_before, before, frames, has_after, after, out);
         return Converted { verdict, stats };
     }
-    let stats = nothing_counted();
+    let stats = reference::no_stats();
     Converted { verdict, stats }
 }
 

@@ -67,10 +67,10 @@ returns c =
     converted (s .args .conv) (run-of s) (s .args .lent) (now (s .args .out)) (now (s .args .counts)) (t .before .before .call .result) (t .before .before .call .ensures) (ok t) _ _ _ (d .convert-parts .result) (p .put-header .ensures) (d .convert-parts .ensures)
 
 returns-2 : tie.Need-returns-2
-unfolding no-stats
-returns-2 c =
+returns-2 d =
+    let c = d .before in
     let s = start (c .before .before) in
-    wav-refused (s .args .conv) (run-of s) (s .args .lent) (now (s .args .out)) (now (s .args .counts)) (c .before .before .call .result) (c .before .before .call .ensures) (turned-down (places s) (c .before .before .call .ensures) (c .before .accepted .ensures) (c .if1 .left)) _ refl
+    wav-refused (s .args .conv) (run-of s) (s .args .lent) (now (s .args .out)) (now (s .args .counts)) (c .before .before .call .result) (c .before .before .call .ensures) (turned-down (places s) (c .before .before .call .ensures) (c .before .accepted .ensures) (c .if1 .left)) (d .no-stats .result) (d .no-stats .ensures)
 
 pub convert-parts-spec : {M : Type 1} → statement M
 convert-parts-spec =
@@ -87,6 +87,7 @@ convert-parts-spec =
     (λ c. search needs)
     (λ c. search needs)
     returns
+    (λ c κs. search needs)
     (λ c. search needs)
     (λ c. search needs)
     returns-2)
