@@ -1,7 +1,7 @@
 // The level report over descriptors: it reads the line and the frames, and writes the lines.
 ghost use Prim.Native.Nat.{_≤_};
 ghost use lib.ListN.{length};
-ghost use Rattle.level_stream.specs.Start.{Usable};
+ghost use Rattle.level_stream.specs.Usable.{Usable};
 use level_settings::FirstLine;
 use level_settings::LineSettings;
 use reference::Converter;
@@ -13,7 +13,7 @@ pub use frames::refused;
 pub use frames::written;
 
 // What the first line leads to: a converter to go on with, or an end, of which all is written.
-pub enum Start {
+pub enum Begun {
     Open(Converter),
     Ended,
 }
@@ -23,19 +23,19 @@ pub enum Start {
 pub fn report(line_from: i32, frames_from: i32, to: i32) {
     let begun = start(line_from, to);
     match begun {
-        Start::Open(conv) => frames::report_frames(conv, frames_from, to),
-        Start::Ended => {}
+        Begun::Open(conv) => frames::report_frames(conv, frames_from, to),
+        Begun::Ended => {}
     }
 }
 
 // Reads the line and opens its converter. Where there is none it says why.
-pub fn start(from: i32, to: i32) -> Start
+pub fn start(from: i32, to: i32) -> Begun
     ensures { λ r. ⌜ Usable r ⌝ }
 {
     let mut line = [0u8; 23];
     let came = level_input::read_line(from, &mut line);
     if came.failed {
-        return Start::Ended;
+        return Begun::Ended;
     }
     if came.whole {
         return settings(&line, came.n, to);
@@ -43,15 +43,15 @@ pub fn start(from: i32, to: i32) -> Start
     refused_settings(to)
 }
 
-fn refused_settings(to: i32) -> Start
+fn refused_settings(to: i32) -> Begun
     ensures { λ r. ⌜ Usable r ⌝ }
 {
     written(to, b"refused settings\n");
-    Start::Ended
+    Begun::Ended
 }
 
 // The first n bytes are the line.
-fn settings(line: &[u8], n: usize, to: i32) -> Start
+fn settings(line: &[u8], n: usize, to: i32) -> Begun
     requires { ⌜ n ≤ length (now line) ⌝ }
     ensures { λ r. ⌜ Usable r ⌝ }
 {
@@ -62,7 +62,7 @@ fn settings(line: &[u8], n: usize, to: i32) -> Start
     }
 }
 
-fn opened(s: LineSettings, to: i32) -> Start
+fn opened(s: LineSettings, to: i32) -> Begun
     requires { ⌜ s .channels ≤ 2 ⌝ }
     ensures { λ r. ⌜ Usable r ⌝ }
 {
@@ -70,10 +70,10 @@ fn opened(s: LineSettings, to: i32) -> Start
     let verdict = o.verdict;
     let conv = o.converter;
     match verdict {
-        Verdict::Accepted => Start::Open(conv),
+        Verdict::Accepted => Begun::Open(conv),
         Verdict::Refused(e) => {
             refused(levels::refusal_number(e), to);
-            Start::Ended
+            Begun::Ended
         }
     }
 }

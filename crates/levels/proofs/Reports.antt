@@ -24,6 +24,7 @@ use Rattle.reference.proofs.Refusals.{decide-first, decide-skip, pass, error-re
 use Rattle.overs.specs.Overs.{none}
 use Rattle.overs.specs.declared.Progress.{Progress}
 use Rattle.level_lines.specs.Text.{joined, Printed}
+use Rattle.level_lines.proofs.Printing.{none-printed}
 use Rattle.level_lines.specs.Lines.{level-line}
 use Rattle.levels.specs.Levels.{lines-with, level-of, states-after, whole-input, InProgress, piece-lines, piece-states, FrameReported}
 use Rattle.levels.proofs.Frames.{in-all, level-is, clips-are, few-clips}

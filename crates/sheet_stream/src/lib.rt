@@ -1,5 +1,5 @@
 // The level sheet over descriptors: it reads the line and the frames, and writes the sheet of the whole input.
-use level_stream::Start;
+use level_stream::Begun;
 
 mod frames;
 
@@ -8,7 +8,7 @@ mod frames;
 pub fn sheet(line_from: i32, frames_from: i32, to: i32) {
     let begun = level_stream::start(line_from, to);
     match begun {
-        Start::Open(conv) => frames::sheet_frames(conv, frames_from, to),
-        Start::Ended => {}
+        Begun::Open(conv) => frames::sheet_frames(conv, frames_from, to),
+        Begun::Ended => {}
     }
 }

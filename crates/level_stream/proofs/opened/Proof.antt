@@ -9,5 +9,19 @@ use Rattle.level_stream.proofs.opened.Tie as tie
 
 returns : tie.Need-returns
 unfolding converter-of read-settings
-returns c = let o = c .before .before .before .opened .ensures in
-    rw (o .converter) (sym (o .decided) ∙ ap decision (c .enum-told .given .1), c .before .before .before .before .pre)
+returns c =
+    let at-opened = c .before .before .before in
+    let o = at-opened .opened .ensures in
+    rw (o .converter) (sym (o .decided) ∙ ap decision (c .enum-told .given .1), at-opened .before .pre)
+
+pub opened-spec : {M : Type 1} → statement M
+opened-spec =
+    tie.close
+    (tie.spec
+    (λ c κs. search needs)
+    (λ c. search needs)
+    (λ c. search needs)
+    (λ c κs. search needs)
+    (λ c κs. search needs)
+    returns
+    (λ c. search needs))
