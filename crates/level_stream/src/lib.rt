@@ -10,7 +10,8 @@ use reference::Verdict;
 mod frames;
 
 pub use frames::refused;
-pub use frames::written;
+pub use frames::write_first;
+use frames::written;
 
 // What the first line leads to: a converter to go on with, or an end, of which all is written.
 pub enum Begun {

@@ -8,7 +8,7 @@ ghost use Rattle.level_stream.specs.Buffers.{at-hand};
 ghost use Rattle.sheet_stream.specs.Frames.{frame-stats};
 use level_input::fill;
 use level_input::move_on;
-use level_stream::written;
+use level_stream::write_first;
 use reference::ConvertStats;
 use reference::Converter;
 use reference::Verdict;
@@ -105,13 +105,6 @@ fn turns(conv: Converter, size: usize, from: i32, three: &mut [u8], samples: &mu
     s
 }
 
-// The first n bytes of a text.
-fn write_first(to: i32, text: &[u8], n: usize)
-    requires { ⌜ n ≤ length (now text) ⌝ }
-{
-    written(to, &text[..n]);
-}
-
 // The sheet of one or two channels, or its refusal.
 fn put_sheet(channels: u8, stats: ConvertStats, text: &mut [u8], to: i32)
     requires { ⌜ (channels ≤ 2) × (length (now text) ≡ 129) ⌝ }
@@ -119,7 +112,9 @@ fn put_sheet(channels: u8, stats: ConvertStats, text: &mut [u8], to: i32)
     let n = 43 * (channels as usize + 1);
     let verdict = sheet::level_sheet(channels, stats, &mut text[..n]);
     match verdict {
-        Verdict::Accepted => write_first(to, text, n),
+        Verdict::Accepted => {
+            write_first(to, text, n);
+        }
         Verdict::Refused(e) => level_stream::refused(levels::refusal_number(e), to),
     }
 }
