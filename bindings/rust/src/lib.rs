@@ -207,6 +207,19 @@ pub struct Converter {
 /// Clipped samples of each channel.
 pub type Clipped = [u64; 6];
 
+/// Statistics of a stretch of samples, by channel.
+#[derive(Clone, Copy, Debug, PartialEq, Eq)]
+pub struct Stats {
+    /// Clipped samples.
+    pub clipped: [u64; 6],
+    /// The lowest number before the clamp.
+    pub lowest: [i64; 6],
+    /// The highest.
+    pub highest: [i64; 6],
+    /// Whether the channel has no samples.
+    pub empty: [bool; 6],
+}
+
 // What a call tells of its decision.
 #[derive(Default)]
 struct Told {
