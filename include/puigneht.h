@@ -46,6 +46,7 @@ enum {
     PUIGNEHT_AFTER = 14,        /* data: bytes of `after`, which are not one frame */
     PUIGNEHT_DESK = 16,         /* more than PUIGNEHT_DESK_FRAMES frames, in puigneht_convert_desk */
     PUIGNEHT_SCHEDULE = 19,     /* a number of a simulation of turns outside its range */
+    PUIGNEHT_SHEET = 20,        /* a number too wide for its column of the level sheet */
     PUIGNEHT_NOT_UNDERSTOOD = 255
 };
 
@@ -201,6 +202,21 @@ enum { PUIGNEHT_NO_END = 0, PUIGNEHT_HIGH_END = 1, PUIGNEHT_LOW_END = 2 };
  * not there has no samples. Another number for the end is not understood; every other call is accepted. */
 uint8_t puigneht_overs(const int32_t *samples, size_t samples_len, size_t channels, size_t channel, uint8_t end,
                        uint64_t length, uint64_t *told, size_t told_len);
+
+/* The level sheet for the sleeve, from the statistics of a conversion, or of several that were joined: four lists of 6 items. `out` has 43 bytes
+ * for each of `channels` channels, 1 to 6, and 43 more. A line has the channel in 4 characters, its clips in 14, and its lowest and highest sample
+ * before the clamp in 12 each, or hyphens where the mark in `empty` is 1; the last line has the clips of these channels summed. Each number stands at
+ * the right of its column. Refused: 1, 7, then 20 for a number that is too wide. A mark other than 0 and 1 is not understood. */
+uint8_t puigneht_level_sheet(uint8_t channels, const uint64_t *clipped, size_t clipped_len, const int64_t *lowest, size_t lowest_len,
+                             const int64_t *highest, size_t highest_len, const uint8_t *empty, size_t empty_len, uint8_t *out, size_t out_len,
+                             uint64_t *data, size_t data_len);
+
+/* Joins the statistics of a stretch with those of another (`more_..`), in the lists of the first: clips added, held at 2^64 - 1; the lowest and the
+ * highest of those that have samples; the mark where neither has. Joined one after the other, the pieces of a run have the run's own statistics. */
+uint8_t puigneht_join_stats(uint64_t *clipped, size_t clipped_len, int64_t *lowest, size_t lowest_len, int64_t *highest, size_t highest_len,
+                            uint8_t *empty, size_t empty_len, const uint64_t *more_clipped, size_t more_clipped_len, const int64_t *more_lowest,
+                            size_t more_lowest_len, const int64_t *more_highest, size_t more_highest_len, const uint8_t *more_empty,
+                            size_t more_empty_len);
 
 #ifdef __cplusplus
 }

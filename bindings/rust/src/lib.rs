@@ -5,10 +5,12 @@
 pub mod dsf;
 mod overs;
 mod raw;
+mod sheet;
 pub mod wav;
 mod turns;
 
 pub use overs::{overs, End, Overs, Progress};
+pub use sheet::{join_stats, level_sheet};
 pub use turns::{turns, Album, Turns};
 
 /// Bytes of one channel in a frame.
@@ -93,6 +95,8 @@ pub enum Error {
     After(usize),
     /// More than 8 frames at the listening desk.
     Desk,
+    /// A number too wide for its column of the level sheet.
+    Sheet,
 }
 
 impl std::fmt::Display for Error {
@@ -168,6 +172,7 @@ impl std::fmt::Display for Error {
                 f,
                 "too many frames for the listening desk: there may be {DESK_FRAMES}"
             ),
+            Error::Sheet => write!(f, "a number is too wide for its column of the level sheet"),
         }
     }
 }
@@ -240,6 +245,7 @@ impl Told {
             14 => Error::After(a as usize),
             16 => Error::Desk,
             19 => Error::Schedule,
+            20 => Error::Sheet,
             _ => unreachable!("answer {answer}"),
         })
     }

@@ -252,6 +252,39 @@ extern "C" {
         told_len: usize,
     ) -> u8;
 
+    pub fn puigneht_level_sheet(
+        channels: u8,
+        clipped: *const u64,
+        clipped_len: usize,
+        lowest: *const i64,
+        lowest_len: usize,
+        highest: *const i64,
+        highest_len: usize,
+        empty: *const u8,
+        empty_len: usize,
+        out: *mut u8,
+        out_len: usize,
+        data: *mut u64,
+        data_len: usize,
+    ) -> u8;
+    pub fn puigneht_join_stats(
+        clipped: *mut u64,
+        clipped_len: usize,
+        lowest: *mut i64,
+        lowest_len: usize,
+        highest: *mut i64,
+        highest_len: usize,
+        empty: *mut u8,
+        empty_len: usize,
+        more_clipped: *const u64,
+        more_clipped_len: usize,
+        more_lowest: *const i64,
+        more_lowest_len: usize,
+        more_highest: *const i64,
+        more_highest_len: usize,
+        more_empty: *const u8,
+        more_empty_len: usize,
+    ) -> u8;
     pub fn puigneht_turns(
         frames: *const u64,
         frames_len: usize,

@@ -1,1 +1,3 @@
 mod Lists
+mod Six
+pub mod Lengths

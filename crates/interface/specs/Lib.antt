@@ -3,3 +3,4 @@ pub mod Settings
 pub mod Told
 pub mod Files
 pub mod Progress
+pub mod Statistics

@@ -9,6 +9,7 @@ mod codes;
 mod files;
 mod progress;
 mod results;
+mod statistics;
 
 pub use codes::both;
 pub use codes::converter;
@@ -26,12 +27,15 @@ pub use progress::known_end;
 pub use progress::tell_overs;
 pub use results::of_error;
 pub use results::of_verdict;
+pub use results::put_stats;
 pub use results::put_two;
 pub use results::room;
 pub use results::room_for_stats;
 pub use results::tell;
 pub use results::tell_conversion;
 pub use results::tell_gain;
+pub use statistics::held_stats;
+pub use statistics::known_stats;
 
 // What each conversion asks first: its numbers, and the lengths of its gain and result lists; `stats` says whether those for statistics are right.
 pub fn understood(

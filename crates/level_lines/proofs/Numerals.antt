@@ -75,6 +75,18 @@ some-digit n = go (decimal n) (first-digit n)
     go [] h = omega arith
     go (x ∷ l) h = omega arith
 
+-- what has at most k digits is below 10 ^ k
+pub bounded : (k n : ℕ) → length (decimal n) ≤ k → n < 10 ^ k
+bounded zero n h = absurd (omega (arith, some-digit n))
+bounded (suc k) n h =
+    ⊎-elim (λ l. omega (arith, pow-succ' 10 k, some-power k))
+    (λ l. omega (arith, pow-succ' 10 k, bounded k (n / 10) (omega (arith, simp length-append at (ap length (last-digit n l))))))
+    (below-or n 10)
+  where
+    some-power : (k : ℕ) → 0 < 10 ^ k
+    some-power zero = omega arith
+    some-power (suc k) = omega (arith, pow-succ' 10 k, some-power k)
+
 -- the same last element, and the same before it
 unsnoc : (s t : List ℕ) (a b : ℕ) → s ++ (a ∷ []) ≡ t ++ (b ∷ []) → (s ≡ t) × (a ≡ b)
 unsnoc s t a b e =

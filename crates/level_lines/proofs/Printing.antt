@@ -1,12 +1,14 @@
--- Laws of `Printed`: a copy, one byte, one text after another, and a line.
+-- Laws of `Printed`: a copy, one byte, one text after another, a line, and lines.
 use mathlib.Core.Path.{_≡_, refl, sym, ap, _∙_}
 use mathlib.Core.Logic.{⊎-elim}
 use mathlib.Core.List.{List, [], _∷_, _++_, append-assoc, append-nil}
-use Prim.Native.Nat.{ℕ, _+_, _≤_, _<_}
+use Prim.Native.Nat.{ℕ, suc, _+_, _≤_, _<_}
+use native.Mathlib.Nat.{zero-add}
 use native.Mathlib.Numerals.{add-one}
 use native.Mathlib.Omega.{arith}
 use lib.ListN.{length, take, drop, set, length-append, drop-of-length-le}
 use lib.Seq.{paste, take-length, set-split, length-take-le, take-all, take-at, drop-at, drop-drop}
+use Rattle.numbers.specs.Lists.{tabulate}
 use Rattle.numbers.proofs.Lists.{below-or}
 use Rattle.level_lines.specs.Text.{joined, with-text, Printed}
 use Rattle.level_lines.specs.Lines.{printed}
@@ -18,6 +20,17 @@ copied old at t = record { written = rw (take-length, append-assoc (take at old)
 pub byte : {old : List ℕ} {at : ℕ} (b : ℕ) → at < length old → Printed (b ∷ []) old at (set old at b) (at + 1)
 unfolding with-text
 byte {old} {at} b h = record { written = rw add-one (set-split old at b h); after = refl }
+
+pub none-printed : (old : List ℕ) → Printed [] old 0 old 0
+unfolding with-text
+none-printed old = record { written = refl; after = refl }
+
+-- a text as long as the list
+pub filled : {t old new : List ℕ} {n : ℕ} → Printed t old 0 new n → length old ≡ length t → new ≡ t
+unfolding with-text
+filled {t} {old} p e =
+    let none : drop (0 + length t) old ≡ [] = drop-of-length-le old {i = 0 + length t} (omega arith) in
+    p .written ∙ rw (none, append-nil)
 
 -- a text past a list's end
 beyond : (l : List ℕ) (at : ℕ) (t : List ℕ) → length l ≤ at → with-text l at t ≡ l ++ t
@@ -59,3 +72,11 @@ joined-last (s ∷ ts) t = append-assoc s (joined ts) t ∙ ap (λ (l : List ℕ
 pub line : (ts : List (List ℕ)) {old new : List ℕ} {at n : ℕ} → Printed (joined (ts ++ ((10 ∷ []) ∷ []))) old at new n → Printed (printed ts) old at new n
 unfolding printed
 line ts p = rw (joined-last ts (10 ∷ [])) p
+
+-- lines of a function, and one more
+pub more : (f : ℕ → List ℕ) (n : ℕ) {t old mid new : List ℕ} {m next : ℕ} → Printed (joined (tabulate f 0 n)) old 0 mid m → Printed t mid m new next → t ≡ f n
+    → Printed (joined (tabulate f 0 (n + 1))) old 0 new next
+unfolding tabulate
+more f n p q e =
+    let i : n + 1 ≡ suc n = omega arith in
+    rw (i, zero-add n, ← joined-last (tabulate f 0 n) (f n), ← e) (then p q)

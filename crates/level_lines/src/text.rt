@@ -30,7 +30,7 @@ fn digit(out: &mut [u8], at: usize, d: u64) -> usize
 }
 
 // n in decimal.
-fn decimal(out: &mut [u8], at: usize, n: u64) -> usize
+pub fn decimal(out: &mut [u8], at: usize, n: u64) -> usize
     requires { ⌜ at + length (texts.decimal n) ≤ length (now out) ⌝ }
     ensures { λ r. ⌜ Printed (texts.decimal n) (now (out .entry)) at (now (out .exit)) r ⌝ }
 {
@@ -42,21 +42,16 @@ fn decimal(out: &mut [u8], at: usize, n: u64) -> usize
 }
 
 // |z|, also of the lowest.
-fn size(z: i32) -> u64
+pub fn size(z: i64) -> u64
     ensures { λ r. ⌜ r ≡ natAbs z ⌝ }
 {
-    if z < 0 {
-        (0 - z as i64) as u64
-    } else {
-        z as u64
-    }
+    if z < 0 { (-1 - z) as u64 + 1 } else { z as u64 }
 }
 
 // z in decimal, with a minus sign if it is below 0.
-fn signed(out: &mut [u8], at: usize, z: i32) -> usize
-    requires { ⌜ at + 11 ≤ length (now out) ⌝ }
+pub fn signed(out: &mut [u8], at: usize, z: i64) -> usize
+    requires { ⌜ at + length (texts.signed z) ≤ length (now out) ⌝ }
     ensures { λ r. ⌜ Printed (texts.signed z) (now (out .entry)) at (now (out .exit)) r ⌝ }
-    ensures { λ r. ⌜ r ≤ at + 11 ⌝ }
 {
     let n = size(z);
     if z < 0 {
@@ -82,5 +77,5 @@ pub fn labelled_signed(out: &mut [u8], at: usize, word: &[u8], z: i32) -> usize
     ensures { λ r. ⌜ r ≤ at + (length (now (word .entry)) + 11) ⌝ }
 {
     let next = put(out, at, word);
-    signed(out, next, z)
+    signed(out, next, z as i64)
 }

@@ -68,7 +68,7 @@ pub fn written(to: i32, text: &[u8]) -> bool {
 }
 
 // The first n bytes of a text.
-fn write_first(to: i32, text: &[u8], n: usize) -> bool
+pub fn write_first(to: i32, text: &[u8], n: usize) -> bool
     requires { ⌜ n ≤ length (now text) ⌝ }
 {
     written(to, &text[..n])

@@ -23,15 +23,12 @@ use Rattle.reference.proofs.Promises.{exit-accepted, exit-refused}
 use Rattle.reference.proofs.Refusals.{decide-first, decide-skip, pass, error-refuses, some-channel, few-channels}
 use Rattle.overs.specs.Overs.{none}
 use Rattle.overs.specs.declared.Progress.{Progress}
-use Rattle.level_lines.specs.Text.{joined, with-text, Printed}
+use Rattle.level_lines.specs.Text.{joined, Printed}
+use Rattle.level_lines.proofs.Printing.{none-printed}
 use Rattle.level_lines.specs.Lines.{level-line}
 use Rattle.levels.specs.Levels.{lines-with, level-of, states-after, whole-input, InProgress, piece-lines, piece-states, FrameReported}
 use Rattle.levels.proofs.Frames.{in-all, level-is, clips-are, few-clips}
 use Rattle.levels.proofs.Whole.{lines-same, states-same, clips-same}
-
-pub none-printed : (old : List ℕ) → Printed [] old 0 old 0
-unfolding with-text
-none-printed old = record { written = refl; after = refl }
 
 -- an accepted frame
 module _ (conv : Converter) (r : Run) (items : List ℤ) (ok : decide (convert-frame-places conv r items) ≡ accepted) where

@@ -72,6 +72,7 @@ pub fn refusal_number(e: PcmError) -> u64
         PcmError::Before(_) => 13,
         PcmError::After(_) => 14,
         PcmError::Desk => 16,
+        PcmError::Sheet => 20,
     }
 }
 

@@ -96,7 +96,7 @@ greatest-best = record {
 }
 
 module _ {R : ℤ → ℤ → Type 0} {pick : ℤ → ℤ → ℤ} (b : Best R pick) where
-  assoc : (x y z : ℤ) → pick x (pick y z) ≡ pick (pick x y) z
+  pub assoc : (x y z : ℤ) → pick x (pick y z) ≡ pick (pick x y) z
   assoc x y z =
       b .anti _ _
       (b .best _ _ _ (b .best _ _ _ (b .left x (pick y z)) (b .next _ _ _ (b .right x (pick y z)) (b .left y z))) (b .next _ _ _ (b .right x (pick y z)) (b .right y z)))

@@ -5,3 +5,4 @@ mod WavFiles
 pub mod ExactWav
 pub mod ExactTurns
 pub mod ExactOvers
+pub mod ExactSheets

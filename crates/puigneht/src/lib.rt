@@ -34,11 +34,14 @@ use reference::Opened;
 use reference::Verdict;
 
 mod desk;
+mod sheets;
 mod studio;
 mod turns;
 mod wav_files;
 
 pub use desk::puigneht_convert_desk;
+pub use sheets::puigneht_join_stats;
+pub use sheets::puigneht_level_sheet;
 pub use studio::puigneht_overs;
 pub use turns::puigneht_turns;
 pub use wav_files::puigneht_wav_convert;

@@ -98,6 +98,7 @@ error-refuses error.Schedule = refl
 error-refuses (error.Before n) = refl
 error-refuses (error.After n) = refl
 error-refuses error.Desk = refl
+error-refuses error.Sheet = refl
 
 -- ---- what an accepted converter and an accepted run have
 

@@ -66,6 +66,7 @@ error-decision error.Schedule = refused 19 []
 error-decision (error.Before n) = refused 13 (number n ∷ [])
 error-decision (error.After n) = refused 14 (number n ∷ [])
 error-decision error.Desk = refused 16 []
+error-decision error.Sheet = refused 20 []
 
 abbrev pub decision : Verdict → Decision
 decision verdict.Accepted = accepted

@@ -161,6 +161,8 @@ pub enum PcmError {
     After(usize),
     // More frames than the listening desk takes.
     Desk,
+    // A number too wide for its column of the level sheet.
+    Sheet,
 }
 
 pub enum Verdict {

@@ -1,8 +1,8 @@
 -- `lines` meets its contract.
 use mathlib.Core.Bool.{Bool, true, false, cond}
 use mathlib.Core.Path.{_≡_, refl, sym, ap, _∙_}
-use mathlib.Core.List.{List, [], _∷_, _++_, append-nil, append-assoc}
-use Prim.Native.Nat.{ℕ, suc, _+_, _-_, _*_, _≤_, _<_}
+use mathlib.Core.List.{List}
+use Prim.Native.Nat.{ℕ, _+_, _-_, _*_, _≤_, _<_}
 use native.Mathlib.Omega.{arith}
 use borrow.Author.Needs.{needs}
 use borrow.Author.Tests.{lt-ltb, le-ltb, eqb-true, eqb-false}
@@ -16,26 +16,12 @@ use Rattle.numbers.specs.Lists.{tabulate}
 use Rattle.numbers.proofs.Lists.{getD-tabulate, length-tabulate, is-tabulate, below-or}
 use Rattle.level_lines.specs.Text.{joined, Printed}
 use Rattle.level_lines.specs.Lines.{level-line}
-use Rattle.level_lines.proofs.Printing.{then}
+use Rattle.level_lines.proofs.Printing.{none-printed, more}
 use Rattle.overs.specs.Overs.{none, overs-of}
 use Rattle.overs.specs.declared.Progress.{Progress}
 use Rattle.levels.specs.Levels.{level-of, states-after}
-use Rattle.levels.proofs.Reports.{none-printed}
 use Rattle.levels.proofs.lines.Statement.{statement}
 use Rattle.levels.proofs.lines.Tie as tie
-
-joined-last : (ts : List (List ℕ)) (t : List ℕ) → joined (ts ++ (t ∷ [])) ≡ joined ts ++ t
-unfolding joined
-joined-last [] t = append-nil t
-joined-last (s ∷ ts) t = ap (λ z. s ++ z) (joined-last ts t) ∙ sym (append-assoc s (joined ts) t)
-
--- one text more
-more : (f : ℕ → List ℕ) (n : ℕ) {t old mid new : List ℕ} {m next : ℕ} → Printed (joined (tabulate f 0 n)) old 0 mid m → Printed t mid m new next → t ≡ f n
-    → Printed (joined (tabulate f 0 (n + 1))) old 0 new next
-unfolding tabulate
-more f n p q e =
-    let i : n + 1 ≡ suc n = omega arith in
-    rw (i, zero-add n, joined-last (tabulate f 0 n) (f n), ← e) (then p q)
 
 -- the states after n channels, and one more
 module _ (items : List ℤ) (ch : ℕ) (states : List Progress) where

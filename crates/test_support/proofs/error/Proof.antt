@@ -114,6 +114,12 @@ enum-told-6 c = search needs
 refusal-requires-16 : tie.Need-refusal-requires-16
 refusal-requires-16 c κs = search needs
 
+enum-told-7 : tie.Need-enum-told-7
+enum-told-7 c = search needs
+
+refusal-requires-17 : tie.Need-refusal-requires-17
+refusal-requires-17 c κs = search needs
+
 returns : tie.Need-returns
 returns c = rw (c .before .before .e .given .1) (c .refusal .ensures)
 
@@ -162,6 +168,9 @@ returns-15 c = rw (c .before .before .e10 .given .1) (c .refusal15 .ensures)
 returns-16 : tie.Need-returns-16
 returns-16 c = rw (c .before .enum-told6 .given .1) (c .refusal16 .ensures)
 
+returns-17 : tie.Need-returns-17
+returns-17 c = rw (c .before .enum-told7 .given .1) (c .refusal17 .ensures)
+
 pub error-spec : {M : Type 1} → statement M
 error-spec =
     tie.close
@@ -203,6 +212,8 @@ error-spec =
     refusal-requires-15
     enum-told-6
     refusal-requires-16
+    enum-told-7
+    refusal-requires-17
     returns
     returns-2
     returns-3
@@ -218,4 +229,5 @@ error-spec =
     returns-13
     returns-14
     returns-15
-    returns-16)
+    returns-16
+    returns-17)

@@ -109,6 +109,12 @@ enum-told-6 c = search needs
 numbers-requires-15 : tie.Need-numbers-requires-15
 numbers-requires-15 c κs = search needs
 
+enum-told-7 : tie.Need-enum-told-7
+enum-told-7 c = search needs
+
+numbers-requires-16 : tie.Need-numbers-requires-16
+numbers-requires-16 c κs = search needs
+
 returns : tie.Need-returns
 returns c = rw (c .before .before .e .given .1) (c .numbers .ensures)
 
@@ -157,6 +163,9 @@ returns-15 c = rw (c .before .before .e10 .given .1) (c .numbers14 .ensures)
 returns-16 : tie.Need-returns-16
 returns-16 c = rw (c .before .enum-told6 .given .1) (c .numbers15 .ensures)
 
+returns-17 : tie.Need-returns-17
+returns-17 c = rw (c .before .enum-told7 .given .1) (c .numbers16 .ensures)
+
 pub of-error-spec : {M : Type 1} → statement M
 of-error-spec =
     tie.close
@@ -196,6 +205,8 @@ of-error-spec =
     numbers-requires-14
     enum-told-6
     numbers-requires-15
+    enum-told-7
+    numbers-requires-16
     returns
     returns-2
     returns-3
@@ -211,4 +222,5 @@ of-error-spec =
     returns-13
     returns-14
     returns-15
-    returns-16)
+    returns-16
+    returns-17)

@@ -1,0 +1,20 @@
+-- `report` meets its contract.
+use mathlib.Core.Path.{subst}
+use borrow.Author.Needs.{needs}
+use Rattle.level_stream.specs.Usable.{Usable}
+use Rattle.level_stream.proofs.report.Statement.{statement}
+use Rattle.level_stream.proofs.report.Tie as tie
+
+report-frames-requires : tie.Need-report-frames-requires
+report-frames-requires c κs = subst Usable (c .before .begun .given .1) (c .before .before .before .start .ensures)
+
+pub report-spec : {M : Type 1} → statement M
+report-spec =
+    tie.close
+    (tie.spec
+    (λ c κs. search needs)
+    (λ c. search needs)
+    report-frames-requires
+    (λ c. search needs)
+    (λ c. search needs)
+    (λ c. search needs))

@@ -1,0 +1,1 @@
+// Laws of the level sheet of a run; no code.

@@ -1,0 +1,20 @@
+-- `sheet` meets its contract.
+use mathlib.Core.Path.{subst}
+use borrow.Author.Needs.{needs}
+use Rattle.level_stream.specs.Usable.{Usable}
+use Rattle.sheet_stream.proofs.sheet.Statement.{statement}
+use Rattle.sheet_stream.proofs.sheet.Tie as tie
+
+sheet-frames-requires : tie.Need-sheet-frames-requires
+sheet-frames-requires c κs = subst Usable (c .before .begun .given .1) (c .before .before .before .start .ensures)
+
+pub sheet-spec : {M : Type 1} → statement M
+sheet-spec =
+    tie.close
+    (tie.spec
+    (λ c κs. search needs)
+    (λ c. search needs)
+    sheet-frames-requires
+    (λ c. search needs)
+    (λ c. search needs)
+    (λ c. search needs))
