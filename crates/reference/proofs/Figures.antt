@@ -16,8 +16,9 @@ use Rattle.numbers.proofs.Lists.{tabulate-constant, total-none}
 use Rattle.reference.specs.Rounding.{rest, nearer, R}
 use Rattle.reference.specs.Taps.{S1, HB, F40}
 use Rattle.reference.specs.Frames.{Run, frame-count, neighbour, sequence, channel-byte}
-use Rattle.reference.specs.Stages.{fir, bit, sign, entry, x, u, w, y-narrow, y, reach}
+use Rattle.reference.specs.Stages.{taps-of, fir, bit, sign, entry, x, u, w, y-narrow, y, reach}
 use Rattle.reference.specs.Scaling.{whole, LN-10, magnitude, exponent, series, squared, db-to-linear, eighth, scaled, clamp, clips}
+use Rattle.reference.specs.Settings.{built-in}
 use Rattle.reference.specs.Output.{samples-per-frame, unclamped, sample, clipped, item, channel-samples, all-samples, samples, channel-clips, stats}
 use Rattle.reference.specs.Promises.{no-clips}
 use Rattle.reference.specs.declared.PcmRate.the-variants.{Hz88200}
@@ -30,20 +31,27 @@ use Rattle.reference.proofs.Constant.{w-constant}
 abbrev level : ℕ → ℤ
 level b = R (fir F40 (λ _. R (fir HB (λ _. u S1 (λ _. b) 4) 0) 24) 0) 24
 
+built-in-taps : taps-of built-in ≡ F40
+unfolding taps-of built-in F40
+built-in-taps = refl
+
 -- a frame among three of byte b
 module _ (b : ℕ) (r : Run) (bytes : (p : ℕ) → p < 14112 → channel-byte 1 (sequence 1 r) 0 p ≡ b) (one : frame-count 1 (r .frames) ≡ 1)
     (z : ℤ) (unchanged : scaled (mono .gain .linear) (level b) ≡ z) (inside : clamp z ≡ z) (no-clip : clips z ≡ false) where
-  y-is : (k : ℕ) → k < 1176 → y Hz88200 Standard (channel-byte 1 (sequence 1 r) 0) (1176 + k) ≡ level b
-  unfolding y y-narrow samples-per-frame reach
+  y-is : (k : ℕ) → k < 1176 → y Hz88200 Standard F40 (channel-byte 1 (sequence 1 r) 0) (1176 + k) ≡ level b
+  unfolding y y-narrow samples-per-frame reach F40
   y-is k l =
-      y-same 1 (channel-byte 1 (sequence 1 r) 0) 1 (λ _. b) 1 Hz88200 Standard
+      y-same 1 (channel-byte 1 (sequence 1 r) 0) 1 (λ _. b) 1 Hz88200 Standard F40
       (record { room = lit≤ tt; room' = lit≤ tt; same = λ p m. bytes (4704 * 1 - 139 + p) (omega arith) }) k (omega arith)
       ∙ ap (w F40 (λ _. b)) (omega (arith, F40-last))
       ∙ w-constant b F40 (2282 + 2 * k)
 
   unclamped-is : (k : ℕ) → k < 1176 → unclamped mono r 0 k ≡ z
   unfolding unclamped mono samples-per-frame
-  unclamped-is k l = ap (scaled _) (y-is k l) ∙ unchanged
+  unclamped-is k l =
+      ap (λ F. scaled (mono .gain .linear) (y Hz88200 Standard F (channel-byte 1 (sequence 1 r) 0) (1176 + k))) built-in-taps
+      ∙ ap (scaled _) (y-is k l)
+      ∙ unchanged
 
   channel-is : channel-samples mono r ≡ 1176
   unfolding channel-samples mono samples-per-frame

@@ -86,7 +86,9 @@ case-of n a b =
     (cond (eqb n 12) error.NotWav
     (cond (eqb n 13) (error.Before (n-of a))
     (cond (eqb n 14) (error.After (n-of a))
-    (cond (eqb n 16) error.Desk error.Schedule))))))))))))))
+    (cond (eqb n 16) error.Desk
+    (cond (eqb n 17) error.Taps
+    (cond (eqb n 18) error.TapSums error.Schedule))))))))))))))))
 
 error-of : Decision → PcmError
 error-of accepted = error.Frames 0
@@ -110,6 +112,8 @@ error-back error.Schedule = refl
 error-back (error.Before n) = refl
 error-back (error.After n) = refl
 error-back error.Desk = refl
+error-back error.Taps = refl
+error-back error.TapSums = refl
 
 error-exact : (a b : PcmError) → error-decision a ≡ error-decision b → a ≡ b
 error-exact a b e = sym (error-back a) ∙ ap error-of e ∙ error-back b

@@ -98,14 +98,16 @@ error-refuses error.Schedule = refl
 error-refuses (error.Before n) = refl
 error-refuses (error.After n) = refl
 error-refuses error.Desk = refl
+error-refuses error.Taps = refl
+error-refuses error.TapSums = refl
 
 -- ---- what an accepted converter and an accepted run have
 
-and-left : (a b : Bool) → a && b ≡ true → a ≡ true
+pub and-left : (a b : Bool) → a && b ≡ true → a ≡ true
 and-left true b e = refl
 and-left false b e = e
 
-and-right : (a b : Bool) → a && b ≡ true → b ≡ true
+pub and-right : (a b : Bool) → a && b ≡ true → b ≡ true
 and-right true b e = e
 and-right false b e = let z : _≡_ {A = ℕ} 0 1 = cc in absurd (omega arith)
 

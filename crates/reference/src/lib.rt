@@ -2,7 +2,9 @@
 ghost use mathlib.Core.Path.{_≡_};
 ghost use Prim.Native.Nat.{_≤_};
 ghost use Rattle.reference.specs.Output.{samples-per-frame};
-ghost use Rattle.reference.specs.Settings.{converter-of};
+ghost use Rattle.reference.specs.Settings.{built-in, filter-of, converter-of};
+
+mod taps;
 
 // Bytes of one channel in a frame.
 pub const FRAME_BYTES: usize = 4704;
@@ -39,12 +41,28 @@ pub struct Gain {
     pub linear: f64,
 }
 
-// What opening is given.
+// A low-pass: its first `count` taps, from the centre outwards. The places past them are free.
+pub struct Filter {
+    pub taps: [i32; 117],
+    pub count: usize,
+}
+
+// F40.
+pub fn built_in() -> Filter
+    ensures { λ r. ⌜ r ≡ built-in ⌝ }
+{
+    let taps = taps::F40;
+    Filter { taps, count: 61 }
+}
+
+// What opening is given: with a filter if `own` says so, else its record is not read.
 pub struct Settings {
     pub rate: PcmRate,
     pub cutoff: Cutoff,
     pub channels: u8,
     pub gain: Gain,
+    pub own: bool,
+    pub filter: Filter,
 }
 
 // What opening gives, and each conversion is given.
@@ -53,6 +71,17 @@ pub struct Converter {
     pub cutoff: Cutoff,
     pub channels: u8,
     pub gain: Gain,
+    pub filter: Filter,
+}
+
+// The filter given, or F40.
+pub fn filter_of(settings: Settings) -> Filter
+    ensures { λ r. ⌜ r ≡ filter-of settings ⌝ }
+{
+    if settings.own {
+        return settings.filter;
+    }
+    built_in()
 }
 
 pub fn converter_of(settings: Settings) -> Converter
@@ -61,11 +90,13 @@ pub fn converter_of(settings: Settings) -> Converter
     let rate = settings.rate;
     let cutoff = settings.cutoff;
     let gain = settings.gain;
+    let filter = filter_of(settings);
     Converter {
         rate,
         cutoff,
         channels: settings.channels,
         gain,
+        filter,
     }
 }
 
@@ -105,6 +136,9 @@ pub enum PcmError {
     After(usize),
     // More frames than the listening desk takes.
     Desk,
+    // Of a filter: the number of its taps, their sums.
+    Taps,
+    TapSums,
 }
 
 pub enum Verdict {
