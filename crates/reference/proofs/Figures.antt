@@ -16,9 +16,8 @@ use Rattle.numbers.proofs.Lists.{tabulate-constant, total-none}
 use Rattle.reference.specs.Rounding.{rest, nearer, R}
 use Rattle.reference.specs.Taps.{S1, HB, F40}
 use Rattle.reference.specs.Frames.{Run, frame-count, neighbour, sequence, channel-byte}
-use Rattle.reference.specs.Stages.{taps-of, fir, bit, sign, entry, x, u, w, y-narrow, y, reach}
+use Rattle.reference.specs.Stages.{fir, bit, sign, entry, x, u, w, y-narrow, y, reach}
 use Rattle.reference.specs.Scaling.{whole, LN-10, magnitude, exponent, series, squared, db-to-linear, eighth, scaled, clamp, clips}
-use Rattle.reference.specs.Settings.{built-in}
 use Rattle.reference.specs.Output.{samples-per-frame, unclamped, sample, clipped, item, channel-samples, all-samples, samples, channel-clips, stats}
 use Rattle.reference.specs.Promises.{no-clips}
 use Rattle.reference.specs.declared.PcmRate.the-variants.{Hz88200}
@@ -26,14 +25,11 @@ use Rattle.reference.specs.declared.Cutoff.the-variants.{Standard}
 use Rattle.reference.specs.Figures.{mono, one-byte, frame-of, Holds, figures}
 use Rattle.reference.proofs.Locality.{F40-last, y-same}
 use Rattle.reference.proofs.Constant.{w-constant}
+use Rattle.reference.proofs.Filters.{built-in-taps}
 
 -- the value of w at Standard where every byte is b, computed
 abbrev level : ℕ → ℤ
 level b = R (fir F40 (λ _. R (fir HB (λ _. u S1 (λ _. b) 4) 0) 24) 0) 24
-
-built-in-taps : taps-of built-in ≡ F40
-unfolding taps-of built-in F40
-built-in-taps = refl
 
 -- a frame among three of byte b
 module _ (b : ℕ) (r : Run) (bytes : (p : ℕ) → p < 14112 → channel-byte 1 (sequence 1 r) 0 p ≡ b) (one : frame-count 1 (r .frames) ≡ 1)

@@ -1,4 +1,4 @@
--- The built-in filter passes its places; the places of a filter record past its number of taps are free.
+-- The built-in filter: its taps are F40, and it passes its places; the places of a filter record past its number of taps are free.
 use mathlib.Core.Path.{_≡_, refl, ap, ap₂}
 use mathlib.Core.List.{List, [], _∷_}
 use mathlib.Core.Bool.{not, _&&_}
@@ -17,6 +17,10 @@ use Rattle.reference.specs.Refusals.{accepted, Place, place, decide, rig
 use Rattle.reference.specs.Promises.{FilterPlacesFree}
 use Rattle.reference.specs.declared.Filter.{Filter}
 use Rattle.reference.specs.declared.Converter.{Converter}
+
+pub built-in-taps : taps-of built-in ≡ F40
+unfolding taps-of built-in F40
+built-in-taps = refl
 
 pub built-in-passes : decide (filter-places built-in) ≡ accepted
 unfolding decide filter-places right-sums whole-sum whole-size sumTo total taps-of built-in F40
