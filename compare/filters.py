@@ -8,7 +8,7 @@ many rows it wrote, how many of them convert, and how many filters stand at the 
 A row is 75 numbers of 16 hexadecimal digits: route (three times the cutoff and the rate, both from 0), channels, decibels
 as bits, bytes of the run, neighbours (1 before, 2 after), pattern and seed of the bytes; refusal and its two data (0 where
 the call is accepted), the reach, two digests of the samples, the clips of two channels; the number of taps, and 117 taps by
-twos, each 2^31 more than it is. Taps past their number are drawn by chance: no answer depends on them.
+twos: t, or 2^31 - 1 - t where t is negative. Taps past their number are drawn by chance: no answer depends on them.
 """
 import random
 import re
@@ -312,7 +312,8 @@ def row(t, r, made):
         answer += digests([x + (1 << 31) for x in items]) + clips
     decibels = struct.unpack("<Q", struct.pack("<d", made["db"]))[0]
     head = [made["route"], made["channels"], decibels, made["bytes"], made["neighbours"], made["pattern"], made["seed"]]
-    pairs = [taps[k] + (1 << 31) << 32 | taps[k + 1] + (1 << 31) for k in range(0, 118, 2)]
+    codes = [x if x >= 0 else HIGH - x for x in taps]
+    pairs = [codes[k] << 32 | codes[k + 1] for k in range(0, 118, 2)]
     return head + [made["number"], made["first"], made["second"]] + answer + [made["count"]] + pairs
 
 

@@ -33,20 +33,21 @@ pub use results::tell;
 pub use results::tell_conversion;
 pub use results::tell_gain;
 
-// What each conversion asks first: its numbers, and the lengths of its gain and result lists.
+// What each conversion asks first: its numbers and flags, and the lengths of its gain and result lists.
 pub fn understood(
     rate: u32,
     cutoff: u8,
     floats: usize,
+    own: u8,
     has_before: u8,
     has_after: u8,
     clipped: usize,
     data: usize,
     decibels: usize,
 ) -> bool
-    ensures { λ r. ⌜ r ≡ (known-settings rate cutoff floats && (known-flag «has_before» && (known-flag «has_after» && room-for-all clipped «data» decibels))) ⌝ }
+    ensures { λ r. ⌜ r ≡ (known-settings rate cutoff floats own && (known-flag «has_before» && (known-flag «has_after» && room-for-all clipped «data» decibels))) ⌝ }
 {
-    let known = known_settings(rate, cutoff, floats);
+    let known = known_settings(rate, cutoff, floats, own);
     let before = known_flag(has_before);
     let after = known_flag(has_after);
     let fits = room_for_all(clipped, data, decibels);
