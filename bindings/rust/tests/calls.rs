@@ -5,12 +5,13 @@ use puigneht::{
 const RATES: [PcmRate; 3] = [PcmRate::Hz88200, PcmRate::Hz176400, PcmRate::Hz352800];
 const CUTOFFS: [Cutoff; 3] = [Cutoff::Standard, Cutoff::Low, Cutoff::Wide];
 
-fn mono() -> Converter {
+fn mono() -> Converter<'static> {
     Converter {
         rate: PcmRate::Hz88200,
         cutoff: Cutoff::Standard,
         channels: 1,
         gain: gain(0.0).unwrap(),
+        taps: None,
     }
 }
 
@@ -315,6 +316,7 @@ fn pieces_join() {
                 cutoff,
                 channels: 2,
                 gain: gain(6.0).unwrap(),
+                taps: None,
             };
             let Ok(opened) = conv.open() else { continue };
             let per = 2 * opened.samples_per_frame;

@@ -105,56 +105,73 @@ fn told(done: Converted, conv: Converter, row: &[u64], out: &[i32]) -> bool {
 }
 
 // The other calls refuse a row's settings alike, before they look at a length.
-fn others_refuse(conv: Converter, row: &[u64], frames: &[u8]) -> bool {
-    if !by_settings(row) {
-        return true;
-    }
-    let mut items = [0i32; 1];
-    let mut raw = [0u8; 1];
-    let mut counts = [0u64; 1];
+fn frame_refuses(conv: Converter, row: &[u64], frames: &[u8]) -> bool {
+    let mut out = [0i32; 1];
     answered(
-        scarletbook_pcm::convert_frame_parts(conv, false, frames, frames, false, frames, &mut items),
-        row,
-    ) && answered(
-        scarletbook_pcm::convert_parts(
-            conv,
-            false,
-            frames,
-            frames,
-            false,
-            frames,
-            true,
-            &mut raw,
-            &mut counts,
-        ),
-        row,
-    ) && answered(
-        scarletbook_pcm::convert_desk_parts(
-            conv,
-            false,
-            frames,
-            frames,
-            false,
-            frames,
-            true,
-            &mut raw,
-            &mut counts,
-        ),
-        row,
-    ) && answered(
-        wav::convert_parts(
-            conv,
-            false,
-            frames,
-            frames,
-            false,
-            frames,
-            true,
-            &mut raw,
-            &mut counts,
-        ),
+        scarletbook_pcm::convert_frame_parts(conv, false, frames, frames, false, frames, &mut out),
         row,
     )
+}
+
+fn bytes_refuse(conv: Converter, row: &[u64], frames: &[u8]) -> bool {
+    let mut out = [0u8; 1];
+    let mut counts = [0u64; 1];
+    let done = scarletbook_pcm::convert_parts(
+        conv,
+        false,
+        frames,
+        frames,
+        false,
+        frames,
+        true,
+        &mut out,
+        &mut counts,
+    );
+    answered(done, row)
+}
+
+fn desk_refuses(conv: Converter, row: &[u64], frames: &[u8]) -> bool {
+    let mut out = [0u8; 1];
+    let mut counts = [0u64; 1];
+    let done = scarletbook_pcm::convert_desk_parts(
+        conv,
+        false,
+        frames,
+        frames,
+        false,
+        frames,
+        true,
+        &mut out,
+        &mut counts,
+    );
+    answered(done, row)
+}
+
+fn file_refuses(conv: Converter, row: &[u64], frames: &[u8]) -> bool {
+    let mut out = [0u8; 1];
+    let mut counts = [0u64; 1];
+    let done = wav::convert_parts(
+        conv,
+        false,
+        frames,
+        frames,
+        false,
+        frames,
+        true,
+        &mut out,
+        &mut counts,
+    );
+    answered(done, row)
+}
+
+fn others_refuse(conv: Converter, row: &[u64], frames: &[u8]) -> bool {
+    if by_settings(row) {
+        return frame_refuses(conv, row, frames)
+            && bytes_refuse(conv, row, frames)
+            && desk_refuses(conv, row, frames)
+            && file_refuses(conv, row, frames);
+    }
+    true
 }
 
 // A row whose bytes and lengths are right.
@@ -190,9 +207,45 @@ fn fill(row: &[u64], past: u64, bytes: &mut [u8]) {
     input::fill(at(row, 5), seed, period, bytes);
 }
 
+// Makes the row's bytes, and asks.
+fn answer(
+    row: &[u64],
+    before: &mut [u8],
+    frames: &mut [u8],
+    after: &mut [u8],
+    out: &mut [i32],
+) -> bool {
+    fill(row, 0, frames);
+    fill(row, 1, before);
+    fill(row, 2, after);
+    right(row, before, frames, after, out)
+}
+
 // The samples of a frame over all channels.
 fn samples(row: &[u64]) -> u64 {
     times(call::samples_per_frame(at(row, 0)), at(row, 1))
+}
+
+// Takes as much room as the row wants.
+fn parts_right(
+    row: &[u64],
+    before: &mut [u8],
+    frames: &mut [u8],
+    after: &mut [u8],
+    out: &mut [i32],
+) -> bool {
+    let size = times(4704, at(row, 1));
+    let b = test_support::of_bytes(size, before);
+    let f = test_support::of_bytes(at(row, 3), frames);
+    let a = test_support::of_bytes(size, after);
+    let o = test_support::of_samples(samples(row), out);
+    answer(
+        row,
+        &mut before[..b],
+        &mut frames[..f],
+        &mut after[..a],
+        &mut out[..o],
+    )
 }
 
 // One row, with room for a frame of two channels and a byte.
@@ -201,36 +254,38 @@ fn row_right(row: &[u64]) -> bool {
     let mut frames = [0u8; 9409];
     let mut after = [0u8; 9408];
     let mut out = [0i32; 9408];
-    let size = times(4704, at(row, 1));
-    let b = test_support::of_bytes(size, &before);
-    let f = test_support::of_bytes(at(row, 3), &frames);
-    let o = test_support::of_samples(samples(row), &out);
-    fill(row, 0, &mut frames[..f]);
-    fill(row, 1, &mut before[..b]);
-    fill(row, 2, &mut after[..b]);
-    right(row, &before[..b], &frames[..f], &after[..b], &mut out[..o])
+    parts_right(row, &mut before, &mut frames, &mut after, &mut out)
 }
 
-// Row i of the file.
-fn asked(bytes: &[u8], i: usize) -> u64 {
-    let mut row = [0u64; 75];
+// The text of row i and of those after it.
+fn part(text: &[u8], i: usize) -> &[u8] {
     if i < 240 {
-        if 1275 * i <= bytes.len() {
-            test_support::column(&bytes[1275 * i..], 0, 1, &mut row);
+        if 1275 * i <= text.len() {
+            return &text[1275 * i..];
         }
     }
+    &text[0..0]
+}
+
+fn asked(text: &[u8], i: usize) -> u64 {
+    let mut row = [0u64; 75];
+    test_support::column(part(text, i), 0, 1, &mut row);
     one(row_right(&row))
+}
+
+fn count(text: &[u8]) -> u64 {
+    let mut yes = 0u64;
+    let mut i = 0usize;
+    while i < 240 {
+        yes = yes % 1000 + asked(text, i) % 2;
+        i += 1;
+    }
+    yes
 }
 
 // Every row of the file.
 pub fn own() {
-    let mut bytes = [0u8; 306000];
-    test_support::read(b"filters", 18000, &mut bytes);
-    let mut yes = 0u64;
-    let mut i = 0usize;
-    while i < 240 {
-        yes = yes % 1000 + asked(&bytes, i) % 2;
-        i += 1;
-    }
-    test_support::right(b"own filters ", 240, yes);
+    let mut text = [0u8; 306000];
+    test_support::read(b"filters", 18000, &mut text);
+    test_support::right(b"own filters ", 240, count(&text));
 }
