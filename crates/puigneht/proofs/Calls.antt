@@ -43,11 +43,11 @@ pub open-lengths : (s : CSettings) (opened numbers : List ℕ) (decibels : List 
 open-lengths s opened numbers decibels h =
     let settings = both-true (known-settings (s .rate) (s .cutoff) (length (s .gain)) (s .own)) _ h in
     let lists = both-true (eqb (length opened) 2) _ (settings .1) in
-    record { floats = two-floats _ _ _ _ (settings .0); firsts = eqb-true _ _ (lists .0); told = room-is _ _ (lists .1) }
+    record { floats = two-floats (s .rate) (s .cutoff) (length (s .gain)) (s .own) (settings .0); firsts = eqb-true _ _ (lists .0); told = room-is _ _ (lists .1) }
 
 pub lengths : (s : CSettings) (i : Input) (old : Results) → conversion-understood s i old ≡ true → Lengths (s .gain) 6 (old .clipped) (old .numbers) (old .decibels)
 lengths s i old h =
     let settings = both-true (known-settings (s .rate) (s .cutoff) (length (s .gain)) (s .own)) _ h in
     let flags = both-true (known-flag (i .has-after)) _ (both-true (known-flag (i .has-before)) _ (settings .1) .1) in
     let lists = both-true (eqb (length (old .clipped)) 6) _ (flags .1) in
-    record { floats = two-floats _ _ _ _ (settings .0); firsts = eqb-true _ _ (lists .0); told = room-is _ _ (lists .1) }
+    record { floats = two-floats (s .rate) (s .cutoff) (length (s .gain)) (s .own) (settings .0); firsts = eqb-true _ _ (lists .0); told = room-is _ _ (lists .1) }

@@ -25,7 +25,7 @@ asked s = conversion-understood (the-settings s) (the-input s) (old s)
 abbrev start : tie.After-understood → tie.Start
 start c =
     let past = c .before .before .before .before .before in
-    past .before .before .before .before
+    past .before .before .before
 
 known : (c : tie.Then1) → asked (start (c .before)) ≡ true
 known c = sym (c .before .understood .ensures) ∙ c .if1 .taken

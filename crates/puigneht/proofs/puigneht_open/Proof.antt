@@ -21,7 +21,7 @@ asked s = open-understood (the-settings s) (now (s .args .opened)) (now (s .args
 abbrev start : tie.After-both2 → tie.Start
 start c =
     let past = c .before .before .before .before .before in
-    past .before .before .before .before
+    past .before .before .before
 
 -- what the test finds
 found : (c : tie.After-both2) → c .both2 .result ≡ asked (start c)
