@@ -1,6 +1,8 @@
 // Whether a label's low-pass is taken.
 ghost use mathlib.Core.Path.{_≡_};
 ghost use Prim.Native.Nat.{_^_, _<_, _≤_};
+ghost use mathlib.Core.Bool.{_&&_};
+ghost use lib.Dec.{leb};
 ghost use lib.IntN.{natAbs};
 ghost use lib.ListN.{length, take};
 ghost use Rattle.reference.specs.Stages as stages;
@@ -52,20 +54,26 @@ fn right_sums(taps: [i32; 117], count: usize) -> bool
     s.size <= 40000000
 }
 
+fn right_number(count: usize) -> bool
+    ensures { λ r. ⌜ r ≡ (leb 1 count && leb count 117) ⌝ }
+{
+    if count < 1 {
+        return false;
+    }
+    count <= 117
+}
+
 // Refusals 17 and 18.
 pub fn filter(f: Filter) -> Verdict
     ensures { λ r. ⌜ decision r ≡ decide (filter-places f) ⌝ }
 {
     let count = f.count;
-    if count < 1 {
-        return Verdict::Refused(PcmError::Taps);
+    if right_number(count) {
+        let taps = f.taps;
+        if right_sums(taps, count) {
+            return Verdict::Accepted;
+        }
+        return Verdict::Refused(PcmError::TapSums);
     }
-    if count > 117 {
-        return Verdict::Refused(PcmError::Taps);
-    }
-    let taps = f.taps;
-    if right_sums(taps, count) {
-        return Verdict::Accepted;
-    }
-    Verdict::Refused(PcmError::TapSums)
+    Verdict::Refused(PcmError::Taps)
 }
