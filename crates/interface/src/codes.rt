@@ -78,7 +78,10 @@ pub fn known_settings(rate: u32, cutoff: u8, floats: usize, own: u8) -> bool
 {
     let known_rate = hertz(rate_of(rate)) == rate as u64;
     let known_cutoff = cutoff_number(cutoff_of(cutoff)) == cutoff as u64;
-    both(known_rate, both(known_cutoff, both(floats == 2, known_flag(own))))
+    both(
+        known_rate,
+        both(known_cutoff, both(floats == 2, known_flag(own))),
+    )
 }
 
 // A tap of a list, and 0 past its end.

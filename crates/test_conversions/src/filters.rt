@@ -93,7 +93,8 @@ fn opened_right(v: Verdict, row: &[u64]) -> bool {
 
 // The row's samples, clips and reach; a refused call counts nothing and keeps the output.
 fn told(done: Converted, conv: Converter, row: &[u64], out: &[i32]) -> bool {
-    let clips = test_support::clips(done, 0) == at(row, 13) && test_support::clips(done, 1) == at(row, 14);
+    let clips = test_support::clips(done, 0) == at(row, 13)
+        && test_support::clips(done, 1) == at(row, 14);
     if at(row, 7) != 0 {
         return clips && row::all_are(0, out);
     }

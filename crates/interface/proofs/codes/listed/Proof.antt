@@ -29,8 +29,7 @@ loop-holds c = (omega arith, refl, held-none)
 loop-again : tie.Need-loop-again Inv-loop μ-loop
 loop-again c =
     let l = c .before .before in
-    let h = now (l .before .args .taps) in
-    (
+    let h = now (l .before .args .taps) in (
       omega arith,
       simp length-set (l .loop .inv .1),
       held-more (l .loop .inv .2) (omega arith) (toZ-ofZ {w = w32} (record { sfits = c .tap .ok }) ∙ c .tap .ensures ∙ ap (tap h) (omega arith)),
