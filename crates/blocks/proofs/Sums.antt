@@ -67,7 +67,7 @@ run-samples conv {f = f} l = few-samples (conv .rate) (frame-count (conv .channe
 
 module _ {conv : Converter} {count : ℕ} {b f a : List ℕ} {tables taps : List ℤ} (ready : Ready conv count b f a tables taps) (c k m : ℕ) {ys : List ℤ}
     (held : Held (pos 0) (y-of (conv .rate) (conv .cutoff) (last-of conv) (byte-at (conv .channels) b f a c)) (samples-per-frame (conv .rate) + k) m ys) where
-  pub values-small : (i : ℕ) → i < m → natAbs (at0 ys i) < 2 ^ 32
+  pub values-small : (i : ℕ) → i < m → natAbs (at0 ys i) < 2 ^ 31
   values-small i l =
       let e = held .is i l in
       rw e (omega (arith, y-of-size (conv .rate) (conv .cutoff) (last-of conv) (ready .last .last) (byte-at (conv .channels) b f a c) (samples-per-frame (conv .rate) + k + i)))

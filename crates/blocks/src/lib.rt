@@ -57,9 +57,9 @@ fn gather<'a>(
 
 // The first m numbers as samples.
 fn scale(conv: Converter, y: &[i64], m: usize, samples: &mut [i32]) -> Tally
-    requires { ⌜ (m ≤ length (now y)) × (m ≤ length (now samples)) ⌝ }
+    requires { ⌜ (0 < m) × (m ≤ length (now y)) × (m ≤ length (now samples)) ⌝ }
     requires { ⌜ T (bounded (conv .gain .linear)) ⌝ }
-    requires { ⌜ ((k : ℕ) → k < m → natAbs (at0 (now y) k) < 2 ^ 32) ⌝ }
+    requires { ⌜ ((k : ℕ) → k < m → natAbs (at0 (now y) k) < 2 ^ 31) ⌝ }
     ensures { λ r. ⌜ Held (pos 0) (λ k. clamp (scaled (conv .gain .linear) (at0 (now (y .entry)) k))) 0 m (now (samples .exit)) ⌝ }
     ensures { λ r. ⌜ r ≡ tally (λ k. scaled (conv .gain .linear) (at0 (now (y .entry)) k)) 0 m ⌝ }
 {

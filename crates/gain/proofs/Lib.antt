@@ -3,3 +3,4 @@ pub mod Reach
 pub mod Records
 pub mod Tallies
 pub mod Scaling
+pub mod Order

@@ -1,13 +1,14 @@
 -- What the scaling asks and gives.
 use mathlib.Core.Path.{_≡_}
 use mathlib.Core.List.{List}
-use mathlib.Core.Bool.{Bool, true, false, _&&_}
+use mathlib.Core.Bool.{Bool, true, false, cond, _&&_}
 use Prim.Native.Nat.{ℕ, _*_, _<_}
 use lib.Dec.{ltb, leb}
-use lib.IntN.{ℤ, pos}
-use lib.ListN.{length, getD}
+use lib.IntN.{ℤ}
+use lib.ListN.{length}
 use lib.Ieee.{Float, nan, inf, fin, up, down}
-use Rattle.reference.specs.Scaling.{scaled, clamp}
+use Rattle.numbers.specs.Sums.{at0}
+use Rattle.reference.specs.Scaling.{scaled, clamp, clips}
 use Rattle.gain.specs.declared.Tally.{Tally}
 use Rattle.gain.specs.Tallies.{tally}
 
@@ -18,13 +19,13 @@ bounded (inf s) = false
 bounded (fin true m e) = false
 bounded (fin false m e) = ltb 0 m && leb (m * up e) (16 * down e)
 
--- the sample of a number z before the clamp, and what it tells
-pub record Clamped (z sample : ℤ) (told : Tally) : Type 0 where
+-- the sample of a number z before the clamp, and whether it is clipped, as 0 or 1
+pub record Clamped (z sample : ℤ) (clipped : ℕ) : Type 0 where
   pub is-sample : sample ≡ clamp z
-  pub is-told : told ≡ tally (λ k. z) 0 1
+  pub is-clipped : clipped ≡ cond (clips z) 1 0
 
 -- ys scaled into `out`, which holds out' then
 pub record ScaledBlock (factor : Float) (ys out out' : List ℤ) (told : Tally) : Type 0 where
   pub same-length : length out' ≡ length out
-  pub samples : (k : ℕ) → k < length ys → getD out' k (pos 0) ≡ clamp (scaled factor (getD ys k (pos 0)))
-  pub is-told : told ≡ tally (λ k. scaled factor (getD ys k (pos 0))) 0 (length ys)
+  pub samples : (k : ℕ) → k < length ys → at0 out' k ≡ clamp (scaled factor (at0 ys k))
+  pub is-told : told ≡ tally (λ k. scaled factor (at0 ys k)) 0 (length ys)

@@ -2,19 +2,18 @@
 ghost use mathlib.Core.Path.{_≡_};
 ghost use Prim.Native.Nat.{ℕ, _^_, _<_};
 ghost use lib.Dec.{T};
-ghost use lib.IntN.{pos, natAbs};
-ghost use lib.ListN.{length, getD};
+ghost use lib.IntN.{natAbs};
+ghost use lib.ListN.{length};
 ghost use lib.Ieee.{binary64, ofInt, toSigned, inSigned};
+ghost use Rattle.numbers.specs.Sums.{at0};
 ghost use Rattle.reference.specs.Scaling.{scaled, clamp};
 ghost use Rattle.floats.specs.Whole.{whole-of, below-51};
 ghost use Rattle.gain.specs.Scale.{bounded, Clamped, ScaledBlock};
 use crate::Tally;
-use crate::join_tally;
-use crate::no_tally;
 
 struct Scaled {
     sample: i32,
-    tally: Tally,
+    clipped: u64,
 }
 
 const MAGIC: f64 = 6755399441055744.0;
@@ -41,40 +40,65 @@ fn clip(z: f64) -> f64
     if capped < LOWEST { LOWEST } else { capped }
 }
 
+// The whole number that y becomes, as a float.
+fn whole(y: i64, factor: f64) -> f64
+    requires { ⌜ natAbs y < 2 ^ 32 ⌝ }
+    requires { ⌜ T (bounded factor) ⌝ }
+    ensures { λ r. ⌜ r ≡ ofInt binary64 (scaled factor y) ⌝ }
+{
+    nearest_even((y as f64) * factor * 0.125)
+}
+
 // y as a sample. The clamp comes before the cast, and nothing branches: so the machine scales several at once.
 fn scale(y: i64, factor: f64) -> Scaled
     requires { ⌜ natAbs y < 2 ^ 32 ⌝ }
     requires { ⌜ T (bounded factor) ⌝ }
-    ensures { λ r. ⌜ Clamped (scaled factor y) (r .sample) (r .tally) ⌝ }
+    ensures { λ r. ⌜ Clamped (scaled factor y) (r .sample) (r .clipped) ⌝ }
 {
-    let x = (y as f64) * factor * 0.125;
-    let z = nearest_even(x);
+    let z = whole(y, factor);
     let s = clip(z);
     let sample = s as i32;
     let clipped = (s != z) as u64;
-    Scaled {
-        sample,
-        tally: Tally { clipped },
-    }
+    Scaled { sample, clipped }
 }
 
-// The numbers of a block as samples.
-pub fn scale_block(ys: &[i64], factor: f64, out: &mut [i32]) -> Tally
-    requires { ⌜ length (now out) ≡ length (now ys) ⌝ }
+// The number that y becomes, before the clamp.
+fn before_clamp(y: i32, factor: f64) -> i64
     requires { ⌜ T (bounded factor) ⌝ }
-    requires { ⌜ ((k : ℕ) → k < length (now ys) → natAbs (getD (now ys) k (pos 0)) < 2 ^ 32) ⌝ }
+    ensures { λ r. ⌜ r ≡ scaled factor y ⌝ }
+{
+    let z = whole(y as i64, factor);
+    z as i64
+}
+
+// The numbers of a block as samples. Scaling keeps their order, so that for the lowest and the highest no other y is scaled again.
+pub fn scale_block(ys: &[i64], factor: f64, out: &mut [i32]) -> Tally
+    requires { ⌜ (0 < length (now ys)) × (length (now out) ≡ length (now ys)) ⌝ }
+    requires { ⌜ T (bounded factor) ⌝ }
+    requires { ⌜ ((k : ℕ) → k < length (now ys) → natAbs (at0 (now ys) k) < 2 ^ 31) ⌝ }
     ensures { λ r. ⌜ ScaledBlock factor (now (ys .entry)) (now (out .entry)) (now (out .exit)) r ⌝ }
 {
-    let mut tally = no_tally();
+    let mut clipped = 0u64;
+    let mut least: i32 = 2147483647;
+    let mut greatest: i32 = -2147483647;
     let mut i = 0usize;
     while i < ys.len() {
-        let s = scale(ys[i], factor);
+        let y = ys[i];
+        let s = scale(y, factor);
         let sample = s.sample;
-        let one = s.tally;
         out[i] = sample;
-        let more = join_tally(tally, one);
-        tally = more;
+        clipped += s.clipped;
+        let short = y as i32;
+        least = reference::lesser(least, short);
+        greatest = reference::greater(greatest, short);
         i += 1;
     }
-    tally
+    let lowest = before_clamp(least, factor);
+    let highest = before_clamp(greatest, factor);
+    Tally {
+        clipped,
+        lowest,
+        highest,
+        empty: false,
+    }
 }

@@ -3,7 +3,7 @@ ghost use mathlib.Core.Path.{_≡_};
 ghost use mathlib.Core.Bool.{_&&_};
 ghost use Rattle.interface.specs.Codes.{known-flag};
 ghost use Rattle.interface.specs.Settings.{known-settings};
-ghost use Rattle.interface.specs.Told.{room-for-all};
+ghost use Rattle.interface.specs.Told.{room};
 
 mod codes;
 mod files;
@@ -28,12 +28,13 @@ pub use results::of_error;
 pub use results::of_verdict;
 pub use results::put_two;
 pub use results::room;
-use results::room_for_all;
+pub use results::room_for_stats;
 pub use results::tell;
 pub use results::tell_conversion;
 pub use results::tell_gain;
 
-// What each conversion asks first: its numbers and flags, and the lengths of its gain and result lists.
+// What each conversion asks first: its numbers and flags, and the lengths of its gain and result lists; `stats` says whether those for statistics are
+// right.
 pub fn understood(
     rate: u32,
     cutoff: u8,
@@ -41,15 +42,15 @@ pub fn understood(
     own: u8,
     has_before: u8,
     has_after: u8,
-    clipped: usize,
+    stats: bool,
     data: usize,
     decibels: usize,
 ) -> bool
-    ensures { λ r. ⌜ r ≡ (known-settings rate cutoff floats own && (known-flag «has_before» && (known-flag «has_after» && room-for-all clipped «data» decibels))) ⌝ }
+    ensures { λ r. ⌜ r ≡ (known-settings rate cutoff floats own && (known-flag «has_before» && (known-flag «has_after» && (stats && room «data» decibels)))) ⌝ }
 {
     let known = known_settings(rate, cutoff, floats, own);
     let before = known_flag(has_before);
     let after = known_flag(has_after);
-    let fits = room_for_all(clipped, data, decibels);
+    let fits = both(stats, room(data, decibels));
     both(known, both(before, both(after, fits)))
 }

@@ -1,4 +1,4 @@
-// What a call tells: the number of its decision, and data, decibels and clip counts in lent lists.
+// What a call tells: the number of its decision, and data, decibels and statistics in lent lists.
 ghost use mathlib.Core.Path.{_≡_};
 ghost use mathlib.Core.List.{[], _∷_};
 ghost use lib.ListN.{length};
@@ -7,7 +7,7 @@ ghost use Rattle.reference.specs.Promises.{by-decision};
 ghost use Rattle.reference.specs.Scaling.{whole};
 ghost use Rattle.interface.specs.Codes.{report};
 ghost use Rattle.interface.specs.Told as told;
-ghost use Rattle.interface.specs.Told.{Told, ToldWhole, gain-floats};
+ghost use Rattle.interface.specs.Told.{stat-lists, told-stats, Told, ToldWhole, gain-floats};
 use crate::codes::both;
 use crate::codes::cutoff_number;
 use crate::codes::hertz;
@@ -82,11 +82,14 @@ pub fn room(data: usize, decibels: usize) -> bool
     both(data == 2, decibels == 1)
 }
 
-// The lengths of the lists for clip counts, data and decibels.
-pub fn room_for_all(clipped: usize, data: usize, decibels: usize) -> bool
-    ensures { λ r. ⌜ r ≡ told.room-for-all clipped «data» decibels ⌝ }
+// The lengths of the lists for statistics.
+pub fn room_for_stats(clipped: usize, lowest: usize, highest: usize, empty: usize) -> bool
+    ensures { λ r. ⌜ r ≡ told.room-for-stats clipped lowest highest empty ⌝ }
 {
-    both(clipped == 6, room(data, decibels))
+    both(
+        clipped == 6,
+        both(lowest == 6, both(highest == 6, empty == 6)),
+    )
 }
 
 // Two numbers in a list of two.
@@ -98,15 +101,27 @@ pub fn put_two(list: &mut [u64], first: u64, second: u64)
     list[1] = second;
 }
 
-// Clip counts.
-pub fn put_counts(stats: ConvertStats, clipped: &mut [u64])
-    requires { ⌜ length (now clipped) ≡ 6 ⌝ }
-    ensures { λ _. ⌜ now (clipped .exit) ≡ stats .clipped ⌝ }
+// Statistics in their lists, a mark as 1.
+pub fn put_stats(
+    stats: ConvertStats,
+    clipped: &mut [u64],
+    lowest: &mut [i64],
+    highest: &mut [i64],
+    empty: &mut [u8],
+)
+    requires { ⌜ (length (now clipped) ≡ 6) × (length (now lowest) ≡ 6) × (length (now highest) ≡ 6) × (length (now empty) ≡ 6) ⌝ }
+    ensures { λ _. ⌜ stat-lists (now (clipped .exit)) (now (lowest .exit)) (now (highest .exit)) (now (empty .exit)) ≡ told-stats stats ⌝ }
 {
     let counts = stats.clipped;
+    let low = stats.lowest;
+    let high = stats.highest;
+    let marks = stats.empty;
     let mut c = 0usize;
     while c < 6 {
         clipped[c] = counts[c];
+        lowest[c] = low[c];
+        highest[c] = high[c];
+        empty[c] = marks[c] as u8;
         c += 1;
     }
 }
@@ -143,23 +158,26 @@ pub fn tell_gain(made: FromDb, gain: &mut [f64], decibels: &mut [f64]) -> u8
     }
 }
 
-// A conversion's number is answered, its data and decibels written, and its clip counts where it was accepted.
+// A conversion's number is answered, its data and decibels written, and its statistics where it was accepted.
 pub fn tell_conversion(
     made: Converted,
     clipped: &mut [u64],
+    lowest: &mut [i64],
+    highest: &mut [i64],
+    empty: &mut [u8],
     data: &mut [u64],
     decibels: &mut [f64],
 ) -> u8
-    requires { ⌜ length (now clipped) ≡ 6 ⌝ }
+    requires { ⌜ (length (now clipped) ≡ 6) × (length (now lowest) ≡ 6) × (length (now highest) ≡ 6) × (length (now empty) ≡ 6) ⌝ }
     requires { ⌜ (length (now «data») ≡ 2) × (length (now decibels) ≡ 1) ⌝ }
     ensures { λ r. ⌜ ToldWhole (decision (made .verdict)) r (now («data» .exit)) (now (decibels .exit)) ⌝ }
-    ensures { λ _. ⌜ now (clipped .exit) ≡ by-decision (decision (made .verdict)) (made .stats .clipped) (now (clipped .entry)) ⌝ }
+    ensures { λ _. ⌜ stat-lists (now (clipped .exit)) (now (lowest .exit)) (now (highest .exit)) (now (empty .exit)) ≡ by-decision (decision (made .verdict)) (told-stats (made .stats)) (stat-lists (now (clipped .entry)) (now (lowest .entry)) (now (highest .entry)) (now (empty .entry))) ⌝ }
 {
     let verdict = made.verdict;
     match verdict {
         Verdict::Accepted => {
             let stats = made.stats;
-            put_counts(stats, clipped);
+            put_stats(stats, clipped, lowest, highest, empty);
             tell(verdict, data, decibels)
         }
         Verdict::Refused(_) => tell(verdict, data, decibels),

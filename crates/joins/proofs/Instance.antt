@@ -19,7 +19,8 @@ use Rattle.reference.specs.Settings.{filter-of}
 use Rattle.reference.specs.Figures.{mono}
 use Rattle.reference.specs.Output.{samples-per-frame, channel-samples, all-samples, samples, stats, s24le}
 use Rattle.reference.specs.Refusals.{rack, number, accepted, refused, Place, decide, is-accepted, unsupported, opening-places, held-places, input-places, run-length, one-long, if-present, lent-length, byte-lengths, run-lengths, convert-places, convert-run-places}
-use Rattle.reference.specs.Promises.{if-lent, no-clips}
+use Rattle.reference.specs.Promises.{if-lent}
+use Rattle.reference.specs.Statistics.{no-stats}
 use Rattle.reference.specs.declared.Converter.{Converter}
 use Rattle.reference.specs.declared.Verdict.the-variants as verdict
 use Rattle.reference.specs.declared.PcmError.the-variants as error
@@ -124,7 +125,7 @@ module _ (conv : Converter) (opens : decide (held-places conv) ≡ accepted) (so
     counts = [];
     out' = [];
     counts' = [];
-    answer = record { verdict = verdict.Refused (error.OutputBytes 0 (3 * all-samples conv first)); stats = no-clips };
+    answer = record { verdict = verdict.Refused (error.OutputBytes 0 (3 * all-samples conv first)); stats = no-stats };
     promise = record {
       answered = record { decided = sym short-refused; counted = sym (exit-refused _ _ _ is-refused) };
       written = sym (exit-refused _ _ _ is-refused);

@@ -2,8 +2,8 @@
 use mathlib.Core.Path.{_≡_, refl, ap, ap₂, sym, _∙_}
 use mathlib.Core.List.{List, [], _∷_, _++_, map, flatMap, append-assoc, List·Memᴰ, List·Memᴰ·head, List·Memᴰ·tail}
 use mathlib.Core.Bool.{Bool, true, false, cond}
-use Prim.Native.Nat.{ℕ, _+_, _*_, _/_, _<_}
-use native.Mathlib.Nat.{div-eq-of-eq-mul-left}
+use Prim.Native.Nat.{ℕ, _+_, _*_, _/_, _^_, _≤_, _<_}
+use native.Mathlib.Nat.{div-eq-of-eq-mul-left, mul-le-mul}
 use native.Mathlib.Omega.{arith}
 use borrow.Author.Tests.{ltb-true}
 use lib.Dec.{ltb}
@@ -13,15 +13,18 @@ use Rattle.numbers.proofs.Lists.{getD-tabulate, tabulate-join, total-join}
 use Rattle.reference.specs.Frames.{Run, frame-length, frame-count, sequence}
 use Rattle.reference.specs.Output.{samples-per-frame, clipped, item, channel-samples, all-samples, samples, channel-clips, stats, frame-clips, per-frame-clips}
 use Rattle.reference.specs.Refusals.{rack, accepted, decide, decision, is-accepted, held-places, input-places, byte-lengths, run-lengths, convert-places, convert-run-places}
-use Rattle.reference.specs.Promises.{if-lent, no-clips}
+use Rattle.reference.specs.Promises.{if-lent}
+use Rattle.reference.specs.Statistics.{no-stats, all-joined}
 use Rattle.reference.specs.declared.Converter.{Converter}
 use Rattle.reference.specs.declared.ConvertStats.{ConvertStats}
 use Rattle.reference.specs.declared.Limit.{Limit}
-use Rattle.reference.proofs.Refusals.{decide-first, decide-skip, some-channel, whole-frames, one-before}
+use Rattle.reference.proofs.Refusals.{decide-first, decide-skip, some-channel, whole-frames, few-frames, one-before}
+use Rattle.reference.proofs.Frames.{frame-samples}
 use Rattle.reference.proofs.Promises.{accepted-is, exit-accepted, exit-refused}
 use Rattle.joins.specs.Joins.{read-s24le, Call, convert, convert-run, ConvertCall, ConvertRunCall, run-of, answer-of, samples-of, clips-of, lends, counts-of, lengths, right-lengths, is-answered-accepted, Unchanged, keep, pieces, AllAgree, Decided, add-up, accepted-calls, CutRunsJoin}
 use Rattle.joins.proofs.Pieces.{PieceOf, piece-samples, piece-clips, piece-counts}
 use Rattle.joins.proofs.Bytes.{samples-back}
+use Rattle.joins.proofs.Statistics.{stretch, stats-stretch, stretch-none, stretch-join, piece-stretch}
 
 -- ---- lists
 
@@ -66,6 +69,7 @@ record Gives {conv : Converter} (call : Call conv) : Type 0 where
   sampled : samples-of call ≡ samples conv (run-of call)
   clips : (c : ℕ) → c < 6 → clips-of call c ≡ channel-clips conv (run-of call) c
   counts : lends call ≡ true → counts-of call ≡ per-frame-clips conv (run-of call)
+  told : answer-of call .stats ≡ stats conv (run-of call)
 
 module _ (conv : Converter) (opens : decide (held-places conv) ≡ accepted) where
   -- the places from the run length on decide
@@ -85,7 +89,7 @@ module _ (conv : Converter) (opens : decide (held-places conv) ≡ accepted) whe
   unfolding is-answered-accepted right-lengths
   accepted-right call = ap is-accepted (answered call)
 
-  left : (call : Call conv) → is-accepted (decide (lengths call)) ≡ false → Unchanged call × (answer-of call .stats ≡ no-clips)
+  left : (call : Call conv) → is-accepted (decide (lengths call)) ≡ false → Unchanged call × (answer-of call .stats ≡ no-stats)
   left (convert c) e =
       let no = ap is-accepted (convert-skip c) ∙ e in
       ((c .promise .written ∙ exit-refused _ _ _ no, c .promise .per-frame ∙ exit-refused _ _ _ no), c .promise .answered .counted ∙ exit-refused _ _ _ no)
@@ -120,6 +124,7 @@ module _ (conv : Converter) (opens : decide (held-places conv) ≡ accepted) whe
         sampled = ap read-s24le (c .promise .written ∙ exit-accepted _ _ _ yes) ∙ samples-back conv (c .run);
         clips = clips-at (c .run) _ (c .promise .answered .counted ∙ exit-accepted _ _ _ yes);
         counts = λ lent. c .promise .per-frame ∙ exit-accepted _ _ _ yes ∙ lent-list _ _ _ lent;
+        told = c .promise .answered .counted ∙ exit-accepted _ _ _ yes;
       }
   gives (convert-run c) e =
       let right = accepted-is _ e in
@@ -129,6 +134,7 @@ module _ (conv : Converter) (opens : decide (held-places conv) ≡ accepted) whe
         sampled = c .promise .written ∙ exit-accepted _ _ _ yes;
         clips = clips-at (c .run) _ (c .promise .answered .counted ∙ exit-accepted _ _ _ yes);
         counts = λ lent. let z : _≡_ {A = ℕ} 0 1 = cc in absurd (omega arith);
+        told = c .promise .answered .counted ∙ exit-accepted _ _ _ yes;
       }
 
 -- ---- a list of calls with right lengths
@@ -158,15 +164,16 @@ module _ (conv : Converter) where
     sampled : flatMap samples-of ds ≡ tabulate (item conv r) (a * per * ch) (frames-in ds * per * ch)
     clips : (c : ℕ) → c < 6 → add-up (map (λ call. clips-of call c) ds) ≡ cond (ltb c ch) (count (clipped conv r c) (a * per) (frames-in ds * per)) 0
     counts : Each (λ call. lends call ≡ true) ds → flatMap counts-of ds ≡ tabulate (frame-clips conv r) a (frames-in ds)
+    told : frames-in ds * per < 2 ^ 64 → all-joined (map (λ call. answer-of call .stats) ds) ≡ stretch conv r (a * per) (frames-in ds * per)
 
   module _ (opens : decide (held-places conv) ≡ accepted) (r : Run) (fits : decide (input-places rack conv r) ≡ accepted) where
     from : (ds : List (Call conv)) → Each Gives ds → (a : ℕ) (done : List ℕ) → r .frames ≡ done ++ bytes-in ds → length done ≡ a * frame-length ch
         → AllAgree conv (sequence ch r) a (map run-of ds) → From r a ds
-    unfolding flatMap add-up frames-in tabulate total samples all-samples channel-samples channel-clips per-frame-clips
+    unfolding flatMap add-up frames-in tabulate total samples all-samples channel-samples channel-clips per-frame-clips all-joined
     from [] g a done e l agree =
         let z : 0 * per ≡ 0 = omega arith in
         let z' : 0 * ch ≡ 0 = omega arith in
-        record { sampled = rw (z, z'); clips = λ c h. rw z (sym (cond-same (ltb c ch) 0)); counts = λ h. refl }
+        record { sampled = rw (z, z'); clips = λ c h. rw z (sym (cond-same (ltb c ch) 0)); counts = λ h. refl; told = λ h. rw z (sym (stretch-none conv r (a * per))) }
     from (d ∷ ds) g a done e l agree =
         let n = frame-count ch (run-of d .frames) in
         let m = frames-in ds in
@@ -198,6 +205,8 @@ module _ (conv : Converter) where
               )));
           counts = λ h. ap₂ (λ x y. x ++ y) (g .0 .counts (h .0) ∙ piece-counts conv r a n (run-of d) cut) (more .counts (h .1))
               ∙ sym (tabulate-join (frame-clips conv r) a n m);
+          told = λ h. rw (g .0 .told ∙ stats-stretch conv (run-of d) ∙ piece-stretch conv r a n (run-of d) cut, more .told (omega arith))
+              (rw (at-channel, all-channel) (stretch-join conv r (a * per) (n * per) (m * per) (omega (arith, h))));
         }
 
 -- ---- the whole list
@@ -213,9 +222,12 @@ cut-runs-join conv r calls opens fits joins =
     let all : From conv r 0 ds = from conv (opens .opens) r (fits .fits) ds g 0 [] (sym (joins .bytes)) (omega arith) (joins .neighbours) in
     let n : length (r .frames) / frame-length ch ≡ frames-in conv ds
     = div-eq-of-eq-mul-left (omega (arith, some-channel conv (opens .opens))) (ap length (sym (joins .bytes)) ∙ bytes-length conv ds g) in
+    let limit : frames-in conv ds ≤ 540000 = omega (arith, few-frames rack conv r (fits .fits)) in
+    let few : frames-in conv ds * per < 2 ^ 64 = omega (arith, mul-le-mul limit (frame-samples (conv .rate))) in
     record {
       decided = λ call m. decided conv (opens .opens) call;
       sampled = rw (same, n) (all .sampled ∙ ap (λ s. tabulate (item conv r) s (frames-in conv ds * per * ch)) (omega arith));
       counted = λ c h. rw (same, n) (all .clips c h ∙ ap (λ s. cond (ltb c ch) (count (clipped conv r c) s (frames-in conv ds * per)) 0) (omega arith));
       per-frame = λ h. rw (same, n) (all .counts (each-member _ ds (λ call m. h call (rw same m))));
+      told = rw same (all .told few ∙ ap (λ k. stretch conv r (0 * per) (k * per)) (sym n) ∙ ap (λ k. stretch conv r k (channel-samples conv r)) (omega arith) ∙ sym (stats-stretch conv r));
     }

@@ -9,9 +9,10 @@ use lib.ListN.{length, getD}
 use Rattle.numbers.specs.Lists.{tabulate}
 use Rattle.reference.specs.Frames.{Run, frame-bytes, frame-count, frame, before-frame, after-frame, sequence, channel-byte}
 use Rattle.reference.specs.Settings.{reach-of}
-use Rattle.reference.specs.Output.{samples, channel-clips, per-frame-clips}
+use Rattle.reference.specs.Output.{samples, channel-clips, per-frame-clips, stats}
 use Rattle.reference.specs.Refusals.{rack, accepted, Place, decide, decision, is-accepted, held-places, input-places, byte-lengths, run-lengths}
-use Rattle.reference.specs.Promises.{BytesPromise, ConvertRunPromise, no-clips}
+use Rattle.reference.specs.Promises.{BytesPromise, ConvertRunPromise}
+use Rattle.reference.specs.Statistics.{no-stats, all-joined}
 use Rattle.reference.specs.declared.Converter.{Converter}
 use Rattle.reference.specs.declared.Converted.{Converted}
 use Rattle.reference.specs.declared.Limit.{Limit}
@@ -138,7 +139,7 @@ pub record Decided {conv : Converter} (call : Call conv) : Type 0 where
   pub right : right-lengths call ≡ true → is-answered-accepted call ≡ true
   pub wrong : right-lengths call ≡ false → is-answered-accepted call ≡ false
   pub unchanged : right-lengths call ≡ false → Unchanged call
-  pub uncounted : right-lengths call ≡ false → answer-of call .stats ≡ no-clips
+  pub uncounted : right-lengths call ≡ false → answer-of call .stats ≡ no-stats
 
 -- n₀ + n₁ + …
 unfoldable pub add-up : List ℕ → ℕ
@@ -148,13 +149,15 @@ add-up (n ∷ ns) = n + add-up ns
 abbrev pub accepted-calls : {conv : Converter} → List (Call conv) → List (Call conv)
 accepted-calls calls = keep is-answered-accepted calls
 
--- the accepted calls together: samples end to end, clip counts summed channel by channel, per-frame counts end to end where each lends the list
+-- the accepted calls together: samples end to end, clip counts summed channel by channel, per-frame counts end to end where each lends the list,
+-- and request 6's statistics joined: channel by channel the least and the greatest over the calls that have samples, the mark where none has
 pub record GiveWholeRun {conv : Converter} (r : Run) (calls : List (Call conv)) : Type 0 where
   pub decided : (call : Call conv) → List·Memᴰ call calls → Decided call
   pub sampled : flatMap samples-of (accepted-calls calls) ≡ samples conv r
   pub counted : (c : ℕ) → c < 6 → add-up (map (λ call. clips-of call c) (accepted-calls calls)) ≡ channel-clips conv r c
   pub per-frame : ((call : Call conv) → List·Memᴰ call (accepted-calls calls) → lends call ≡ true)
       → flatMap counts-of (accepted-calls calls) ≡ per-frame-clips conv r
+  pub told : all-joined (map (λ call. answer-of call .stats) (accepted-calls calls)) ≡ stats conv r
 
 -- demand 3, proved in proofs/Joins
 abbrev pub CutRunsJoin : Type 0

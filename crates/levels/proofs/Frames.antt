@@ -7,9 +7,9 @@ use borrow.Author.Tests.{lt-ltb}
 use lib.Arith.{digits-lt}
 use lib.IntN.{ℤ, pos}
 use lib.ListN.{length, getD}
-use Rattle.numbers.specs.Extremes.{lesser, greater}
+use Rattle.numbers.specs.Extremes.{lesser, greater, extreme}
 use Rattle.numbers.specs.Lists.{total, count}
-use Rattle.numbers.proofs.Extremes.{picked-same}
+use Rattle.numbers.proofs.Extremes.{extreme-same}
 use Rattle.numbers.proofs.Lists.{getD-tabulate, length-tabulate, total-same}
 use Rattle.reference.specs.Frames.{Run, frame-count}
 use Rattle.reference.specs.Output.{samples-per-frame, unclamped, sample, clipped, item, channel-samples, all-samples, samples, channel-clips, stats, frame-clips}
@@ -19,13 +19,7 @@ use Rattle.reference.proofs.Frames.{some-samples, frame-samples}
 use Rattle.gain.proofs.Tallies.{tally-clipped, tally-few}
 use Rattle.overs.specs.Overs.{overs-of}
 use Rattle.overs.specs.declared.Progress.{Progress}
-use Rattle.levels.specs.Levels.{extreme, level, level-of}
-
--- extremes of numbers that are the same
-pub extreme-same : (pick : ℤ → ℤ → ℤ) (f g : ℕ → ℤ) (a b n : ℕ) → 0 < n → ((k : ℕ) → k < n → f (a + k) ≡ g (b + k)) → extreme pick f a n ≡ extreme pick g b n
-extreme-same pick f g a b n some same =
-    let e : f a ≡ g b = rw (add-zero a, add-zero b) at (same 0 some) in
-    rw e (picked-same pick (g b) f g a b n same)
+use Rattle.levels.specs.Levels.{level, level-of}
 
 module _ (conv : Converter) (r : Run) (some : 0 < conv .channels) (few : conv .channels ≤ 6) (one : frame-count (conv .channels) (r .frames) ≡ 1) where
   abbrev ch : ℕ

@@ -9,7 +9,7 @@ use native.Mathlib.Omega.{arith}
 use lib.IntN.{ℤ, pos, negsuc}
 use lib.ListN.{length, getD}
 use lib.Signed.{ltZ}
-use Rattle.numbers.specs.Extremes.{lesser, greater, picked}
+use Rattle.numbers.specs.Extremes.{lesser, greater, picked, extreme}
 use Rattle.numbers.proofs.Extremes.{Best, least-best, greatest-best}
 use Rattle.numbers.proofs.Lists.{below-or}
 use Rattle.overs.specs.Overs.{end-of, none, normal, overs-of}
@@ -17,7 +17,6 @@ use Rattle.overs.specs.declared.End.the-variants.{Neither}
 use Rattle.overs.specs.declared.Progress.{Progress}
 use Rattle.overs.proofs.Laws.{between, quiet, quiet-after}
 use Rattle.overs.proofs.Joins.{channel-is}
-use Rattle.levels.specs.Levels.{extreme}
 
 -- what is picked is no worse than any that it is picked from
 picked-of : {R : ℤ → ℤ → Type 0} {pick : ℤ → ℤ → ℤ} → Best R pick → (s : ℤ) (f : ℕ → ℤ) (a n k : ℕ) → k < n → R (picked pick s f a n) (f (a + k))

@@ -9,7 +9,8 @@ use borrow.Author.Tests.{lt-ltb, le-ltb}
 use lib.IntN.{ℤ}
 use lib.ListN.{length, getD, take, drop, length-drop, replicate, length-replicate, take-append-drop}
 use lib.Seq.{length-take-le, take-append-le, drop-append-le}
-use Rattle.numbers.specs.Extremes.{lesser, greater}
+use Rattle.numbers.specs.Extremes.{lesser, greater, extreme}
+use Rattle.numbers.proofs.Extremes.{extreme-same}
 use Rattle.numbers.specs.Lists.{tabulate, count}
 use Rattle.numbers.proofs.Lists.{getD-tabulate, tabulate-same, total-same, below-or, part-end}
 use Rattle.reference.specs.Settings.{reach-of}
@@ -28,8 +29,7 @@ use Rattle.overs.proofs.Laws.{answer-is}
 use Rattle.overs.proofs.Joins.{run-channel}
 use Rattle.level_lines.specs.Text.{joined}
 use Rattle.level_lines.specs.Lines.{level-line}
-use Rattle.levels.specs.Levels.{extreme, level, lines-with, frame-lines, states-after, whole-input, FrameOf, InProgress, piece-lines, piece-states}
-use Rattle.levels.proofs.Frames.{extreme-same}
+use Rattle.levels.specs.Levels.{level, lines-with, frame-lines, states-after, whole-input, FrameOf, InProgress, piece-lines, piece-states}
 
 module _ (ch : ℕ) (input : List ℕ) where
   abbrev N : ℕ

@@ -7,7 +7,7 @@ use lib.Dec.{ltb}
 use lib.Ieee.{ofInt, binary64}
 use lib.IntN.{ℤ, pos}
 use lib.ListN.{length, getD, take}
-use Rattle.numbers.specs.Extremes.{lesser, greater, picked}
+use Rattle.numbers.specs.Extremes.{lesser, greater, extreme}
 use Rattle.numbers.specs.Lists.{tabulate, count}
 use Rattle.reference.specs.Frames.{Run, run, frame-length, frame-count, frame}
 use Rattle.reference.specs.Scaling.{db-to-linear}
@@ -35,10 +35,6 @@ read-settings s =
     record { rate = s .rate; cutoff = s .cutoff; channels = s .channels; gain = record { db = db; linear = db-to-linear db }; own = false; filter = built-in }
 
 -- ---- a channel of a frame
-
--- what is picked of f a, …, f (a + n - 1); of no numbers, f a
-abbrev pub extreme : (ℤ → ℤ → ℤ) → (ℕ → ℤ) → ℕ → ℕ → ℤ
-extreme pick f a n = picked pick (f a) f a n
 
 module _ (conv : Converter) (r : Run) where
   -- channel c of the run's frame f, with so many overs

@@ -85,23 +85,11 @@ struct Extremes {
     high: i32,
 }
 
-fn lesser(a: i32, b: i32) -> i32
-    ensures { λ r. ⌜ r ≡ extremes.lesser a b ⌝ }
-{
-    if b < a { b } else { a }
-}
-
-fn greater(a: i32, b: i32) -> i32
-    ensures { λ r. ⌜ r ≡ extremes.greater a b ⌝ }
-{
-    if a < b { b } else { a }
-}
-
 // Lowest and highest sample of channel c.
 fn extremes_of(samples: &[i32], ch: usize, c: usize) -> Extremes
     requires { ⌜ (c < ch) × (ch ≤ length (now samples)) ⌝ }
-    ensures { λ r. ⌜ r .low ≡ levels.extreme extremes.lesser (λ n. getD (now (samples .entry)) (n * ch + c) (pos 0)) 0 (length (now (samples .entry)) / ch) ⌝ }
-    ensures { λ r. ⌜ r .high ≡ levels.extreme extremes.greater (λ n. getD (now (samples .entry)) (n * ch + c) (pos 0)) 0 (length (now (samples .entry)) / ch) ⌝ }
+    ensures { λ r. ⌜ r .low ≡ extremes.extreme extremes.lesser (λ n. getD (now (samples .entry)) (n * ch + c) (pos 0)) 0 (length (now (samples .entry)) / ch) ⌝ }
+    ensures { λ r. ⌜ r .high ≡ extremes.extreme extremes.greater (λ n. getD (now (samples .entry)) (n * ch + c) (pos 0)) 0 (length (now (samples .entry)) / ch) ⌝ }
 {
     let n = samples.len() / ch;
     let mut low = samples[c];
@@ -109,8 +97,8 @@ fn extremes_of(samples: &[i32], ch: usize, c: usize) -> Extremes
     let mut k = 0usize;
     while k < n {
         let s = samples[k * ch + c];
-        low = lesser(low, s);
-        high = greater(high, s);
+        low = reference::lesser(low, s);
+        high = reference::greater(high, s);
         k += 1;
     }
     Extremes { low, high }
@@ -119,8 +107,8 @@ fn extremes_of(samples: &[i32], ch: usize, c: usize) -> Extremes
 // Overs of channel c from what is in progress before it: none where its lowest and highest sample lie between the ends of full scale.
 fn overs_of(samples: &[i32], ch: usize, c: usize, e: Extremes, p: Progress) -> OverCount
     requires { ⌜ (c < ch) × (ch ≤ length (now samples)) × (length (now samples) ≡ length (now samples) / ch * ch) ⌝ }
-    requires { ⌜ e .low ≡ levels.extreme extremes.lesser (λ n. getD (now samples) (n * ch + c) (pos 0)) 0 (length (now samples) / ch) ⌝ }
-    requires { ⌜ e .high ≡ levels.extreme extremes.greater (λ n. getD (now samples) (n * ch + c) (pos 0)) 0 (length (now samples) / ch) ⌝ }
+    requires { ⌜ e .low ≡ extremes.extreme extremes.lesser (λ n. getD (now samples) (n * ch + c) (pos 0)) 0 (length (now samples) / ch) ⌝ }
+    requires { ⌜ e .high ≡ extremes.extreme extremes.greater (λ n. getD (now samples) (n * ch + c) (pos 0)) 0 (length (now samples) / ch) ⌝ }
     ensures { λ r. ⌜ r ≡ overs-of (now (samples .entry)) ch c p ⌝ }
 {
     if -8388608 < e.low {

@@ -1,7 +1,7 @@
 -- Laws of `tabulate` and `total`: equal stretches, stretches joined, the element at a place; and of a list that is filled from a place on.
 use mathlib.Core.Path.{_≡_, refl, ap₂, sym, _∙_}
 use mathlib.Core.List.{List, [], _∷_, _++_, append-assoc, append-nil}
-use mathlib.Core.Bool.{Bool, true, false, not}
+use mathlib.Core.Bool.{Bool, true, false, cond, not}
 use mathlib.Core.Logic.{_⊎_, inl, inr, ⊎-elim}
 use Prim.Native.Nat.{ℕ, zero, suc, _+_, _*_, _≤_, _<_}
 use native.Mathlib.Nat.{mul-le-mul-right}
@@ -9,7 +9,7 @@ use native.Mathlib.Omega.{arith}
 use lib.Dec.{T, leb, leb→le, nleb→lt}
 use lib.ListN.{length, getD, set, length-set, length-append, List·getD-append, replicate, length-replicate, getD-replicate}
 use lib.Seq.{getD-at, ext-getD, getD-set-same, getD-set-other}
-use Rattle.numbers.specs.Lists.{tabulate, total, Held, Wrote}
+use Rattle.numbers.specs.Lists.{tabulate, total, count, Held, Wrote}
 
 -- the k-th stretch of so many is within n of them
 pub part-end : (k n size : ℕ) → k < n → k * size + size ≤ n * size
@@ -84,6 +84,15 @@ total-none f a zero h = refl
 total-none f a (suc n) h = omega (arith, total-none f a n (λ k l. h k (omega arith)), h n (omega arith))
 
 -- ---- a list filled from its front, or from a place on
+
+at-most-one : (b : Bool) → cond b 1 0 ≤ 1
+at-most-one true = omega arith
+at-most-one false = omega arith
+
+pub count-few : (p : ℕ → Bool) (a n : ℕ) → count p a n ≤ n
+unfolding total
+count-few p a zero = omega arith
+count-few p a (suc n) = omega (arith, count-few p a n, at-most-one (p (a + n)))
 
 pub below-or : (m n : ℕ) → (m < n) ⊎ (n ≤ m)
 below-or m n = go (leb n m) (leb→le n m) (nleb→lt n m)

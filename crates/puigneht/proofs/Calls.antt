@@ -9,8 +9,8 @@ use lib.Ieee.{Float}
 use lib.ListN.{length}
 use Rattle.interface.specs.Codes.{known-rate, known-cutoff, known-flag}
 use Rattle.interface.specs.Settings.{CSettings, known-settings}
-use Rattle.interface.specs.Told.{room}
-use Rattle.puigneht.specs.Calls.{Input, Results, Call, open-understood, conversion-understood}
+use Rattle.interface.specs.Told.{room, StatLists}
+use Rattle.puigneht.specs.Calls.{Input, Results, Call, open-understood, has-room, conversion-understood}
 
 pub both-true : (a b : Bool) → (a && b) ≡ true → (a ≡ true) × (b ≡ true)
 both-true true b h = (refl, h)
@@ -33,21 +33,29 @@ room-is n d h =
     let t = both-true (eqb n 2) (eqb d 1) h in
     (eqb-true n 2 (t .0), eqb-true d 1 (t .1))
 
--- the lengths of an understood call's gain and result lists, of which the first is to have n numbers
-pub record Lengths (gain : List Float) (n : ℕ) (first numbers : List ℕ) (decibels : List Float) : Type 0 where
+-- the lengths of an understood call's gain list and of the lists for a refusal
+pub record Lengths (gain : List Float) (numbers : List ℕ) (decibels : List Float) : Type 0 where
   pub floats : length gain ≡ 2
-  pub firsts : length first ≡ n
   pub told : (length numbers ≡ 2) × (length decibels ≡ 1)
 
-pub open-lengths : (s : CSettings) (opened numbers : List ℕ) (decibels : List Float) → open-understood s opened numbers decibels ≡ true → Lengths (s .gain) 2 opened numbers decibels
+pub open-lengths : (s : CSettings) (opened numbers : List ℕ) (decibels : List Float) → open-understood s opened numbers decibels ≡ true
+    → Lengths (s .gain) numbers decibels × (length opened ≡ 2)
 open-lengths s opened numbers decibels h =
     let settings = both-true (known-settings (s .rate) (s .cutoff) (length (s .gain)) (s .own)) _ h in
     let lists = both-true (eqb (length opened) 2) _ (settings .1) in
-    record { floats = two-floats (s .rate) (s .cutoff) (length (s .gain)) (s .own) (settings .0); firsts = eqb-true _ _ (lists .0); told = room-is _ _ (lists .1) }
+    (record { floats = two-floats (s .rate) (s .cutoff) (length (s .gain)) (s .own) (settings .0); told = room-is _ _ (lists .1) }, eqb-true _ _ (lists .0))
 
-pub lengths : (s : CSettings) (i : Input) (old : Results) → conversion-understood s i old ≡ true → Lengths (s .gain) 6 (old .clipped) (old .numbers) (old .decibels)
+-- six items for each statistic
+pub six-each : (s : StatLists) → has-room s ≡ true → (length (s .clipped) ≡ 6) × (length (s .lowest) ≡ 6) × (length (s .highest) ≡ 6) × (length (s .empty) ≡ 6)
+six-each s h =
+    let first = both-true (eqb (length (s .clipped)) 6) _ h in
+    let second = both-true (eqb (length (s .lowest)) 6) _ (first .1) in
+    let third = both-true (eqb (length (s .highest)) 6) _ (second .1) in
+    (eqb-true _ _ (first .0), eqb-true _ _ (second .0), eqb-true _ _ (third .0), eqb-true _ _ (third .1))
+
+pub lengths : (s : CSettings) (i : Input) (old : Results) → conversion-understood s i old ≡ true → Lengths (s .gain) (old .numbers) (old .decibels) × (has-room (old .stats) ≡ true)
 lengths s i old h =
     let settings = both-true (known-settings (s .rate) (s .cutoff) (length (s .gain)) (s .own)) _ h in
     let flags = both-true (known-flag (i .has-after)) _ (both-true (known-flag (i .has-before)) _ (settings .1) .1) in
-    let lists = both-true (eqb (length (old .clipped)) 6) _ (flags .1) in
-    record { floats = two-floats (s .rate) (s .cutoff) (length (s .gain)) (s .own) (settings .0); firsts = eqb-true _ _ (lists .0); told = room-is _ _ (lists .1) }
+    let lists = both-true (has-room (old .stats)) _ (flags .1) in
+    (record { floats = two-floats (s .rate) (s .cutoff) (length (s .gain)) (s .own) (settings .0); told = room-is _ _ (lists .1) }, lists .0)

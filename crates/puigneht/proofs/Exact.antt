@@ -55,8 +55,8 @@ module _ {P Q : Converted → Type 0} {old n n' : Results} {a a' : ℕ} where
       let h = ap (λ (m : Converted). decision (m .verdict)) e in
       let t = told-exact h (p .told .told) (q .told .told) in
       let w = numbers-exact h (p .told) (q .told) in
-      let c : n .clipped ≡ n' .clipped = rw (p .counted, e) (sym (q .counted)) in
-      (t .0, λ i. record { clipped = c i; numbers = w i; decibels = t .1 i })
+      let c : n .stats ≡ n' .stats = rw (p .counted, e) (sym (q .counted)) in
+      (t .0, λ i. record { stats = c i; numbers = w i; decibels = t .1 i })
 
 module _ (s : CSettings) (i : Input) (out o o' : List ℤ) (old n n' : Results) (a a' : ℕ) where
   samples-call : (u : Bool) (places : List Place) (conv : Converter) (r : Run)

@@ -20,7 +20,7 @@ use Rattle.reference.specs.declared.Converted.{Converted}
 use Rattle.reference.specs.declared.Limit.{Limit}
 use Rattle.interface.specs.Codes.{known-flag, flag}
 use Rattle.interface.specs.Settings.{CSettings, known-settings, settings-of}
-use Rattle.interface.specs.Told.{room, room-for-all, Told, ToldWhole, gain-floats}
+use Rattle.interface.specs.Told.{room, room-for-stats, StatLists, told-stats, Told, ToldWhole, gain-floats}
 
 -- ---- arguments
 
@@ -42,12 +42,12 @@ run-of i = run (flag (i .has-before)) (i .before) (i .frames) (flag (i .has-afte
 
 -- lists lent for what a conversion tells beside its output
 pub record Results : Type 0 where
-  pub clipped : List ℕ
+  pub stats : StatLists
   pub numbers : List ℕ
   pub decibels : List Float
 
-abbrev pub results : List ℕ → List ℕ → List Float → Results
-results c n d = record { clipped = c; numbers = n; decibels = d }
+abbrev pub results : StatLists → List ℕ → List Float → Results
+results s n d = record { stats = s; numbers = n; decibels = d }
 
 -- ---- calls
 
@@ -93,17 +93,20 @@ OpenCall s opened opened' numbers numbers' decibels decibels' answer =
     ((opened' ≡ opened) × (numbers' ≡ numbers) × (decibels' ≡ decibels))
     (OpenDone (settings-of s) opened opened' numbers' decibels' answer)
 
--- and for a conversion, whose clip counts are written besides if it was accepted
+-- and for a conversion, whose statistics are written besides if it was accepted
 pub record ConversionDone (Promise : Converted → Type 0) (old new : Results) (answer : ℕ) : Type 0 where
   pub made : Converted
   pub promise : Promise made
   pub told : ToldWhole (decision (made .verdict)) answer (new .numbers) (new .decibels)
-  pub counted : new .clipped ≡ by-decision (decision (made .verdict)) (made .stats .clipped) (old .clipped)
+  pub counted : new .stats ≡ by-decision (decision (made .verdict)) (told-stats (made .stats)) (old .stats)
+
+abbrev pub has-room : StatLists → Bool
+has-room s = room-for-stats (length (s .clipped)) (length (s .lowest)) (length (s .highest)) (length (s .empty))
 
 abbrev pub conversion-understood : CSettings → Input → Results → Bool
 conversion-understood s i old =
     known-settings (s .rate) (s .cutoff) (length (s .gain)) (s .own)
-    && (known-flag (i .has-before) && (known-flag (i .has-after) && room-for-all (length (old .clipped)) (length (old .numbers)) (length (old .decibels))))
+    && (known-flag (i .has-before) && (known-flag (i .has-after) && (has-room (old .stats) && room (length (old .numbers)) (length (old .decibels)))))
 
 -- a call for 32-bit samples
 abbrev pub SamplesCall : (Converter → Run → List ℤ → List ℤ → Converted → Type 0) → CSettings → Input → List ℤ → List ℤ → Results → Results → ℕ → Type 0

@@ -4,7 +4,7 @@ ghost use lib.ListN.{length};
 ghost use Rattle.reference.specs.Refusals.{decision};
 ghost use Rattle.reference.specs.Promises.{by-decision, PackPromise};
 ghost use Rattle.interface.specs.Settings.{c-settings};
-ghost use Rattle.interface.specs.Told.{ToldWhole};
+ghost use Rattle.interface.specs.Told.{stat-lists, ToldWhole};
 ghost use Rattle.puigneht.specs.Calls.{input, results, opened-numbers, GainCall, OpenCall, ConvertRunCall, ConvertFrameCall, ConvertCall};
 
 mod files;
@@ -24,6 +24,7 @@ use interface::known_flag;
 use interface::known_settings;
 use interface::put_two;
 use interface::room;
+use interface::room_for_stats;
 use interface::settings;
 use interface::tell;
 use interface::tell_conversion;
@@ -117,11 +118,15 @@ pub extern "C" fn puigneht_convert_run<'a>(
     after: &'a [u8],
     out: &mut [i32],
     clipped: &mut [u64],
+    lowest: &mut [i64],
+    highest: &mut [i64],
+    empty: &mut [u8],
     data: &mut [u64],
     decibels: &mut [f64],
 ) -> u8
-    ensures { λ r. ⌜ ConvertRunCall (c-settings rate cutoff channels (now (gain .entry)) own (now (taps .entry))) (input «has_before» (now (before .entry)) (now (frames .entry)) «has_after» (now (after .entry))) (now (out .entry)) (now (out .exit)) (results (now (clipped .entry)) (now («data» .entry)) (now (decibels .entry))) (results (now (clipped .exit)) (now («data» .exit)) (now (decibels .exit))) r ⌝ }
+    ensures { λ r. ⌜ ConvertRunCall (c-settings rate cutoff channels (now (gain .entry)) own (now (taps .entry))) (input «has_before» (now (before .entry)) (now (frames .entry)) «has_after» (now (after .entry))) (now (out .entry)) (now (out .exit)) (results (stat-lists (now (clipped .entry)) (now (lowest .entry)) (now (highest .entry)) (now (empty .entry))) (now («data» .entry)) (now (decibels .entry))) (results (stat-lists (now (clipped .exit)) (now (lowest .exit)) (now (highest .exit)) (now (empty .exit))) (now («data» .exit)) (now (decibels .exit))) r ⌝ }
 {
+    let fits = room_for_stats(clipped.len(), lowest.len(), highest.len(), empty.len());
     if understood(
         rate,
         cutoff,
@@ -129,7 +134,7 @@ pub extern "C" fn puigneht_convert_run<'a>(
         own,
         has_before,
         has_after,
-        clipped.len(),
+        fits,
         data.len(),
         decibels.len(),
     ) {
@@ -143,7 +148,7 @@ pub extern "C" fn puigneht_convert_run<'a>(
             after,
             out,
         );
-        return tell_conversion(made, clipped, data, decibels);
+        return tell_conversion(made, clipped, lowest, highest, empty, data, decibels);
     }
     255
 }
@@ -164,11 +169,15 @@ pub extern "C" fn puigneht_convert_frame<'a>(
     after: &'a [u8],
     out: &mut [i32],
     clipped: &mut [u64],
+    lowest: &mut [i64],
+    highest: &mut [i64],
+    empty: &mut [u8],
     data: &mut [u64],
     decibels: &mut [f64],
 ) -> u8
-    ensures { λ r. ⌜ ConvertFrameCall (c-settings rate cutoff channels (now (gain .entry)) own (now (taps .entry))) (input «has_before» (now (before .entry)) (now (frames .entry)) «has_after» (now (after .entry))) (now (out .entry)) (now (out .exit)) (results (now (clipped .entry)) (now («data» .entry)) (now (decibels .entry))) (results (now (clipped .exit)) (now («data» .exit)) (now (decibels .exit))) r ⌝ }
+    ensures { λ r. ⌜ ConvertFrameCall (c-settings rate cutoff channels (now (gain .entry)) own (now (taps .entry))) (input «has_before» (now (before .entry)) (now (frames .entry)) «has_after» (now (after .entry))) (now (out .entry)) (now (out .exit)) (results (stat-lists (now (clipped .entry)) (now (lowest .entry)) (now (highest .entry)) (now (empty .entry))) (now («data» .entry)) (now (decibels .entry))) (results (stat-lists (now (clipped .exit)) (now (lowest .exit)) (now (highest .exit)) (now (empty .exit))) (now («data» .exit)) (now (decibels .exit))) r ⌝ }
 {
+    let fits = room_for_stats(clipped.len(), lowest.len(), highest.len(), empty.len());
     if understood(
         rate,
         cutoff,
@@ -176,7 +185,7 @@ pub extern "C" fn puigneht_convert_frame<'a>(
         own,
         has_before,
         has_after,
-        clipped.len(),
+        fits,
         data.len(),
         decibels.len(),
     ) {
@@ -190,7 +199,7 @@ pub extern "C" fn puigneht_convert_frame<'a>(
             after,
             out,
         );
-        return tell_conversion(made, clipped, data, decibels);
+        return tell_conversion(made, clipped, lowest, highest, empty, data, decibels);
     }
     255
 }
@@ -213,11 +222,15 @@ pub extern "C" fn puigneht_convert<'a>(
     out: &mut [u8],
     counts: &mut [u64],
     clipped: &mut [u64],
+    lowest: &mut [i64],
+    highest: &mut [i64],
+    empty: &mut [u8],
     data: &mut [u64],
     decibels: &mut [f64],
 ) -> u8
-    ensures { λ r. ⌜ ConvertCall (c-settings rate cutoff channels (now (gain .entry)) own (now (taps .entry))) (input «has_before» (now (before .entry)) (now (frames .entry)) «has_after» (now (after .entry))) lent (now (out .entry)) (now (out .exit)) (now (counts .entry)) (now (counts .exit)) (results (now (clipped .entry)) (now («data» .entry)) (now (decibels .entry))) (results (now (clipped .exit)) (now («data» .exit)) (now (decibels .exit))) r ⌝ }
+    ensures { λ r. ⌜ ConvertCall (c-settings rate cutoff channels (now (gain .entry)) own (now (taps .entry))) (input «has_before» (now (before .entry)) (now (frames .entry)) «has_after» (now (after .entry))) lent (now (out .entry)) (now (out .exit)) (now (counts .entry)) (now (counts .exit)) (results (stat-lists (now (clipped .entry)) (now (lowest .entry)) (now (highest .entry)) (now (empty .entry))) (now («data» .entry)) (now (decibels .entry))) (results (stat-lists (now (clipped .exit)) (now (lowest .exit)) (now (highest .exit)) (now (empty .exit))) (now («data» .exit)) (now (decibels .exit))) r ⌝ }
 {
+    let fits = room_for_stats(clipped.len(), lowest.len(), highest.len(), empty.len());
     let known = understood(
         rate,
         cutoff,
@@ -225,7 +238,7 @@ pub extern "C" fn puigneht_convert<'a>(
         own,
         has_before,
         has_after,
-        clipped.len(),
+        fits,
         data.len(),
         decibels.len(),
     );
@@ -242,7 +255,7 @@ pub extern "C" fn puigneht_convert<'a>(
             out,
             counts,
         );
-        return tell_conversion(made, clipped, data, decibels);
+        return tell_conversion(made, clipped, lowest, highest, empty, data, decibels);
     }
     255
 }

@@ -19,7 +19,6 @@ use Rattle.reference.specs.Frames.{Run, frame-count, neighbour, sequence
 use Rattle.reference.specs.Stages.{fir, bit, sign, entry, x, u, w, y-narrow, y, reach}
 use Rattle.reference.specs.Scaling.{whole, LN-10, magnitude, exponent, series, squared, db-to-linear, eighth, scaled, clamp, clips}
 use Rattle.reference.specs.Output.{samples-per-frame, unclamped, sample, clipped, item, channel-samples, all-samples, samples, channel-clips, stats}
-use Rattle.reference.specs.Promises.{no-clips}
 use Rattle.reference.specs.declared.PcmRate.the-variants.{Hz88200}
 use Rattle.reference.specs.declared.Cutoff.the-variants.{Standard}
 use Rattle.reference.specs.Figures.{mono, one-byte, frame-of, Holds, figures}
@@ -71,9 +70,9 @@ module _ (b : ℕ) (r : Run) (bytes : (p : ℕ) → p < 14112 → channel-byte 1
   clips-are zero = rw channel-is (total-none (λ k. cond (clipped mono r 0 k) 1 0) 0 1176 (λ k l. rw zero-add (rw (unclamped-is k l, no-clip))))
   clips-are (suc c) = rw (le-ltb (suc c) 1 (omega arith))
 
-  stats-are : stats mono r ≡ no-clips
-  unfolding stats no-clips
-  stats-are = ap (λ l. record { clipped = l }) (tabulate-constant (channel-clips mono r) 0 6 0 (λ k l. clips-are (0 + k)))
+  none-clipped : stats mono r .clipped ≡ replicate 6 0
+  unfolding stats
+  none-clipped = tabulate-constant (channel-clips mono r) 0 6 0 (λ k l. clips-are (0 + k))
 
 -- ---- the rows
 
@@ -108,7 +107,7 @@ row : (b : ℕ) (there : Bool) (z : ℤ) → scaled (whole 1) (level b) ≡ z �
     → ((p : ℕ) → p < 14112 → channel-byte 1 (sequence 1 (one-byte b there)) 0 p ≡ b) → frame-count 1 (one-byte b there .frames) ≡ 1 → Holds (frame-of b there z)
 row b there z e inside no-clip bytes one =
     let gained : scaled (mono .gain .linear) (level b) ≡ z = ap (λ f. scaled f (level b)) unity ∙ e in
-    (samples-are b (one-byte b there) bytes one z gained inside no-clip, stats-are b (one-byte b there) bytes one z gained inside no-clip)
+    (samples-are b (one-byte b there) bytes one z gained inside no-clip, none-clipped b (one-byte b there) bytes one z gained inside no-clip)
 
 silent : Holds (frame-of 0x00 true (negsuc 8388607))
 unfolding one-byte sequence neighbour scaled eighth clamp clips ofInt mul

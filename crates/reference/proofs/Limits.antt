@@ -7,7 +7,8 @@ use native.Mathlib.Omega.{arith}
 use Rattle.reference.specs.Frames.{Run, frame-count}
 use Rattle.reference.specs.Output.{samples, stats, per-frame-clips, s24le}
 use Rattle.reference.specs.Refusals.{accepted, refused, Place, decide, rack, desk, most, run-length, held-places, input-places, byte-lengths, convert-places}
-use Rattle.reference.specs.Promises.{by-decision, no-clips, if-lent, BytesPromise, DeskAsRack}
+use Rattle.reference.specs.Promises.{by-decision, if-lent, BytesPromise, DeskAsRack}
+use Rattle.reference.specs.Statistics.{no-stats}
 use Rattle.reference.specs.declared.Converter.{Converter}
 use Rattle.reference.specs.declared.Converted.{Converted}
 use Rattle.reference.specs.declared.Limit.{Limit}
@@ -42,7 +43,7 @@ module _ (whose other : Limit) (conv : Converter) (r : Run) (few : frame-count (
     promise-alike : (o c : List ℕ) (a : Converted) → BytesPromise whose conv r lent out counts o c a → BytesPromise other conv r lent out counts o c a
     promise-alike o c a p =
         record {
-          answered = record { decided = p .answered .decided ∙ bytes-alike; counted = p .answered .counted ∙ ap (λ d. by-decision d (stats conv r) no-clips) bytes-alike };
+          answered = record { decided = p .answered .decided ∙ bytes-alike; counted = p .answered .counted ∙ ap (λ d. by-decision d (stats conv r) no-stats) bytes-alike };
           written = p .written ∙ ap (λ d. by-decision d (s24le (samples conv r)) out) bytes-alike;
           per-frame = p .per-frame ∙ ap (λ d. by-decision d (if-lent lent (per-frame-clips conv r) counts) counts) bytes-alike;
         }

@@ -12,7 +12,6 @@ use Rattle.reference.specs.Stages.{entry}
 use Rattle.reference.specs.Scaling.{whole, db-to-linear}
 use Rattle.reference.specs.Settings.{built-in}
 use Rattle.reference.specs.Output.{samples, stats}
-use Rattle.reference.specs.Promises.{no-clips}
 use Rattle.reference.specs.declared.PcmRate.the-variants.{Hz88200}
 use Rattle.reference.specs.declared.Cutoff.the-variants.{Standard}
 use Rattle.reference.specs.declared.Converter.{Converter}
@@ -37,7 +36,7 @@ pub data Figure : Type 0 where
 abbrev pub Holds : Figure → Type 0
 Holds (rounding v q z) = R v q ≡ z
 Holds (table-entry j b z) = entry S1 8 j b ≡ z
-Holds (frame-of b there z) = (samples mono (one-byte b there) ≡ replicate 1176 z) × (stats mono (one-byte b there) ≡ no-clips)
+Holds (frame-of b there z) = (samples mono (one-byte b there) ≡ replicate 1176 z) × (stats mono (one-byte b there) .clipped ≡ replicate 6 0)
 
 unfoldable pub figures : List Figure
 figures =

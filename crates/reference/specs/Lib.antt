@@ -5,6 +5,7 @@ pub mod Stages
 pub mod Scaling
 pub mod Settings
 pub mod Output
+pub mod Statistics
 pub mod Refusals
 pub mod Promises
 pub mod Figures

@@ -1,10 +1,11 @@
--- Modules 7 and 8: the samples of a run, as numbers and as bytes, and its clip counts.
+-- Modules 7 and 8: the samples of a run, as numbers and as bytes, and its statistics.
 use mathlib.Core.List.{List}
-use mathlib.Core.Bool.{Bool, cond}
+use mathlib.Core.Bool.{Bool, true, cond}
 use Prim.Native.Nat.{ℕ, _+_, _-_, _*_, _/_, _%_, _^_}
-use lib.Dec.{ltb}
+use lib.Dec.{eqb, ltb}
 use lib.IntN.{ℤ, pos, negsuc}
 use lib.ListN.{length, getD}
+use Rattle.numbers.specs.Extremes.{lesser, greater, extreme0}
 use Rattle.numbers.specs.Lists.{tabulate, total, count}
 use Rattle.reference.specs.Frames.{Run, frame-count, sequence, channel-byte}
 use Rattle.reference.specs.Stages.{taps-of, y}
@@ -56,9 +57,6 @@ module _ (conv : Converter) (r : Run) where
   unfoldable pub channel-clips : ℕ → ℕ
   channel-clips c = cond (ltb c (conv .channels)) (count (clipped c) 0 channel-samples) 0
 
-  unfoldable pub stats : ConvertStats
-  stats = record { clipped = tabulate channel-clips 0 6 }
-
   -- of frame f over all channels
   unfoldable pub frame-clips : ℕ → ℕ
   frame-clips f = total (λ c. count (clipped c) (f * samples-per-frame (conv .rate)) (samples-per-frame (conv .rate))) 0 (conv .channels)
@@ -66,6 +64,24 @@ module _ (conv : Converter) (r : Run) where
   -- of each frame
   unfoldable pub per-frame-clips : List ℕ
   per-frame-clips = tabulate frame-clips 0 (frame-count (conv .channels) (r .frames))
+
+  -- ---- request 6: how far over
+
+  -- the least or the greatest number of channel c before the clamp; 0 where it has no samples
+  unfoldable pub channel-extreme : (ℤ → ℤ → ℤ) → ℕ → ℤ
+  channel-extreme pick c = cond (ltb c (conv .channels)) (extreme0 pick (unclamped c) 0 channel-samples) (pos 0)
+
+  -- whether it has none: an unused channel, and every one of a run of no frames
+  unfoldable pub channel-empty : ℕ → Bool
+  channel-empty c = cond (ltb c (conv .channels)) (eqb channel-samples 0) true
+
+  unfoldable pub stats : ConvertStats
+  stats = record {
+    clipped = tabulate channel-clips 0 6;
+    lowest = tabulate (channel-extreme lesser) 0 6;
+    highest = tabulate (channel-extreme greater) 0 6;
+    empty = tabulate channel-empty 0 6;
+  }
 
 -- ---- bytes
 

@@ -5,17 +5,17 @@ use mathlib.Core.Bool.{Bool, true, false}
 use Prim.Native.Nat.{ℕ, _*_, _/_, _≤_, min}
 use lib.IntN.{ℤ}
 use lib.Ieee.{Float}
-use lib.ListN.{length, take, drop, replicate}
+use lib.ListN.{length, take, drop}
 use Rattle.reference.specs.Frames.{Run, frame-count}
 use Rattle.reference.specs.Scaling.{db-to-linear}
 use Rattle.reference.specs.Stages.{taps-of}
 use Rattle.reference.specs.Settings.{converter-of, with-filter, reach-of}
 use Rattle.reference.specs.Output.{unclamped, samples, stats, per-frame-clips, s24le}
+use Rattle.reference.specs.Statistics.{no-stats}
 use Rattle.reference.specs.Refusals.{rack, desk, most, Decision, accepted, refused, Place, decide, decision, gain-decision, gain-places, opening-places, held-places, convert-run-places, convert-places, convert-frame-places}
 use Rattle.reference.specs.declared.Filter.{Filter}
 use Rattle.reference.specs.declared.Settings.{Settings}
 use Rattle.reference.specs.declared.Converter.{Converter}
-use Rattle.reference.specs.declared.ConvertStats.{ConvertStats}
 use Rattle.reference.specs.declared.Limit.{Limit}
 use Rattle.reference.specs.declared.FromDb.{FromDb}
 use Rattle.reference.specs.declared.FromDb.the-variants.{Made}
@@ -39,13 +39,10 @@ pub record OpeningPromise (settings : Settings) (answer : Opened) : Type 0 where
 
 -- ---- conversions: `out` and `counts` are the lent lists at entry, `out'` and `counts'` at exit
 
-unfoldable pub no-clips : ConvertStats
-no-clips = record { clipped = replicate 6 0 }
-
 -- the answer of a conversion that tries these places
 pub record Answered (places : List Place) (conv : Converter) (r : Run) (answer : Converted) : Type 0 where
   pub decided : decision (answer .verdict) ≡ decide places
-  pub counted : answer .stats ≡ by-decision (decide places) (stats conv r) no-clips
+  pub counted : answer .stats ≡ by-decision (decide places) (stats conv r) no-stats
 
 -- 32-bit output
 pub record SamplesPromise (places : List Place) (conv : Converter) (r : Run) (out out' : List ℤ) (answer : Converted) : Type 0 where

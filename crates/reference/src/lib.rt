@@ -1,8 +1,10 @@
 // The records and numbers of document 01. The definition of a conversion is in specs/.
 ghost use mathlib.Core.Path.{_≡_};
 ghost use Prim.Native.Nat.{_≤_};
+ghost use Rattle.numbers.specs.Extremes as extremes;
 ghost use Rattle.reference.specs.Output.{samples-per-frame};
 ghost use Rattle.reference.specs.Settings.{built-in, filter-of, converter-of};
+ghost use Rattle.reference.specs.Statistics.{no-stats};
 
 mod taps;
 
@@ -100,9 +102,63 @@ pub fn converter_of(settings: Settings) -> Converter
     }
 }
 
-// Samples that the clamp changed, by channel; an unused channel has 0.
+// What a conversion tells of its samples, by channel: how many the clamp changed, the lowest and the highest number before the clamp, and whether
+// the channel has no samples. Then all its numbers are 0.
 pub struct ConvertStats {
     pub clipped: [u64; 6],
+    pub lowest: [i64; 6],
+    pub highest: [i64; 6],
+    pub empty: [bool; 6],
+}
+
+// Of no samples.
+pub fn no_stats() -> ConvertStats
+    ensures { λ r. ⌜ r ≡ no-stats ⌝ }
+{
+    ConvertStats {
+        clipped: [0u64; 6],
+        lowest: [0i64; 6],
+        highest: [0i64; 6],
+        empty: [true; 6],
+    }
+}
+
+pub fn lesser(a: i32, b: i32) -> i32
+    ensures { λ r. ⌜ r ≡ extremes.lesser a b ⌝ }
+{
+    if b < a { b } else { a }
+}
+
+pub fn greater(a: i32, b: i32) -> i32
+    ensures { λ r. ⌜ r ≡ extremes.greater a b ⌝ }
+{
+    if a < b { b } else { a }
+}
+
+// The lesser of two numbers, of which one without samples does not count; 0 where neither has any.
+pub fn lowest_of(no_x: bool, x: i64, no_y: bool, y: i64) -> i64
+    ensures { λ r. ⌜ r ≡ extremes.pick-unmarked extremes.lesser «no_x» x «no_y» y ⌝ }
+{
+    if no_x {
+        return if no_y { 0 } else { y };
+    }
+    if no_y {
+        return x;
+    }
+    if y < x { y } else { x }
+}
+
+// Likewise the greater.
+pub fn highest_of(no_x: bool, x: i64, no_y: bool, y: i64) -> i64
+    ensures { λ r. ⌜ r ≡ extremes.pick-unmarked extremes.greater «no_x» x «no_y» y ⌝ }
+{
+    if no_x {
+        return if no_y { 0 } else { y };
+    }
+    if no_y {
+        return x;
+    }
+    if x < y { y } else { x }
 }
 
 // Whose limit of frames a call has: the rack's, or the listening desk's.

@@ -1,7 +1,7 @@
 -- Channels to frames, frames to the run: what the loops add up.
 use mathlib.Core.Path.{_≡_, refl, sym, ap, _∙_}
 use mathlib.Core.Logic.{⊎-elim}
-use mathlib.Core.Bool.{Bool}
+use mathlib.Core.Bool.{Bool, true, false, cond}
 use mathlib.Core.List.{List}
 use Prim.Native.Nat.{ℕ, zero, suc, _+_, _*_, _^_, _≤_, _<_}
 use native.Mathlib.Nat.{mul-le-mul-left, le-refl}
@@ -9,14 +9,16 @@ use native.Mathlib.Numerals.{add-one}
 use native.Mathlib.Omega.{arith}
 use borrow.Author.Tests.{lt-ltb, le-ltb}
 use lib.Arith.{digits-div}
-use lib.IntN.{ℤ}
+use lib.Dec.{eqb, ltb}
+use lib.IntN.{ℤ, pos}
 use lib.ListN.{length, getD, set, length-set, replicate, getD-replicate, List·getD-eq-default}
 use lib.Seq.{getD-set-same, getD-set-other}
-use Rattle.numbers.specs.Lists.{total, count}
+use Rattle.numbers.specs.Extremes.{lesser, greater, extreme0}
+use Rattle.numbers.specs.Lists.{total, count, tabulate}
 use Rattle.numbers.proofs.Lists.{getD-any, below-or, is-tabulate, tabulate-same}
 use Rattle.reference.specs.Frames.{Run, frame-length, frame-count}
 use Rattle.reference.specs.Stages.{y}
-use Rattle.reference.specs.Output.{samples-per-frame, unclamped, sample, clipped, item, channel-samples, all-samples, samples, channel-clips, stats, frame-clips}
+use Rattle.reference.specs.Output.{samples-per-frame, unclamped, sample, clipped, item, channel-samples, all-samples, samples, channel-clips, channel-extreme, channel-empty, stats, frame-clips}
 use Rattle.reference.specs.declared.Converter.{Converter}
 use Rattle.reference.specs.declared.ConvertStats.{ConvertStats}
 use Rattle.gain.specs.Tallies.{tally, none, joined, Joins}
@@ -44,11 +46,27 @@ module _ (conv : Converter) (r : Run) where
   at-start : (c : ℕ) → channel-tally conv r 0 c ≡ none
   at-start c = ⊎-elim (λ h. tally-in 0 c h ∙ tally-none (unclamped conv r c) 0) (λ h. tally-out 0 c h) (below-or c (conv .channels))
 
-  tally-clips : (n c : ℕ) → channel-samples conv r ≡ n → channel-tally conv r n c .clipped ≡ channel-clips conv r c
-  unfolding channel-clips clipped none
-  tally-clips n c e =
-      ⊎-elim (λ h. ap (λ (t : Tally). t .clipped) (tally-in n c h) ∙ tally-clipped (unclamped conv r c) 0 n ∙ rw (e, lt-ltb c (conv .channels) h))
-      (λ h. ap (λ (t : Tally). t .clipped) (tally-out n c h) ∙ rw (le-ltb c (conv .channels) h)) (below-or c (conv .channels))
+  -- what the statistics have of a channel
+  abbrev told-of : ℕ → Tally
+  told-of c = record {
+    clipped = channel-clips conv r c;
+    lowest = channel-extreme conv r lesser c;
+    highest = channel-extreme conv r greater c;
+    empty = channel-empty conv r c;
+  }
+
+  tally-is : (n c : ℕ) → channel-samples conv r ≡ n → channel-tally conv r n c ≡ told-of c
+  unfolding channel-tally channel-clips channel-extreme channel-empty clipped tally none
+  tally-is n c e = go (ltb c (conv .channels))
+    where
+      go : (b : Bool) → cond b (tally (unclamped conv r c) 0 n) none ≡ record {
+        clipped = cond b (count (clipped conv r c) 0 (channel-samples conv r)) 0;
+        lowest = cond b (extreme0 lesser (unclamped conv r c) 0 (channel-samples conv r)) (pos 0);
+        highest = cond b (extreme0 greater (unclamped conv r c) 0 (channel-samples conv r)) (pos 0);
+        empty = cond b (eqb (channel-samples conv r) 0) true;
+      }
+      go true = rw e refl
+      go false = refl
 
   -- ---- a frame's clips
 
@@ -226,6 +244,10 @@ module _ {packed : Bool} {conv : Converter} {r : Run} {k : ℕ} {x y : List ℤ}
         counted = is-tabulate (frame-clips conv r) 0 (length s) 0 t (a .same) (λ i m.
             let z : 0 + i ≡ i = omega arith in
             rw z (a .counted i (omega arith) (omega (arith, a .same))));
-        is-stats = e ∙ ap (λ (q : List ℕ). record { clipped = q }) (tabulate-same (λ c. getD l c none .clipped) (channel-clips conv r) 0 0 6 (λ c m.
-            ap (λ (t : Tally). t .clipped) (a .tallied .rest (0 + c) (omega arith)) ∙ tally-clips conv r (k * samples-per-frame (conv .rate)) (0 + c) (rw n)));
+        is-stats = e ∙ rw (part n (λ t. t .clipped), part n (λ t. t .lowest), part n (λ t. t .highest), part n (λ t. t .empty)) refl;
       }
+    where
+      part : {A : Type 0} → frame-count (conv .channels) (r .frames) ≡ k → (p : Tally → A) → tabulate (λ c. p (getD l c none)) 0 6 ≡ tabulate (λ c. p (told-of conv r c)) 0 6
+      part n p =
+          tabulate-same (λ c. p (getD l c none)) (λ c. p (told-of conv r c)) 0 0 6
+          (λ c m. ap p (a .tallied .rest (0 + c) (omega arith) ∙ tally-is conv r (k * samples-per-frame (conv .rate)) (0 + c) (rw n)))

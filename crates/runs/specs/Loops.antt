@@ -24,9 +24,14 @@ pub record Tallied (conv : Converter) (r : Run) (n m c : ℕ) (l : List Tally) :
   pub done : (j : ℕ) → j < c → getD l j none ≡ channel-tally conv r (n + m) j
   pub rest : (j : ℕ) → c ≤ j → getD l j none ≡ channel-tally conv r n j
 
--- the clip counts of six tallies
+-- what six tallies tell
 unfoldable pub stats-of : List Tally → ConvertStats
-stats-of l = record { clipped = tabulate (λ c. getD l c none .clipped) 0 6 }
+stats-of l = record {
+  clipped = tabulate (λ c. getD l c none .clipped) 0 6;
+  lowest = tabulate (λ c. getD l c none .lowest) 0 6;
+  highest = tabulate (λ c. getD l c none .highest) 0 6;
+  empty = tabulate (λ c. getD l c none .empty) 0 6;
+}
 
 -- clips of samples n, …, n + m - 1 in the channels below c
 unfoldable pub clips-below : Converter → Run → ℕ → ℕ → ℕ → ℕ

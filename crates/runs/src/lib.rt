@@ -74,13 +74,26 @@ fn stats_of(tallies: [Tally; 6]) -> ConvertStats
     ensures { λ r. ⌜ r ≡ stats-of tallies ⌝ }
 {
     let mut clipped = [0u64; 6];
+    let mut lowest = [0i64; 6];
+    let mut highest = [0i64; 6];
+    let mut empty = [true; 6];
     let mut c: usize = 0;
     while c < 6 {
         let one = tallies[c];
         clipped[c] = one.clipped;
+        let low = one.lowest;
+        lowest[c] = low;
+        let high = one.highest;
+        highest[c] = high;
+        empty[c] = one.empty;
         c += 1;
     }
-    ConvertStats { clipped }
+    ConvertStats {
+        clipped,
+        lowest,
+        highest,
+        empty,
+    }
 }
 
 // The run's frames. The counts go to their list as far as it is long; of `out` and `raw` only the one asked for is written.

@@ -9,7 +9,8 @@ use lib.ListN.{length}
 use Rattle.reference.specs.Frames.{Run, frame-count}
 use Rattle.reference.specs.Output.{all-samples, samples, stats, s24le, per-frame-clips}
 use Rattle.reference.specs.Refusals.{rack, accepted, decision, is-accepted, Place, decide, if-present, lent-length, held-places, input-places, run-lengths, byte-lengths, convert-run-places, convert-frame-places, convert-places}
-use Rattle.reference.specs.Promises.{no-clips, Answered, SamplesPromise, BytesPromise, if-lent}
+use Rattle.reference.specs.Promises.{Answered, SamplesPromise, BytesPromise, if-lent}
+use Rattle.reference.specs.Statistics.{no-stats}
 use Rattle.reference.specs.declared.Converter.{Converter}
 use Rattle.reference.specs.declared.ConvertStats.{ConvertStats}
 use Rattle.reference.specs.declared.Limit.{Limit}
@@ -58,14 +59,14 @@ bytes-accepted whose conv r out lent counts e =
 module _ (places : List Place) (conv : Converter) (r : Run) (v : Verdict) (decided : decision v ≡ decide places) where
   module _ (ok : decide places ≡ accepted) (told : ConvertStats) (is-stats : told ≡ stats conv r) where
     answered : Answered places conv r (record { verdict = v; stats = told })
-    answered = record { decided = decided; counted = is-stats ∙ sym (exit-accepted (decide places) (stats conv r) no-clips ok) }
+    answered = record { decided = decided; counted = is-stats ∙ sym (exit-accepted (decide places) (stats conv r) no-stats ok) }
 
     pub samples-promise : (out out' : List ℤ) → out' ≡ samples conv r → SamplesPromise places conv r out out' (record { verdict = v; stats = told })
     samples-promise out out' e = record { answered = answered; written = e ∙ sym (exit-accepted (decide places) (samples conv r) out ok) }
 
-  module _ (down : is-accepted (decide places) ≡ false) (told : ConvertStats) (is-stats : told ≡ no-clips) where
+  module _ (down : is-accepted (decide places) ≡ false) (told : ConvertStats) (is-stats : told ≡ no-stats) where
     unanswered : Answered places conv r (record { verdict = v; stats = told })
-    unanswered = record { decided = decided; counted = is-stats ∙ sym (exit-refused (decide places) (stats conv r) no-clips down) }
+    unanswered = record { decided = decided; counted = is-stats ∙ sym (exit-refused (decide places) (stats conv r) no-stats down) }
 
     pub samples-refused : (out : List ℤ) → SamplesPromise places conv r out out (record { verdict = v; stats = told })
     samples-refused out = record { answered = unanswered; written = sym (exit-refused (decide places) (samples conv r) out down) }
@@ -83,7 +84,7 @@ module _ (whose : Limit) (conv : Converter) (r : Run) (lent : Bool) (out counts 
         per-frame = k ∙ sym (exit-accepted (decide places) (if-lent lent (per-frame-clips conv r) counts) counts ok);
       }
 
-  pub convert-refused : is-accepted (decide places) ≡ false → (told : ConvertStats) → told ≡ no-clips → BytesPromise whose conv r lent out counts out counts (record { verdict = v; stats = told })
+  pub convert-refused : is-accepted (decide places) ≡ false → (told : ConvertStats) → told ≡ no-stats → BytesPromise whose conv r lent out counts out counts (record { verdict = v; stats = told })
   convert-refused down told e =
       record {
         answered = unanswered places conv r v decided down told e;

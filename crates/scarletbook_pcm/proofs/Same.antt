@@ -5,16 +5,17 @@ use mathlib.Core.Bool.{Bool, true, false, cond}
 use Prim.Native.Nat.{ℕ, _+_, _*_, _/_, _%_, _<_}
 use native.Mathlib.Omega.{arith}
 use borrow.Author.Tests.{lt-ltb, eqb-true, not-false}
-use lib.Dec.{T, ltb}
-use lib.IntN.{ℤ}
+use lib.Dec.{T, eqb, ltb}
+use lib.IntN.{ℤ, pos}
 use lib.ListN.{length}
 use lib.Ieee.{binary64, fits}
+use Rattle.numbers.specs.Extremes.{lesser, greater, extreme0}
 use Rattle.numbers.specs.Lists.{tabulate, total, count}
 use Rattle.reference.specs.Frames.{Run, run, frame-length, frame-count, neighbour, sequence, channel-byte}
 use Rattle.reference.specs.Stages.{taps-of, y}
 use Rattle.reference.specs.Settings.{filter-of}
 use Rattle.reference.specs.Scaling.{scaled, clamp, clips, right-gain}
-use Rattle.reference.specs.Output.{samples-per-frame, unclamped, sample, clipped, item, channel-samples, all-samples, samples, channel-clips, stats, frame-clips, per-frame-clips, s24le}
+use Rattle.reference.specs.Output.{samples-per-frame, unclamped, sample, clipped, item, channel-samples, all-samples, samples, channel-clips, channel-extreme, channel-empty, stats, frame-clips, per-frame-clips, s24le}
 use Rattle.reference.specs.Refusals.{rack, accepted, decide, Datum, Place, if-present, one-long, run-length, filter-places, opening-places, input-places, unsupported}
 use Rattle.reference.specs.declared.Converter.{Converter}
 use Rattle.reference.specs.declared.ConvertStats.{ConvertStats}
@@ -40,10 +41,16 @@ module _ (conv : Converter) (r q : Run) (e : sequence (conv .channels) r ≡ seq
       unclamped-same g
 
   pub stats-same : stats conv r ≡ stats conv q
-  unfolding stats channel-clips clipped channel-samples
+  unfolding stats channel-clips channel-extreme channel-empty clipped channel-samples
   stats-same =
       ap₂ {C = ConvertStats} (λ (u : ℕ → ℕ → ℤ) (f : List ℕ).
-      record { clipped = tabulate (λ c. cond (ltb c (conv .channels)) (count (λ n. clips (u c n)) 0 (frame-count (conv .channels) f * samples-per-frame (conv .rate))) 0) 0 6 })
+      let n = frame-count (conv .channels) f * samples-per-frame (conv .rate) in
+      record {
+        clipped = tabulate (λ c. cond (ltb c (conv .channels)) (count (λ k. clips (u c k)) 0 n) 0) 0 6;
+        lowest = tabulate (λ c. cond (ltb c (conv .channels)) (extreme0 lesser (u c) 0 n) (pos 0)) 0 6;
+        highest = tabulate (λ c. cond (ltb c (conv .channels)) (extreme0 greater (u c) 0 n) (pos 0)) 0 6;
+        empty = tabulate (λ c. cond (ltb c (conv .channels)) (eqb n 0) true) 0 6;
+      })
       unclamped-same g
 
   pub frame-clips-same : frame-clips conv r ≡ frame-clips conv q

@@ -5,8 +5,7 @@ ghost use Rattle.reference.specs.Frames.{run};
 ghost use Rattle.reference.specs.Output as output;
 ghost use Rattle.reference.specs.Stages.{taps-of, M};
 ghost use Rattle.reference.specs.Settings.{reach-of};
-ghost use Rattle.reference.specs.Promises.{OpeningPromise, no-clips, ConvertRunPromise, ConvertFramePromise, BytesPromise, ConvertPromise, DeskPromise, PackPromise};
-use reference::ConvertStats;
+ghost use Rattle.reference.specs.Promises.{OpeningPromise, ConvertRunPromise, ConvertFramePromise, BytesPromise, ConvertPromise, DeskPromise, PackPromise};
 use reference::Converted;
 use reference::Converter;
 use reference::Cutoff;
@@ -85,12 +84,6 @@ pub fn open(settings: Settings) -> Opened
     Opened { verdict, converter }
 }
 
-fn nothing_counted() -> ConvertStats
-    ensures { λ r. ⌜ r ≡ no-clips ⌝ }
-{
-    ConvertStats { clipped: [0u64; 6] }
-}
-
 // 32-bit samples of a run. An absent neighbour's slice is neither read nor measured.
 pub fn convert_run_parts<'a>(
     conv: Converter,
@@ -108,7 +101,7 @@ pub fn convert_run_parts<'a>(
         let stats = work::items(conv, has_before, before, frames, has_after, after, out);
         return Converted { verdict, stats };
     }
-    let stats = nothing_counted();
+    let stats = reference::no_stats();
     Converted { verdict, stats }
 }
 
@@ -129,7 +122,7 @@ pub fn convert_frame_parts<'a>(
         let stats = work::items(conv, has_before, before, frames, has_after, after, out);
         return Converted { verdict, stats };
     }
-    let stats = nothing_counted();
+    let stats = reference::no_stats();
     Converted { verdict, stats }
 }
 
@@ -177,7 +170,7 @@ fn bytes_under<'a>(
         let stats = work::bytes(conv, has_before, before, frames, has_after, after, out);
         return Converted { verdict, stats };
     }
-    let stats = nothing_counted();
+    let stats = reference::no_stats();
     Converted { verdict, stats }
 }
 

@@ -12,7 +12,8 @@ use Rattle.interface.specs.Codes.{hertz}
 use Rattle.reference.specs.Frames.{Run}
 use Rattle.reference.specs.Output.{all-samples, samples, stats, per-frame-clips, s24le}
 use Rattle.reference.specs.Refusals.{Decision, accepted, decision, decide, is-accepted, rack, convert-places}
-use Rattle.reference.specs.Promises.{no-clips, if-lent, ConvertPromise}
+use Rattle.reference.specs.Promises.{if-lent, ConvertPromise}
+use Rattle.reference.specs.Statistics.{no-stats}
 use Rattle.reference.specs.declared.Converter.{Converter}
 use Rattle.reference.specs.declared.Converted.{Converted}
 use Rattle.reference.specs.declared.Verdict.{Verdict}
@@ -33,10 +34,10 @@ module _ (conv : Converter) (r : Run) (lent : Bool) (out counts : List ℕ) (v :
   abbrev dd : Decision
   dd = decide (wav-places conv r out lent counts)
 
-  pub wav-refused : is-accepted dd ≡ false → (told : ConvertStats) → told ≡ no-clips → WavPromise conv r lent out counts out counts (record { verdict = v; stats = told })
+  pub wav-refused : is-accepted dd ≡ false → (told : ConvertStats) → told ≡ no-stats → WavPromise conv r lent out counts out counts (record { verdict = v; stats = told })
   wav-refused down told e =
       record {
-        answered = record { decided = decided; counted = e ∙ sym (exit-refused dd (stats conv r) no-clips down) };
+        answered = record { decided = decided; counted = e ∙ sym (exit-refused dd (stats conv r) no-stats down) };
         written = sym (exit-refused dd (wav-file (conv .rate) (conv .channels) (s24le (samples conv r))) out down);
         per-frame = sym (exit-refused dd (if-lent lent (per-frame-clips conv r) counts) counts down);
       }
@@ -53,7 +54,7 @@ module _ (conv : Converter) (r : Run) (lent : Bool) (out counts : List ℕ) (v :
       pub wav-promise : (out' : List ℕ) → out' ≡ wav-file (conv .rate) (conv .channels) (s24le (samples conv r)) → WavPromise conv r lent out counts out' counts' (record { verdict = v; stats = a .stats })
       wav-promise out' w =
           record {
-            answered = record { decided = decided; counted = p .answered .counted ∙ exit-accepted _ (stats conv r) no-clips takes ∙ sym (exit-accepted dd (stats conv r) no-clips ok) };
+            answered = record { decided = decided; counted = p .answered .counted ∙ exit-accepted _ (stats conv r) no-stats takes ∙ sym (exit-accepted dd (stats conv r) no-stats ok) };
             written = w ∙ sym (exit-accepted dd (wav-file (conv .rate) (conv .channels) (s24le (samples conv r))) out ok);
             per-frame = p .per-frame ∙ exit-accepted _ (if-lent lent (per-frame-clips conv r) counts) counts takes ∙ sym (exit-accepted dd (if-lent lent (per-frame-clips conv r) counts) counts ok);
           }

@@ -12,7 +12,8 @@ use Rattle.numbers.proofs.Lists.{tabulate-same, tabulate-join}
 use Rattle.reference.specs.Frames.{Run}
 use Rattle.reference.specs.Output.{low24, samples, stats, per-frame-clips, s24le}
 use Rattle.reference.specs.Refusals.{rack, accepted, decide, is-accepted, held-places, convert-places}
-use Rattle.reference.specs.Promises.{no-clips, if-lent}
+use Rattle.reference.specs.Promises.{if-lent}
+use Rattle.reference.specs.Statistics.{no-stats}
 use Rattle.reference.specs.declared.Converter.{Converter}
 use Rattle.reference.specs.declared.Verdict.the-variants.{Accepted}
 use Rattle.reference.proofs.Refusals.{decide-skip}
@@ -91,7 +92,7 @@ module _ {conv : Converter} where
       promise = record {
         answered = record {
           decided = sym takes;
-          counted = c .promise .answered .counted ∙ exit-accepted _ (stats conv (c .run)) no-clips ok ∙ sym (exit-accepted _ (stats conv (c .run)) no-clips takes);
+          counted = c .promise .answered .counted ∙ exit-accepted _ (stats conv (c .run)) no-stats ok ∙ sym (exit-accepted _ (stats conv (c .run)) no-stats takes);
         };
         written = data-made ∙ sym (exit-accepted _ (s24le (samples conv (c .run))) (drop 44 (c .out)) takes);
         per-frame = c .promise .per-frame ∙ exit-accepted _ (if-lent (c .lent) (per-frame-clips conv (c .run)) (c .counts)) (c .counts) ok

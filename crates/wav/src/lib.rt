@@ -1,7 +1,6 @@
 // A WAV file from a run: what `convert` writes, behind the header. The calls ask nothing.
 ghost use Rattle.reference.specs.Frames.{run};
 ghost use Rattle.wav.specs.Promises.{WavPromise};
-use reference::ConvertStats;
 use reference::Converted;
 use reference::Converter;
 
@@ -53,6 +52,6 @@ pub fn convert_parts<'a>(
         let stats = made.stats;
         return Converted { verdict, stats };
     }
-    let stats = ConvertStats { clipped: [0u64; 6] };
+    let stats = reference::no_stats();
     Converted { verdict, stats }
 }

@@ -200,7 +200,7 @@ scale-requires c κs =
     let k = filtered (back c) in
     let q = t k in
     let few = b q .block-length .ensures .2 in (
-      (omega (arith, few, y-long k), omega (arith, few, q .before .loop .inv .0 .of-samples)),
+      (b q .block-length .ensures .1, omega (arith, few, y-long k), omega (arith, few, q .before .loop .inv .0 .of-samples)),
       (s q .pre .0 .factor, λ i l. values-small (s q .pre .0) (s q .args .channel) (s q .args .n + q .before .loop .k) _ (worked k .0) i (omega (arith, length-is k))),
     )
 

@@ -18,7 +18,7 @@ scale-block-requires c κs =
     let m = s .args .m in
     let y = now (s .args .y) in
     let part = part-length 0 m y (omega arith) in
-    (part-length 0 m (now (s .args .samples)) (omega arith) ∙ sym part, (s .pre .1 .0, λ k l. rw (getD-take (m - 0) y k (pos 0) (omega (arith, part))) (s .pre .1 .1 k (omega (arith, part)))))
+    ((omega (arith, part), part-length 0 m (now (s .args .samples)) (omega arith) ∙ sym part), (s .pre .1 .0, λ k l. rw (getD-take (m - 0) y k (pos 0) (omega (arith, part))) (s .pre .1 .1 k (omega (arith, part)))))
 
 returns : tie.Need-returns
 returns c =

@@ -6,12 +6,14 @@ use Rattle.interface.proofs.understood.Tie as tie
 
 returns : tie.Need-returns
 returns c =
-    let tests = c .before .before .before in
+    let fits = c .before .before .before in
+    let tests = fits .before in
     rw (
-      c .both3 .ensures,
-      c .before .both2 .ensures,
-      c .before .before .both .ensures,
-      tests .room-for-all .ensures,
+      c .both4 .ensures,
+      c .before .both3 .ensures,
+      c .before .before .both2 .ensures,
+      fits .both .ensures,
+      tests .room .ensures,
       tests .before .known-flag2 .ensures,
       tests .before .before .known-flag .ensures,
       tests .before .before .before .known-settings .ensures,
@@ -22,6 +24,7 @@ pub understood-spec : {M : Type 1} → statement M
 understood-spec =
     tie.close
     (tie.spec
+    (λ c κs. search needs)
     (λ c κs. search needs)
     (λ c κs. search needs)
     (λ c κs. search needs)

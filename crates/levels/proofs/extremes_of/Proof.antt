@@ -11,8 +11,7 @@ use lib.ListN.{length, getD}
 use mir.Syntax.{w32}
 use mir.Val.{SFits, toZ, ofZ}
 use mir.Facts.{toZ-ofZ}
-use Rattle.numbers.specs.Extremes.{lesser, greater, picked}
-use Rattle.levels.specs.Levels.{extreme}
+use Rattle.numbers.specs.Extremes.{lesser, greater, picked, extreme}
 use Rattle.levels.proofs.extremes_of.Statement.{statement}
 use Rattle.levels.proofs.extremes_of.Tie as tie
 

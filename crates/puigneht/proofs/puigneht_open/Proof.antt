@@ -32,18 +32,18 @@ found c =
 known : (c : tie.Then1) → asked (start (c .before)) ≡ true
 known c = sym (found (c .before)) ∙ c .if1 .taken
 
-fit : (c : tie.Then1) → let s = start (c .before) in Lengths (now (s .args .gain)) 2 (now (s .args .opened)) (now (s .args .«data»)) (now (s .args .decibels))
+fit : (c : tie.Then1) → let s = start (c .before) in Lengths (now (s .args .gain)) (now (s .args .«data»)) (now (s .args .decibels)) × (length (now (s .args .opened)) ≡ 2)
 fit c =
     let s = start (c .before) in
     open-lengths (the-settings s) (now (s .args .opened)) (now (s .args .«data»)) (now (s .args .decibels)) (known c)
 
 settings-requires : tie.Need-settings-requires
-settings-requires c κs = fit c .floats
+settings-requires c κs = fit c .0 .floats
 
 tell-opening-requires : tie.Need-tell-opening-requires
 tell-opening-requires c κs =
     let l = fit (c .before .before .before .before .before) in
-    (l .firsts, l .told)
+    (l .1, l .0 .told)
 
 returns : tie.Need-returns
 returns c =

@@ -65,7 +65,7 @@ returns-3 c =
     let past-at-byte-call = at-byte-call .before .before .before .before .before in
     let s = past-at-byte-call .before .before .before in
     convert-refused (s .args .whose) (s .args .conv) (run-of s) (s .args .lent) (now (s .args .out)) (now (s .args .counts)) (at-byte-call .byte-call .result) (at-byte-call .byte-call .ensures)
-    (turned-down (places s) (at-byte-call .byte-call .ensures) (c .before .before .accepted .ensures) (c .before .if1 .left)) (c .nothing-counted .result) (c .nothing-counted .ensures)
+    (turned-down (places s) (at-byte-call .byte-call .ensures) (c .before .before .accepted .ensures) (c .before .if1 .left)) (c .no-stats .result) (c .no-stats .ensures)
 
 pub bytes-under-spec : {M : Type 1} → statement M
 bytes-under-spec =

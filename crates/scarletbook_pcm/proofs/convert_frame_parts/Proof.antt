@@ -35,7 +35,7 @@ returns-2 c =
     let at-frame-call = c .before .before .before in
     let s = at-frame-call .before .before .before .before .before in
     samples-refused (places s) (s .args .conv) (run-of s) (at-frame-call .frame-call .result) (at-frame-call .frame-call .ensures) (turned-down (places s) (at-frame-call .frame-call .ensures) (c .before .before .accepted .ensures) (c .before .if1 .left))
-    (c .nothing-counted .result) (c .nothing-counted .ensures) (now (s .args .out))
+    (c .no-stats .result) (c .no-stats .ensures) (now (s .args .out))
 
 pub convert-frame-parts-spec : {M : Type 1} → statement M
 convert-frame-parts-spec =

@@ -35,7 +35,7 @@ returns-2 c =
     let at-run-call = c .before .before .before in
     let s = at-run-call .before .before .before .before .before in
     samples-refused (places s) (s .args .conv) (run-of s) (at-run-call .run-call .result) (at-run-call .run-call .ensures) (turned-down (places s) (at-run-call .run-call .ensures) (c .before .before .accepted .ensures) (c .before .if1 .left))
-    (c .nothing-counted .result) (c .nothing-counted .ensures) (now (s .args .out))
+    (c .no-stats .result) (c .no-stats .ensures) (now (s .args .out))
 
 pub convert-run-parts-spec : {M : Type 1} → statement M
 convert-run-parts-spec =

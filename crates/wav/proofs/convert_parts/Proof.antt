@@ -5,7 +5,7 @@ use mathlib.Core.List.{List, []}
 use borrow.Author.Needs.{needs}
 use Rattle.reference.specs.Frames.{Run, run}
 use Rattle.reference.specs.Refusals.{Place, accepted, decide}
-use Rattle.reference.specs.Promises.{no-clips}
+use Rattle.reference.specs.Statistics.{no-stats}
 use Rattle.reference.specs.declared.Verdict.the-variants.{Accepted}
 use Rattle.refusals.proofs.Steps.{passed, turned-down}
 use Rattle.wav_checks.specs.Places.{wav-places}
@@ -53,7 +53,7 @@ sub-convert-parts c =
     let p = c .before .before in
     let t = begun p in
     let s = start (t .before .before) in
-    mid-long (s .args .conv) (run-of s) (s .args .lent) (now (s .args .out)) (now (s .args .counts)) (t .before .before .call .result) (t .before .before .call .ensures) (ok t) _ [] [] (record { verdict = Accepted; stats = no-clips }) (p .put-header .ensures)
+    mid-long (s .args .conv) (run-of s) (s .args .lent) (now (s .args .out)) (now (s .args .counts)) (t .before .before .call .result) (t .before .before .call .ensures) (ok t) _ [] [] (record { verdict = Accepted; stats = no-stats }) (p .put-header .ensures)
 
 part-convert-parts-start : tie.Need-part-convert-parts-start
 part-convert-parts-start c = sub-convert-parts c
@@ -67,10 +67,10 @@ returns c =
     converted (s .args .conv) (run-of s) (s .args .lent) (now (s .args .out)) (now (s .args .counts)) (t .before .before .call .result) (t .before .before .call .ensures) (ok t) _ _ _ (d .convert-parts .result) (p .put-header .ensures) (d .convert-parts .ensures)
 
 returns-2 : tie.Need-returns-2
-unfolding no-clips
-returns-2 c =
+returns-2 d =
+    let c = d .before in
     let s = start (c .before .before) in
-    wav-refused (s .args .conv) (run-of s) (s .args .lent) (now (s .args .out)) (now (s .args .counts)) (c .before .before .call .result) (c .before .before .call .ensures) (turned-down (places s) (c .before .before .call .ensures) (c .before .accepted .ensures) (c .if1 .left)) _ refl
+    wav-refused (s .args .conv) (run-of s) (s .args .lent) (now (s .args .out)) (now (s .args .counts)) (c .before .before .call .result) (c .before .before .call .ensures) (turned-down (places s) (c .before .before .call .ensures) (c .before .accepted .ensures) (c .if1 .left)) (d .no-stats .result) (d .no-stats .ensures)
 
 pub convert-parts-spec : {M : Type 1} → statement M
 convert-parts-spec =
@@ -87,6 +87,7 @@ convert-parts-spec =
     (λ c. search needs)
     (λ c. search needs)
     returns
+    (λ c κs. search needs)
     (λ c. search needs)
     (λ c. search needs)
     returns-2)

@@ -1,8 +1,8 @@
 -- `greater` meets its contract.
 use mir.Facts.{toZ-ofZ}
 use Rattle.numbers.specs.Extremes.{greater}
-use Rattle.levels.proofs.greater.Statement.{statement}
-use Rattle.levels.proofs.greater.Tie as tie
+use Rattle.reference.proofs.greater.Statement.{statement}
+use Rattle.reference.proofs.greater.Tie as tie
 
 returns : tie.Need-returns
 unfolding greater

@@ -1,8 +1,8 @@
 -- `lesser` meets its contract.
 use mir.Facts.{toZ-ofZ}
 use Rattle.numbers.specs.Extremes.{lesser}
-use Rattle.levels.proofs.lesser.Statement.{statement}
-use Rattle.levels.proofs.lesser.Tie as tie
+use Rattle.reference.proofs.lesser.Statement.{statement}
+use Rattle.reference.proofs.lesser.Tie as tie
 
 returns : tie.Need-returns
 unfolding lesser
