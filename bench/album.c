@@ -50,6 +50,8 @@ static void *convert(void *argument) {
     struct album *a = argument;
     double gain[2], decibels[1];
     uint64_t clipped[6], data[2];
+    int64_t lowest[6], highest[6];
+    uint8_t empty[6];
     if (puigneht_gain(0.0, gain, 2, decibels, 1) != PUIGNEHT_ACCEPTED) exit(1);
     double start = now();
     for (size_t at = 0; at < a->frames;) {
@@ -58,7 +60,7 @@ static void *convert(void *argument) {
         uint8_t answer = puigneht_convert(
             a->rate, a->cutoff, a->channels, gain, 2, a->taps > 0, own, a->taps, before, before ? a->in + (at - 1) * a->size : NULL, before ? a->size : 0,
             a->in + at * a->size, n * a->size, after, after ? a->in + (at + n) * a->size : NULL, after ? a->size : 0, 0,
-            a->out + at * a->out_size, n * a->out_size, NULL, 0, clipped, 6, data, 2, decibels, 1);
+            a->out + at * a->out_size, n * a->out_size, NULL, 0, clipped, 6, lowest, 6, highest, 6, empty, 6, data, 2, decibels, 1);
         if (answer != PUIGNEHT_ACCEPTED) exit(1);
         for (int c = 0; c < 6; c++) a->clips += clipped[c];
         at += n;

@@ -27,10 +27,12 @@ static int by_size(const void *a, const void *b) {
 /* Milliseconds of one call. */
 static double call(uint32_t rate, uint8_t cutoff) {
     uint64_t counts[FRAMES], clipped[6], data[2];
+    int64_t lowest[6], highest[6];
+    uint8_t empty[6];
     double decibels[1], start = now();
     uint8_t answer =
         puigneht_convert_desk(rate, cutoff, CHANNELS, gain, 2, 0, NULL, 0, 1, in, SIZE, in + SIZE, FRAMES * SIZE, 1, in + (1 + FRAMES) * SIZE, SIZE, 1, out,
-                              (size_t)FRAMES * 3 * (rate / 75) * CHANNELS, counts, FRAMES, clipped, 6, data, 2, decibels, 1);
+                              (size_t)FRAMES * 3 * (rate / 75) * CHANNELS, counts, FRAMES, clipped, 6, lowest, 6, highest, 6, empty, 6, data, 2, decibels, 1);
     double taken = now() - start;
     if (answer != PUIGNEHT_ACCEPTED) exit(1);
     return taken;

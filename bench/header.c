@@ -10,8 +10,8 @@
 #include <string.h>
 #include "puigneht.h"
 
-enum { FRAMES = 2, PAINT = 0xa5, EDGE = 64, STACK = 1 << 20, LISTS = 11 };
-enum { GAIN, BEFORE, RUN, AFTER, OUT, BYTES, COUNTS, CLIPPED, DATA, DECIBELS, OPENED };
+enum { FRAMES = 2, PAINT = 0xa5, EDGE = 64, STACK = 1 << 20, LISTS = 14 };
+enum { GAIN, BEFORE, RUN, AFTER, OUT, BYTES, COUNTS, CLIPPED, LOWEST, HIGHEST, EMPTY, DATA, DECIBELS, OPENED };
 
 struct call {
     uint32_t rate;
@@ -27,7 +27,7 @@ static struct call of_route(int route, uint8_t channels) {
     static const uint32_t rates[] = {88200, 176400, 352800};
     struct call c = {.rate = rates[route % 3], .cutoff = (uint8_t)(route / 3), .channels = channels};
     size_t frame = (size_t)PUIGNEHT_FRAME_BYTES * channels, samples = (size_t)c.rate / 75 * channels * FRAMES;
-    size_t length[LISTS] = {16, frame, FRAMES * frame, frame, 4 * samples, 3 * samples, 8 * FRAMES, 48, 16, 8, 16};
+    size_t length[LISTS] = {16, frame, FRAMES * frame, frame, 4 * samples, 3 * samples, 8 * FRAMES, 48, 48, 48, 6, 16, 8, 16};
     memcpy(c.length, length, sizeof length);
     return c;
 }
@@ -60,6 +60,7 @@ static void give_back(struct call *c, const size_t *offset) {
 #define ITEMS(k, type) (type *)(void *)c->list[k], c->length[k] / sizeof(type)
 #define SETTINGS c->rate, c->cutoff, c->channels, ITEMS(GAIN, double), 0, NULL, 0
 #define LENT_RUN 1, ITEMS(BEFORE, uint8_t), ITEMS(RUN, uint8_t), 1, ITEMS(AFTER, uint8_t)
+#define STATS ITEMS(CLIPPED, uint64_t), ITEMS(LOWEST, int64_t), ITEMS(HIGHEST, int64_t), ITEMS(EMPTY, uint8_t)
 #define TOLD ITEMS(DATA, uint64_t), ITEMS(DECIBELS, double)
 
 static void *none(void *p) { return p; }
@@ -73,20 +74,20 @@ static void *open_(void *p) {
 }
 static void *convert_run(void *p) {
     struct call *c = p;
-    return puigneht_convert_run(SETTINGS, LENT_RUN, ITEMS(OUT, int32_t), ITEMS(CLIPPED, uint64_t), TOLD) ? NULL : p;
+    return puigneht_convert_run(SETTINGS, LENT_RUN, ITEMS(OUT, int32_t), STATS, TOLD) ? NULL : p;
 }
 static void *convert_frame(void *p) {
     struct call *c = p;
     return puigneht_convert_frame(SETTINGS, 0, NULL, 0, c->list[RUN], c->length[RUN] / FRAMES, 0, NULL, 0, (int32_t *)(void *)c->list[OUT],
-                                  c->length[OUT] / 4 / FRAMES, ITEMS(CLIPPED, uint64_t), TOLD) ? NULL : p;
+                                  c->length[OUT] / 4 / FRAMES, STATS, TOLD) ? NULL : p;
 }
 static void *convert(void *p) {
     struct call *c = p;
-    return puigneht_convert(SETTINGS, LENT_RUN, 1, ITEMS(BYTES, uint8_t), ITEMS(COUNTS, uint64_t), ITEMS(CLIPPED, uint64_t), TOLD) ? NULL : p;
+    return puigneht_convert(SETTINGS, LENT_RUN, 1, ITEMS(BYTES, uint8_t), ITEMS(COUNTS, uint64_t), STATS, TOLD) ? NULL : p;
 }
 static void *convert_desk(void *p) {
     struct call *c = p;
-    return puigneht_convert_desk(SETTINGS, LENT_RUN, 1, ITEMS(BYTES, uint8_t), ITEMS(COUNTS, uint64_t), ITEMS(CLIPPED, uint64_t), TOLD) ? NULL : p;
+    return puigneht_convert_desk(SETTINGS, LENT_RUN, 1, ITEMS(BYTES, uint8_t), ITEMS(COUNTS, uint64_t), STATS, TOLD) ? NULL : p;
 }
 static void *pack(void *p) {
     struct call *c = p;

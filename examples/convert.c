@@ -155,8 +155,10 @@ static uint64_t convert(const struct settings *s, FILE *in, const char *in_path,
         uint8_t has_before = done > 0, has_after = done + n < frames;
         read_whole(in, in_path, buffer + (1 + there) * size, (n + has_after - there) * size);
         uint64_t clipped[6];
+        int64_t lowest[6], highest[6];
+        uint8_t empty[6];
         expect(puigneht_convert(s->rate, s->cutoff, s->channels, s->gain, 2, 0, NULL, 0, has_before, buffer, size, buffer + size, n * size,
-                                has_after, buffer + (1 + n) * size, size, 0, out, n * s->frame_out, NULL, 0, clipped, 6, data, 2,
+                                has_after, buffer + (1 + n) * size, size, 0, out, n * s->frame_out, NULL, 0, clipped, 6, lowest, 6, highest, 6, empty, 6, data, 2,
                                 decibels, 1));
         for (int c = 0; c < 6; c++) clips += clipped[c];
         if (fwrite(out, s->frame_out, n, to) != n) stop("cannot write %s: %s", out_path, strerror(errno));

@@ -76,21 +76,24 @@ uint8_t puigneht_open(uint32_t rate, uint8_t cutoff, uint8_t channels, const dou
 
 /* 32-bit samples of a run of whole frames, the channels in turn. `before` and `after` are the frames next to the run;
  * where the flag is 0 there is none, and the list is not read. `out` has a sample for each sample of the run.
- * Writes `clipped` (6 items) if accepted: the clipped samples of each channel. */
+ * Writes the statistics of each channel (6 items each) if accepted: `clipped`, its clipped samples; `lowest` and
+ * `highest`, its lowest and highest sample before it was clipped; `empty`, 1 where it has no samples, and else 0. */
 uint8_t puigneht_convert_run(uint32_t rate, uint8_t cutoff, uint8_t channels, const double *gain, size_t gain_len,
                              uint8_t own, const int32_t *taps, size_t taps_len, uint8_t has_before,
                              const uint8_t *before, size_t before_len, const uint8_t *frames, size_t frames_len,
                              uint8_t has_after, const uint8_t *after, size_t after_len, int32_t *out, size_t out_len,
-                             uint64_t *clipped, size_t clipped_len, uint64_t *data, size_t data_len, double *decibels,
-                             size_t decibels_len);
+                             uint64_t *clipped, size_t clipped_len, int64_t *lowest, size_t lowest_len,
+                             int64_t *highest, size_t highest_len, uint8_t *empty, size_t empty_len, uint64_t *data,
+                             size_t data_len, double *decibels, size_t decibels_len);
 
 /* 32-bit samples of exactly one frame, with the arguments of puigneht_convert_run. */
 uint8_t puigneht_convert_frame(uint32_t rate, uint8_t cutoff, uint8_t channels, const double *gain, size_t gain_len,
                                uint8_t own, const int32_t *taps, size_t taps_len, uint8_t has_before,
                                const uint8_t *before, size_t before_len, const uint8_t *frames, size_t frames_len,
                                uint8_t has_after, const uint8_t *after, size_t after_len, int32_t *out, size_t out_len,
-                               uint64_t *clipped, size_t clipped_len, uint64_t *data, size_t data_len,
-                               double *decibels, size_t decibels_len);
+                               uint64_t *clipped, size_t clipped_len, int64_t *lowest, size_t lowest_len,
+                               int64_t *highest, size_t highest_len, uint8_t *empty, size_t empty_len, uint64_t *data,
+                               size_t data_len, double *decibels, size_t decibels_len);
 
 /* Samples of a run of whole frames, packed in three bytes each, least first: `out` has three bytes for each sample of
  * the run. If `lent` is 1, `counts` has an item for each frame, its clipped samples over all channels; if 0 it is not
@@ -99,8 +102,9 @@ uint8_t puigneht_convert(uint32_t rate, uint8_t cutoff, uint8_t channels, const 
                          uint8_t own, const int32_t *taps, size_t taps_len, uint8_t has_before, const uint8_t *before,
                          size_t before_len, const uint8_t *frames, size_t frames_len, uint8_t has_after,
                          const uint8_t *after, size_t after_len, uint8_t lent, uint8_t *out, size_t out_len,
-                         uint64_t *counts, size_t counts_len, uint64_t *clipped, size_t clipped_len, uint64_t *data,
-                         size_t data_len, double *decibels, size_t decibels_len);
+                         uint64_t *counts, size_t counts_len, uint64_t *clipped, size_t clipped_len, int64_t *lowest,
+                         size_t lowest_len, int64_t *highest, size_t highest_len, uint8_t *empty, size_t empty_len,
+                         uint64_t *data, size_t data_len, double *decibels, size_t decibels_len);
 
 /* For the listening desk: puigneht_convert of at most PUIGNEHT_DESK_FRAMES frames, with its arguments and answers. More
  * frames are refused PUIGNEHT_DESK. */
@@ -109,8 +113,9 @@ uint8_t puigneht_convert_desk(uint32_t rate, uint8_t cutoff, uint8_t channels, c
                               const uint8_t *before, size_t before_len, const uint8_t *frames, size_t frames_len,
                               uint8_t has_after, const uint8_t *after, size_t after_len, uint8_t lent, uint8_t *out,
                               size_t out_len, uint64_t *counts, size_t counts_len, uint64_t *clipped,
-                              size_t clipped_len, uint64_t *data, size_t data_len, double *decibels,
-                              size_t decibels_len);
+                              size_t clipped_len, int64_t *lowest, size_t lowest_len, int64_t *highest,
+                              size_t highest_len, uint8_t *empty, size_t empty_len, uint64_t *data, size_t data_len,
+                              double *decibels, size_t decibels_len);
 
 /* 32-bit samples as three bytes each, their low 24 bits, least first: as many as there are bytes for. Later bytes are
  * kept. */
@@ -154,8 +159,9 @@ uint8_t puigneht_wav_convert(uint32_t rate, uint8_t cutoff, uint8_t channels, co
                              const uint8_t *before, size_t before_len, const uint8_t *frames, size_t frames_len,
                              uint8_t has_after, const uint8_t *after, size_t after_len, uint8_t lent, uint8_t *out,
                              size_t out_len, uint64_t *counts, size_t counts_len, uint64_t *clipped,
-                             size_t clipped_len, uint64_t *data, size_t data_len, double *decibels,
-                             size_t decibels_len);
+                             size_t clipped_len, int64_t *lowest, size_t lowest_len, int64_t *highest,
+                             size_t highest_len, uint8_t *empty, size_t empty_len, uint64_t *data, size_t data_len,
+                             double *decibels, size_t decibels_len);
 
 /* Reads a whole file. Writes `told` (4 items) if accepted: rate, channels, and where in `file` the sample bytes begin
  * and how many there are. PUIGNEHT_NOT_WAV for any other file; it has no data. */

@@ -19,6 +19,8 @@ int main(int argc, char **argv) {
     static uint8_t in[3 * 2 * PUIGNEHT_FRAME_BYTES], raw[84672], wav[84672 + PUIGNEHT_WAV_HEADER];
     double gain[2], decibels[1];
     uint64_t clipped[6], data[2];
+    int64_t lowest[6], highest[6];
+    uint8_t empty[6];
     uint32_t x = 1;
     for (size_t i = 0; i < sizeof in; i++) in[i] = (uint8_t)((x = x * 1664525 + 1013904223) >> 24);
     if (puigneht_gain(0.0, gain, 2, decibels, 1)) return 1;
@@ -26,11 +28,11 @@ int main(int argc, char **argv) {
         for (int channels = 1; channels <= 2; channels++)
             for (int k = 0; k < 3; k++) {
                 size_t length = counts[k] * PUIGNEHT_FRAME_BYTES * (size_t)channels, n = counts[k] * rates[r] / 75 * 3 * (size_t)channels;
-                if (puigneht_convert(rates[r], 0, (uint8_t)channels, gain, 2, 0, NULL, 0, 0, NULL, 0, in, length, 0, NULL, 0, 0, raw, n, NULL, 0, clipped, 6, data, 2,
+                if (puigneht_convert(rates[r], 0, (uint8_t)channels, gain, 2, 0, NULL, 0, 0, NULL, 0, in, length, 0, NULL, 0, 0, raw, n, NULL, 0, clipped, 6, lowest, 6, highest, 6, empty, 6, data, 2,
                                      decibels, 1))
                     return 1;
                 if (puigneht_wav_convert(rates[r], 0, (uint8_t)channels, gain, 2, 0, NULL, 0, 0, NULL, 0, in, length, 0, NULL, 0, 0, wav, n + PUIGNEHT_WAV_HEADER, NULL, 0,
-                                         clipped, 6, data, 2, decibels, 1))
+                                         clipped, 6, lowest, 6, highest, 6, empty, 6, data, 2, decibels, 1))
                     return 1;
                 put(argv[1], rates[r], channels, counts[k], "raw", raw, n);
                 put(argv[1], rates[r], channels, counts[k], "wav", wav, n + PUIGNEHT_WAV_HEADER);

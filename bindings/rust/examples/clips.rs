@@ -35,7 +35,7 @@ fn clips() -> Result<(), Box<dyn Error>> {
         frames: &frames,
         after: None,
     };
-    let clipped = conv.convert(run, &mut out, Some(&mut counts))?;
+    let clipped = conv.convert(run, &mut out, Some(&mut counts))?.clipped;
     for (k, n) in counts.iter().enumerate().filter(|(_, &n)| n > 0) {
         println!("frame {k}: {n}");
     }

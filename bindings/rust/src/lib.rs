@@ -213,8 +213,18 @@ pub struct Converter<'a> {
     pub taps: Option<&'a [i32]>,
 }
 
-/// Clipped samples of each channel.
-pub type Clipped = [u64; 6];
+/// What a conversion tells of each channel. Of a channel that has no samples all numbers are 0.
+#[derive(Clone, Copy, Debug, PartialEq, Eq)]
+pub struct Stats {
+    /// Samples that were clipped.
+    pub clipped: [u64; 6],
+    /// The lowest sample before it was clipped.
+    pub lowest: [i64; 6],
+    /// The highest sample before it was clipped.
+    pub highest: [i64; 6],
+    /// Whether the channel has no samples: an unused one, and each of a run of no frames.
+    pub empty: [bool; 6],
+}
 
 // What a call tells of its decision.
 #[derive(Default)]
@@ -313,6 +323,12 @@ type ConvertSamples = unsafe extern "C" fn(
     usize,
     *mut u64,
     usize,
+    *mut i64,
+    usize,
+    *mut i64,
+    usize,
+    *mut u8,
+    usize,
     *mut u64,
     usize,
     *mut f64,
@@ -343,6 +359,12 @@ type ConvertBytes = unsafe extern "C" fn(
     *mut u64,
     usize,
     *mut u64,
+    usize,
+    *mut i64,
+    usize,
+    *mut i64,
+    usize,
+    *mut u8,
     usize,
     *mut u64,
     usize,
@@ -387,12 +409,12 @@ impl Converter<'_> {
     }
 
     /// 32-bit samples of a run, the channels in turn.
-    pub fn convert_run(&self, run: Run<'_>, out: &mut [i32]) -> Result<Clipped, Error> {
+    pub fn convert_run(&self, run: Run<'_>, out: &mut [i32]) -> Result<Stats, Error> {
         self.samples(raw::puigneht_convert_run, run, out)
     }
 
     /// 32-bit samples of exactly one frame, the channels in turn.
-    pub fn convert_frame(&self, run: Run<'_>, out: &mut [i32]) -> Result<Clipped, Error> {
+    pub fn convert_frame(&self, run: Run<'_>, out: &mut [i32]) -> Result<Stats, Error> {
         self.samples(raw::puigneht_convert_frame, run, out)
     }
 
@@ -401,12 +423,12 @@ impl Converter<'_> {
         call: ConvertSamples,
         run: Run<'_>,
         out: &mut [i32],
-    ) -> Result<Clipped, Error> {
+    ) -> Result<Stats, Error> {
         let gain = [self.gain.db, self.gain.linear];
         let taps = self.taps.unwrap_or(&[]);
         let before = run.before.unwrap_or(&[]);
         let after = run.after.unwrap_or(&[]);
-        let mut clipped = [0; 6];
+        let (mut clipped, mut lowest, mut highest, mut empty) = ([0; 6], [0; 6], [0; 6], [0; 6]);
         let mut told = Told::default();
         // SAFETY: each pointer and length is that of a live slice, and no written slice overlaps another.
         let answer = unsafe {
@@ -431,13 +453,27 @@ impl Converter<'_> {
                 out.len(),
                 clipped.as_mut_ptr(),
                 6,
+                lowest.as_mut_ptr(),
+                6,
+                highest.as_mut_ptr(),
+                6,
+                empty.as_mut_ptr(),
+                6,
                 told.data.as_mut_ptr(),
                 2,
                 told.decibels.as_mut_ptr(),
                 1,
             )
         };
-        told.result(answer, clipped)
+        told.result(
+            answer,
+            Stats {
+                clipped,
+                lowest,
+                highest,
+                empty: empty.map(|mark: u8| mark == 1),
+            },
+        )
     }
 
     /// Samples of a run, three bytes each, least first; and in `counts`, if it is lent, the clipped samples of each frame.
@@ -446,7 +482,7 @@ impl Converter<'_> {
         run: Run<'_>,
         out: &mut [u8],
         counts: Option<&mut [u64]>,
-    ) -> Result<Clipped, Error> {
+    ) -> Result<Stats, Error> {
         self.bytes(raw::puigneht_convert, run, out, counts)
     }
 
@@ -456,7 +492,7 @@ impl Converter<'_> {
         run: Run<'_>,
         out: &mut [u8],
         counts: Option<&mut [u64]>,
-    ) -> Result<Clipped, Error> {
+    ) -> Result<Stats, Error> {
         self.bytes(raw::puigneht_convert_desk, run, out, counts)
     }
 
@@ -466,14 +502,14 @@ impl Converter<'_> {
         run: Run<'_>,
         out: &mut [u8],
         counts: Option<&mut [u64]>,
-    ) -> Result<Clipped, Error> {
+    ) -> Result<Stats, Error> {
         let gain = [self.gain.db, self.gain.linear];
         let taps = self.taps.unwrap_or(&[]);
         let before = run.before.unwrap_or(&[]);
         let after = run.after.unwrap_or(&[]);
         let lent = counts.is_some() as u8;
         let counts = counts.unwrap_or(&mut []);
-        let mut clipped = [0; 6];
+        let (mut clipped, mut lowest, mut highest, mut empty) = ([0; 6], [0; 6], [0; 6], [0; 6]);
         let mut told = Told::default();
         // SAFETY: each pointer and length is that of a live slice, and no written slice overlaps another.
         let answer = unsafe {
@@ -501,12 +537,26 @@ impl Converter<'_> {
                 counts.len(),
                 clipped.as_mut_ptr(),
                 6,
+                lowest.as_mut_ptr(),
+                6,
+                highest.as_mut_ptr(),
+                6,
+                empty.as_mut_ptr(),
+                6,
                 told.data.as_mut_ptr(),
                 2,
                 told.decibels.as_mut_ptr(),
                 1,
             )
         };
-        told.result(answer, clipped)
+        told.result(
+            answer,
+            Stats {
+                clipped,
+                lowest,
+                highest,
+                empty: empty.map(|mark: u8| mark == 1),
+            },
+        )
     }
 }

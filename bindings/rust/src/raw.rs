@@ -47,6 +47,12 @@ extern "C" {
         out_len: usize,
         clipped: *mut u64,
         clipped_len: usize,
+        lowest: *mut i64,
+        lowest_len: usize,
+        highest: *mut i64,
+        highest_len: usize,
+        empty: *mut u8,
+        empty_len: usize,
         data: *mut u64,
         data_len: usize,
         decibels: *mut f64,
@@ -74,6 +80,12 @@ extern "C" {
         out_len: usize,
         clipped: *mut u64,
         clipped_len: usize,
+        lowest: *mut i64,
+        lowest_len: usize,
+        highest: *mut i64,
+        highest_len: usize,
+        empty: *mut u8,
+        empty_len: usize,
         data: *mut u64,
         data_len: usize,
         decibels: *mut f64,
@@ -104,6 +116,12 @@ extern "C" {
         counts_len: usize,
         clipped: *mut u64,
         clipped_len: usize,
+        lowest: *mut i64,
+        lowest_len: usize,
+        highest: *mut i64,
+        highest_len: usize,
+        empty: *mut u8,
+        empty_len: usize,
         data: *mut u64,
         data_len: usize,
         decibels: *mut f64,
@@ -134,6 +152,12 @@ extern "C" {
         counts_len: usize,
         clipped: *mut u64,
         clipped_len: usize,
+        lowest: *mut i64,
+        lowest_len: usize,
+        highest: *mut i64,
+        highest_len: usize,
+        empty: *mut u8,
+        empty_len: usize,
         data: *mut u64,
         data_len: usize,
         decibels: *mut f64,
@@ -279,6 +303,12 @@ extern "C" {
         counts_len: usize,
         clipped: *mut u64,
         clipped_len: usize,
+        lowest: *mut i64,
+        lowest_len: usize,
+        highest: *mut i64,
+        highest_len: usize,
+        empty: *mut u8,
+        empty_len: usize,
         data: *mut u64,
         data_len: usize,
         decibels: *mut f64,
@@ -306,11 +336,12 @@ extern "C" {
 
 #[cfg(test)]
 mod tests {
-    // A refused conversion writes the refusal's data and no other list, the clip counts neither.
+    // A refused conversion writes the refusal's data and no other list, the statistics neither.
     #[test]
     fn refused() {
         let (gain, frames) = ([0.0, 1.0], [0x69; 4703]);
         let (mut out, mut counts, mut clipped) = ([7u8; 3528], [7u64; 1], [7u64; 6]);
+        let (mut lowest, mut highest, mut empty) = ([7i64; 6], [7i64; 6], [7u8; 6]);
         let (mut data, mut decibels) = ([7u64; 2], [7.0]);
         // SAFETY: each pointer and length is that of a live array, and no written array overlaps another.
         let answer = unsafe {
@@ -338,6 +369,12 @@ mod tests {
                 counts.len(),
                 clipped.as_mut_ptr(),
                 6,
+                lowest.as_mut_ptr(),
+                6,
+                highest.as_mut_ptr(),
+                6,
+                empty.as_mut_ptr(),
+                6,
                 data.as_mut_ptr(),
                 2,
                 decibels.as_mut_ptr(),
@@ -346,6 +383,7 @@ mod tests {
         };
         assert_eq!((answer, data, decibels), (4, [4703, 0], [0.0]));
         assert_eq!((clipped, counts, out), ([7; 6], [7], [7; 3528]));
+        assert_eq!((lowest, highest, empty), ([7; 6], [7; 6], [7; 6]));
     }
 
     // An unknown end, or a list of another length than three, is not understood, and nothing is written.

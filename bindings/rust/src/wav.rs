@@ -1,6 +1,6 @@
 //! WAV files of 24-bit samples: the plain 44-byte header, then the sample bytes.
 
-use crate::{rate, raw, Clipped, Converter, Error, PcmRate, Run, Told};
+use crate::{rate, raw, Converter, Error, PcmRate, Run, Stats, Told};
 
 /// Bytes before the sample bytes.
 pub const HEADER: usize = 44;
@@ -23,7 +23,7 @@ pub fn convert(
     run: Run<'_>,
     out: &mut [u8],
     counts: Option<&mut [u64]>,
-) -> Result<Clipped, Error> {
+) -> Result<Stats, Error> {
     converter.bytes(raw::puigneht_wav_convert, run, out, counts)
 }
 

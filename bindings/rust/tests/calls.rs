@@ -190,7 +190,7 @@ fn refusals() {
 fn sentences() {
     let conv = mono();
     let frame = noise(FRAME_BYTES);
-    let said = |e: Result<puigneht::Clipped, Error>| e.unwrap_err().to_string();
+    let said = |e: Result<puigneht::Stats, Error>| e.unwrap_err().to_string();
     assert_eq!(
         Converter {
             channels: 7,
@@ -272,8 +272,8 @@ fn desk() {
         };
         let (mut a, mut b) = (vec![7; n * 3528], vec![9; n * 3528]);
         let (mut c, mut d) = (vec![7; n], vec![9; n]);
-        let clipped = conv.convert(run, &mut a, Some(&mut c)).unwrap();
-        assert_eq!(conv.convert_desk(run, &mut b, Some(&mut d)), Ok(clipped));
+        let stats = conv.convert(run, &mut a, Some(&mut c)).unwrap();
+        assert_eq!(conv.convert_desk(run, &mut b, Some(&mut d)), Ok(stats));
         assert_eq!((a, c), (b, d));
     }
     let mut out = [7; 9 * 3528];
@@ -321,15 +321,29 @@ fn pieces_join() {
             let Ok(opened) = conv.open() else { continue };
             let per = 2 * opened.samples_per_frame;
             let mut whole = vec![0; 5 * per];
-            let clipped = conv.convert_run(alone(&frames), &mut whole).unwrap();
+            let stats = conv.convert_run(alone(&frames), &mut whole).unwrap();
             let mut bytes = vec![0; 15 * per];
             let mut counts = [0; 5];
             assert_eq!(
                 conv.convert(alone(&frames), &mut bytes, Some(&mut counts)),
-                Ok(clipped)
+                Ok(stats)
             );
-            assert_eq!(counts.iter().sum::<u64>(), clipped.iter().sum());
-            assert_eq!(conv.convert(alone(&frames), &mut bytes, None), Ok(clipped));
+            assert_eq!(counts.iter().sum::<u64>(), stats.clipped.iter().sum());
+            assert_eq!(conv.convert(alone(&frames), &mut bytes, None), Ok(stats));
+
+            for c in 0..6 {
+                assert_eq!(stats.empty[c], c > 1);
+                let own = || whole.iter().skip(c).step_by(2).copied().map(i64::from);
+                if c > 1 {
+                    assert_eq!((stats.lowest[c], stats.highest[c]), (0, 0));
+                } else if stats.clipped[c] == 0 {
+                    assert_eq!(Some(stats.lowest[c]), own().min());
+                    assert_eq!(Some(stats.highest[c]), own().max());
+                } else {
+                    assert!(stats.lowest[c] <= own().min().unwrap() && stats.highest[c] >= own().max().unwrap());
+                    assert!(stats.lowest[c] < -(1 << 23) || stats.highest[c] >= 1 << 23);
+                }
+            }
 
             let mut packed = vec![0; 15 * per];
             pack_s24le(&whole, &mut packed);

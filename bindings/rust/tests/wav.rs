@@ -188,6 +188,12 @@ mod raw {
             counts_len: usize,
             clipped: *mut u64,
             clipped_len: usize,
+            lowest: *mut i64,
+            lowest_len: usize,
+            highest: *mut i64,
+            highest_len: usize,
+            empty: *mut u8,
+            empty_len: usize,
             data: *mut u64,
             data_len: usize,
             decibels: *mut f64,
@@ -295,6 +301,7 @@ fn a_long_run() {
     let counts = Untouched::new(8 * frames);
     let call = |lent: u8, room: usize, items: usize| {
         let mut clipped = [5; 6];
+        let (mut lowest, mut highest, mut empty) = ([5; 6], [5; 6], [5; 6]);
         let mut told = [5; 2];
         let mut decibels = [5.0];
         // SAFETY: the mappings have these lengths; a call that is refused does not look into them.
@@ -322,6 +329,12 @@ fn a_long_run() {
                 counts.0 as *mut u64,
                 items,
                 clipped.as_mut_ptr(),
+                6,
+                lowest.as_mut_ptr(),
+                6,
+                highest.as_mut_ptr(),
+                6,
+                empty.as_mut_ptr(),
                 6,
                 told.as_mut_ptr(),
                 2,

@@ -44,22 +44,22 @@ pub mod port {
         fn puigneht_convert_run(
             rate: u32, cutoff: u8, channels: u8, gain: *const f64, gains: usize, own: u8, taps: *const i32, tapss: usize, has_before: u8, before: *const u8, befores: usize,
             frames: *const u8, framess: usize, has_after: u8, after: *const u8, afters: usize, out: *mut i32, outs: usize,
-            clipped: *mut u64, clips: usize, data: *mut u64, datas: usize, decibels: *mut f64, n: usize,
+            clipped: *mut u64, clips: usize, lowest: *mut i64, lows: usize, highest: *mut i64, highs: usize, empty: *mut u8, marks: usize, data: *mut u64, datas: usize, decibels: *mut f64, n: usize,
         ) -> u8;
         fn puigneht_convert_frame(
             rate: u32, cutoff: u8, channels: u8, gain: *const f64, gains: usize, own: u8, taps: *const i32, tapss: usize, has_before: u8, before: *const u8, befores: usize,
             frames: *const u8, framess: usize, has_after: u8, after: *const u8, afters: usize, out: *mut i32, outs: usize,
-            clipped: *mut u64, clips: usize, data: *mut u64, datas: usize, decibels: *mut f64, n: usize,
+            clipped: *mut u64, clips: usize, lowest: *mut i64, lows: usize, highest: *mut i64, highs: usize, empty: *mut u8, marks: usize, data: *mut u64, datas: usize, decibels: *mut f64, n: usize,
         ) -> u8;
         fn puigneht_convert(
             rate: u32, cutoff: u8, channels: u8, gain: *const f64, gains: usize, own: u8, taps: *const i32, tapss: usize, has_before: u8, before: *const u8, befores: usize,
             frames: *const u8, framess: usize, has_after: u8, after: *const u8, afters: usize, lent: u8, out: *mut u8, outs: usize,
-            counts: *mut u64, countss: usize, clipped: *mut u64, clips: usize, data: *mut u64, datas: usize, decibels: *mut f64, n: usize,
+            counts: *mut u64, countss: usize, clipped: *mut u64, clips: usize, lowest: *mut i64, lows: usize, highest: *mut i64, highs: usize, empty: *mut u8, marks: usize, data: *mut u64, datas: usize, decibels: *mut f64, n: usize,
         ) -> u8;
         fn puigneht_convert_desk(
             rate: u32, cutoff: u8, channels: u8, gain: *const f64, gains: usize, own: u8, taps: *const i32, tapss: usize, has_before: u8, before: *const u8, befores: usize,
             frames: *const u8, framess: usize, has_after: u8, after: *const u8, afters: usize, lent: u8, out: *mut u8, outs: usize,
-            counts: *mut u64, countss: usize, clipped: *mut u64, clips: usize, data: *mut u64, datas: usize, decibels: *mut f64, n: usize,
+            counts: *mut u64, countss: usize, clipped: *mut u64, clips: usize, lowest: *mut i64, lows: usize, highest: *mut i64, highs: usize, empty: *mut u8, marks: usize, data: *mut u64, datas: usize, decibels: *mut f64, n: usize,
         ) -> u8;
         fn puigneht_pack_s24le(samples: *const i32, n: usize, bytes: *mut u8, m: usize);
     }
@@ -67,17 +67,21 @@ pub mod port {
     // What comes back through the lent slices.
     struct Back {
         clipped: [u64; 6],
+        lowest: [i64; 6],
+        highest: [i64; 6],
+        empty: [u8; 6],
         data: [u64; 2],
         decibels: [f64; 1],
     }
 
     fn back() -> Back {
-        Back { clipped: [7; 6], data: [7; 2], decibels: [7.0] }
+        Back { clipped: [7; 6], lowest: [7; 6], highest: [7; 6], empty: [7; 6], data: [7; 2], decibels: [7.0] }
     }
 
-    // A refused call has kept the list of clips: what it changed there is told.
+    // A refused call has kept the lists of statistics: what it changed there is told.
     fn answer(number: u8, b: Back) -> Answer {
-        let clipped = if number == 0 { b.clipped } else { b.clipped.map(|n| n ^ 7) };
+        let kept = b.lowest == [7; 6] && b.highest == [7; 6] && b.empty == [7; 6];
+        let clipped = if number == 0 { b.clipped } else { b.clipped.map(|n| n ^ if kept { 7 } else { 6 }) };
         Answer { number, data: b.data, decibels: bits(b.decibels[0]), clipped }
     }
 
@@ -111,7 +115,7 @@ pub mod port {
             call(
                 RATES[s.rate], s.cutoff as u8, s.channels, gain.as_ptr(), 2, 0, std::ptr::null(), 0, i.before.is_some().into(), before.as_ptr(), before.len(),
                 i.frames.as_ptr(), i.frames.len(), i.after.is_some().into(), after.as_ptr(), after.len(), out.as_mut_ptr(), out.len(),
-                b.clipped.as_mut_ptr(), 6, b.data.as_mut_ptr(), 2, b.decibels.as_mut_ptr(), 1,
+                b.clipped.as_mut_ptr(), 6, b.lowest.as_mut_ptr(), 6, b.highest.as_mut_ptr(), 6, b.empty.as_mut_ptr(), 6, b.data.as_mut_ptr(), 2, b.decibels.as_mut_ptr(), 1,
             )
         };
         answer(number, b)
@@ -127,7 +131,7 @@ pub mod port {
             call(
                 RATES[s.rate], s.cutoff as u8, s.channels, gain.as_ptr(), 2, 0, std::ptr::null(), 0, i.before.is_some().into(), before.as_ptr(), before.len(),
                 i.frames.as_ptr(), i.frames.len(), i.after.is_some().into(), after.as_ptr(), after.len(), lent, out.as_mut_ptr(), out.len(),
-                counts.as_mut_ptr(), counts.len(), b.clipped.as_mut_ptr(), 6, b.data.as_mut_ptr(), 2, b.decibels.as_mut_ptr(), 1,
+                counts.as_mut_ptr(), counts.len(), b.clipped.as_mut_ptr(), 6, b.lowest.as_mut_ptr(), 6, b.highest.as_mut_ptr(), 6, b.empty.as_mut_ptr(), 6, b.data.as_mut_ptr(), 2, b.decibels.as_mut_ptr(), 1,
             )
         };
         answer(number, b)
@@ -140,16 +144,19 @@ pub mod port {
         let frame = [0x69u8; 4704];
         let (mut out, mut counts) = ([7u8; 3528], [7u64; 1]);
         let (mut clipped, mut data, mut decibels) = ([7u64; 7], [7u64; 3], [7.0f64; 2]);
+        let (mut lowest, mut highest, mut empty) = ([7i64; 7], [7i64; 7], [7u8; 7]);
         let number = unsafe {
             puigneht_convert(
-                wrong(0, 88200, 44100) as u32, wrong(1, 0, 3) as u8, 1, gain.as_ptr(), wrong(2, 2, 3) as usize, wrong(9, 0, 2) as u8, std::ptr::null(), 0,
+                wrong(0, 88200, 44100) as u32, wrong(1, 0, 3) as u8, 1, gain.as_ptr(), wrong(2, 2, 3) as usize, wrong(12, 0, 2) as u8, std::ptr::null(), 0,
                 wrong(3, 1, 2) as u8,
                 frame.as_ptr(), 4704, frame.as_ptr(), 4704, wrong(4, 1, 255) as u8, frame.as_ptr(), 4704, wrong(5, 1, 2) as u8,
-                out.as_mut_ptr(), 3528, counts.as_mut_ptr(), 1, clipped.as_mut_ptr(), wrong(6, 6, 7) as usize, data.as_mut_ptr(),
+                out.as_mut_ptr(), 3528, counts.as_mut_ptr(), 1, clipped.as_mut_ptr(), wrong(6, 6, 7) as usize,
+                lowest.as_mut_ptr(), wrong(9, 6, 7) as usize, highest.as_mut_ptr(), wrong(10, 6, 7) as usize, empty.as_mut_ptr(),
+                wrong(11, 6, 7) as usize, data.as_mut_ptr(),
                 wrong(7, 2, 3) as usize, decibels.as_mut_ptr(), wrong(8, 1, 2) as usize,
             )
         };
-        let kept = out == [7; 3528] && counts == [7] && clipped == [7; 7] && data == [7; 3] && decibels == [7.0; 2];
+        let kept = out == [7; 3528] && counts == [7] && clipped == [7; 7] && lowest == [7; 7] && highest == [7; 7] && empty == [7; 7] && data == [7; 3] && decibels == [7.0; 2];
         number == 255 && kept
     }
 
@@ -160,7 +167,7 @@ pub mod port {
         let number = unsafe {
             puigneht_convert(
                 88200, 0, 1, gain.as_ptr(), 2, 0, none.cast(), 0, 0, none, 0, none, 0, 0, none, 0, 0, none, 0, none.cast(), 0, b.clipped.as_mut_ptr(), 6,
-                b.data.as_mut_ptr(), 2, b.decibels.as_mut_ptr(), 1,
+                b.lowest.as_mut_ptr(), 6, b.highest.as_mut_ptr(), 6, b.empty.as_mut_ptr(), 6, b.data.as_mut_ptr(), 2, b.decibels.as_mut_ptr(), 1,
             )
         };
         answer(number, b) == Answer::default()

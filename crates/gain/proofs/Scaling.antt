@@ -8,7 +8,7 @@ use borrow.Author.Tests.{ltb-false}
 use lib.IntN.{ℤ, pos, negsuc, negℤ, natAbs}
 use lib.Signed.{ltZ, natAbs-le}
 use lib.Dec.{T, ltb, leb, leb→le, lit≤, lit<}
-use lib.Ieee.{Float, nan, inf, fin, binary64, up, down, mul, ne, ofInt, toSigned, inSigned, inFloat, round, unlike}
+use lib.Ieee.{Float, nan, inf, fin, binary64, up, down, mul, ne, ofInt, ofBits, toSigned, inSigned, inFloat, round, unlike}
 use lib.Ieee.Fits.{and-r, down-pos, mul-fits, ofInt-fits}
 use lib.Ieee.Exact.{HasValue}
 use lib.Ieee.Nearest.{closest, closest-mono}
@@ -22,7 +22,7 @@ use Rattle.floats.proofs.Bound.{AtMost, round-at-most}
 use Rattle.floats.proofs.Eighth.{an-eighth, eighth-is, eighth-below}
 use Rattle.floats.proofs.Middle.{cast-is, nearest-is}
 use Rattle.floats.proofs.Wholes.{ne-whole, in-float, whole-back}
-use Rattle.gain.specs.Scale.{bounded}
+use Rattle.gain.specs.Scale.{bounded, unrounded}
 
 -- ---- the product
 
@@ -73,6 +73,14 @@ module _ (y : ℤ) (factor : Float) (small : natAbs y < 2 ^ 32) (held : T (bound
   scaled-is =
       let p = mul binary64 (ofInt binary64 y) factor in
       eighth-is p (2 ^ 36) (mul-fits binary64 (ofInt binary64 y) factor) (product-at-most y factor small held) ∙ over-8 p
+
+  pub unrounded-reach : T (below-51 (unrounded factor y))
+  unfolding unrounded ofBits
+  unrounded-reach = in-reach
+
+  pub unrounded-is : whole-of (unrounded factor y) ≡ scaled factor y
+  unfolding unrounded ofBits
+  unrounded-is = scaled-is
 
   -- the float that holds it, as a whole number again
   pub scaled-back : T (inSigned binary64 63 (ofInt binary64 (scaled factor y))) × (toSigned 63 (ofInt binary64 (scaled factor y)) ≡ scaled factor y)

@@ -6,7 +6,7 @@ use Prim.Native.Nat.{ℕ, _*_, _<_}
 use lib.Dec.{ltb, leb}
 use lib.IntN.{ℤ}
 use lib.ListN.{length}
-use lib.Ieee.{Float, nan, inf, fin, up, down}
+use lib.Ieee.{Float, nan, inf, fin, binary64, up, down, mul, ofInt, ofBits}
 use Rattle.numbers.specs.Sums.{at0}
 use Rattle.reference.specs.Scaling.{scaled, clamp, clips}
 use Rattle.gain.specs.declared.Tally.{Tally}
@@ -18,6 +18,10 @@ bounded nan = false
 bounded (inf s) = false
 bounded (fin true m e) = false
 bounded (fin false m e) = ltb 0 m && leb (m * up e) (16 * down e)
+
+-- y times the factor, and an eighth of that: each product rounded once
+unfoldable pub unrounded : Float → ℤ → Float
+unrounded factor y = mul binary64 (mul binary64 (ofInt binary64 y) factor) (ofBits binary64 0x3fc0_0000_0000_0000)
 
 -- the sample of a number z before the clamp, and whether it is clipped, as 0 or 1
 pub record Clamped (z sample : ℤ) (clipped : ℕ) : Type 0 where

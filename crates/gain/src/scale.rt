@@ -8,7 +8,7 @@ ghost use lib.Ieee.{binary64, ofInt, toSigned, inSigned};
 ghost use Rattle.numbers.specs.Sums.{at0};
 ghost use Rattle.reference.specs.Scaling.{scaled, clamp};
 ghost use Rattle.floats.specs.Whole.{whole-of, below-51};
-ghost use Rattle.gain.specs.Scale.{bounded, Clamped, ScaledBlock};
+ghost use Rattle.gain.specs.Scale.{bounded, unrounded, Clamped, ScaledBlock};
 use crate::Tally;
 
 struct Scaled {
@@ -40,13 +40,12 @@ fn clip(z: f64) -> f64
     if capped < LOWEST { LOWEST } else { capped }
 }
 
-// The whole number that y becomes, as a float.
-fn whole(y: i64, factor: f64) -> f64
+// What y becomes before it is rounded to a whole number.
+fn product(y: i64, factor: f64) -> f64
     requires { ⌜ natAbs y < 2 ^ 32 ⌝ }
-    requires { ⌜ T (bounded factor) ⌝ }
-    ensures { λ r. ⌜ r ≡ ofInt binary64 (scaled factor y) ⌝ }
+    ensures { λ r. ⌜ r ≡ unrounded factor y ⌝ }
 {
-    nearest_even((y as f64) * factor * 0.125)
+    (y as f64) * factor * 0.125
 }
 
 // y as a sample. The clamp comes before the cast, and nothing branches: so the machine scales several at once.
@@ -55,7 +54,8 @@ fn scale(y: i64, factor: f64) -> Scaled
     requires { ⌜ T (bounded factor) ⌝ }
     ensures { λ r. ⌜ Clamped (scaled factor y) (r .sample) (r .clipped) ⌝ }
 {
-    let z = whole(y, factor);
+    let x = product(y, factor);
+    let z = nearest_even(x);
     let s = clip(z);
     let sample = s as i32;
     let clipped = (s != z) as u64;
@@ -67,7 +67,8 @@ fn before_clamp(y: i32, factor: f64) -> i64
     requires { ⌜ T (bounded factor) ⌝ }
     ensures { λ r. ⌜ r ≡ scaled factor y ⌝ }
 {
-    let z = whole(y as i64, factor);
+    let x = product(y as i64, factor);
+    let z = nearest_even(x);
     z as i64
 }
 

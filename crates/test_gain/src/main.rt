@@ -63,11 +63,15 @@ fn count(question: u8, db: &[u64], factor: &[u64]) -> u64 {
     n
 }
 
-// What `lifted` has made positive.
+// What `lifted` has made positive; 0 stands for no number.
 fn lowered(n: u64) -> i64
-    ensures { λ r. ⌜ natAbs r < 4294967296 ⌝ }
+    ensures { λ r. ⌜ natAbs r < 2147483648 ⌝ }
 {
-    (n % 0x1_0000_0000) as i64 - 0x8000_0000
+    let low = n % 0x1_0000_0000;
+    if low == 0 {
+        return 0;
+    }
+    low as i64 - 0x8000_0000
 }
 
 // Whether y becomes this sample at db decibels, and is clipped so often. Number and sample have 2^31 added.

@@ -1,4 +1,4 @@
--- `scales` is safe and ends: the factor of a made record is bounded, and the number is below 2^32 in size.
+-- `scales` is safe and ends: the factor of a made record is bounded, and the number is below 2^31 in size.
 use mathlib.Core.Path.{refl, sym, subst}
 use Prim.Native.Nat.{ℕ, zero, suc, _^_, _<_}
 use native.Mathlib.Omega.{arith}
@@ -13,7 +13,7 @@ use Rattle.gain.proofs.Records.{made-bounded}
 use Rattle.test_gain.proofs.scales.Statement.{statement}
 use Rattle.test_gain.proofs.scales.Tie as tie
 
-only : (z : ℤ) → natAbs z < 2 ^ 32 → (k : ℕ) → k < 1 → natAbs (getD (z ∷ []) k (pos 0)) < 2 ^ 32
+only : (z : ℤ) → natAbs z < 2 ^ 31 → (k : ℕ) → k < 1 → natAbs (getD (z ∷ []) k (pos 0)) < 2 ^ 31
 only z h zero l = h
 only z h (suc k) l = absurd (omega arith)
 
@@ -23,8 +23,8 @@ scale-block-requires c κs =
     let known = c .before .before .before .before in
     let from = known .before .before in
     let made = subst (λ (a : FromDb). GainPromise (from .before .float .result) a) (known .g .given .1) (from .from-db .ensures) in
-    let h = subst (λ (z : ℤ). natAbs z < 2 ^ 32) (sym (val (low .result) (low .result) (low .ok) refl)) (low .ensures) in
-    (refl, (made-bounded _ (known .g .given .0 .0) made, only _ h))
+    let h = subst (λ (z : ℤ). natAbs z < 2 ^ 31) (sym (val (low .result) (low .result) (low .ok) refl)) (low .ensures) in
+    ((omega arith, refl), (made-bounded _ (known .g .given .0 .0) made, only _ h))
 
 pub scales-spec : {M : Type 1} → statement M
 scales-spec =
