@@ -1,5 +1,5 @@
 /* Seconds that a 60-minute album takes, for every route, in stereo and six channels, as one run and in pieces; and ns a sample by the length
- * of a run and by the number of channels. bench/album builds and runs it.
+ * of a run, by the number of channels and by the number of a filter's taps. bench/album builds and runs it.
  *
  * A stretch of the album is converted (argument: seconds of it, 20 by default) and its time scaled to 60 minutes. Conversions run in a
  * thread whose stack is painted before, so that the deepest use of it can be read off after. */
@@ -21,11 +21,23 @@ struct album {
     uint32_t rate;
     uint8_t cutoff, channels;
     size_t frames, piece, size, out_size; /* bytes of a frame, in and out */
+    size_t taps;                          /* of a filter of one's own; 0: none */
     const uint8_t *in;
     uint8_t *out;
     uint64_t clips;
     double seconds;
 };
+
+static int32_t own[PUIGNEHT_MOST_TAPS];
+
+/* n taps of either sign, which sum to 2^24 with the centre. */
+static void make_filter(size_t n) {
+    own[0] = 1 << 24;
+    for (size_t k = 1; k < n; k++) {
+        own[k] = (k % 3 ? 90000 : -90000) - 100 * (int32_t)k;
+        own[0] -= 2 * own[k];
+    }
+}
 
 static double now(void) {
     struct timespec t;
@@ -46,7 +58,7 @@ static void *convert(void *argument) {
         size_t n = a->piece && a->piece < a->frames - at ? a->piece : a->frames - at;
         uint8_t before = at > 0, after = at + n < a->frames;
         uint8_t answer = puigneht_convert(
-            a->rate, a->cutoff, a->channels, gain, 2, before, before ? a->in + (at - 1) * a->size : NULL, before ? a->size : 0,
+            a->rate, a->cutoff, a->channels, gain, 2, a->taps > 0, own, a->taps, before, before ? a->in + (at - 1) * a->size : NULL, before ? a->size : 0,
             a->in + at * a->size, n * a->size, after, after ? a->in + (at + n) * a->size : NULL, after ? a->size : 0, 0,
             a->out + at * a->out_size, n * a->out_size, NULL, 0, clipped, 6, lowest, 6, highest, 6, empty, 6, data, 2, decibels, 1);
         if (answer != PUIGNEHT_ACCEPTED) exit(1);
@@ -78,8 +90,9 @@ static struct album stretch(int route, uint8_t channels, size_t frames, size_t p
 }
 
 /* ns a sample of runs of that many frames with no neighbours, over some 1,000 frames; the best of the rounds. */
-static double each(int route, uint8_t channels, size_t frames, const uint8_t *in, uint8_t *out) {
+static double each(int route, uint8_t channels, size_t frames, size_t taps, const uint8_t *in, uint8_t *out) {
     struct album a = stretch(route, channels, frames, 0, in, out);
+    a.taps = taps;
     double best = 1e9;
     size_t runs = 1000 / frames;
     for (int round = 0; round < ROUNDS; round++) {
@@ -98,12 +111,27 @@ static void lengths_and_channels(const uint8_t *in, uint8_t *out) {
     for (int route = 0; route < 9; route++) {
         if (route == 6) continue; /* wide at 88,200 */
         printf("| %s %u |", cutoffs[route / 3], rates[route % 3]);
-        for (size_t frames = 1; frames <= 1000; frames *= 10) printf(" %.2f |", each(route, 2, frames, in, out));
-        for (uint8_t channels = 1; channels <= 6; channels++) printf(" %.2f |", each(route, channels, 100, in, out));
+        for (size_t frames = 1; frames <= 1000; frames *= 10) printf(" %.2f |", each(route, 2, frames, 0, in, out));
+        for (uint8_t channels = 1; channels <= 6; channels++) printf(" %.2f |", each(route, channels, 100, 0, in, out));
         printf("\n");
         fflush(stdout);
     }
     printf("\nns a sample, packed; runs of 1 to 1,000 frames in stereo, and of 100 frames with 1 to 6 channels; the best of %d.\n", ROUNDS);
+}
+
+static void filters(const uint8_t *in, uint8_t *out) {
+    static const size_t taps[] = {0, 1, 31, 61, 117};
+    printf("\n| Standard | F40 | 1 tap | 31 | 61 | 117 |\n|---|---|---|---|---|---|\n");
+    for (int rate = 0; rate < 3; rate++) {
+        printf("| %u |", rates[rate]);
+        for (size_t k = 0; k < sizeof taps / sizeof *taps; k++) {
+            make_filter(taps[k]);
+            printf(" %.2f |", each(rate, 2, 100, taps[k], in, out));
+        }
+        printf("\n");
+        fflush(stdout);
+    }
+    printf("\nns a sample, packed, of runs of 100 frames in stereo with the built-in filter and with one's own; the best of %d.\n", ROUNDS);
 }
 
 int main(int argc, char **argv) {
@@ -136,5 +164,6 @@ int main(int argc, char **argv) {
     printf("\nSeconds for 60 minutes, scaled from %zu s; the best of %d. Deepest stack %zu bytes, the thread's own part included.\n",
            frames / FRAMES_A_SECOND, ROUNDS, deepest);
     if (frames >= 1000) lengths_and_channels(in, out);
+    filters(in, out);
     return 0;
 }

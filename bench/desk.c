@@ -31,7 +31,7 @@ static double call(uint32_t rate, uint8_t cutoff) {
     uint8_t empty[6];
     double decibels[1], start = now();
     uint8_t answer =
-        puigneht_convert_desk(rate, cutoff, CHANNELS, gain, 2, 1, in, SIZE, in + SIZE, FRAMES * SIZE, 1, in + (1 + FRAMES) * SIZE, SIZE, 1, out,
+        puigneht_convert_desk(rate, cutoff, CHANNELS, gain, 2, 0, NULL, 0, 1, in, SIZE, in + SIZE, FRAMES * SIZE, 1, in + (1 + FRAMES) * SIZE, SIZE, 1, out,
                               (size_t)FRAMES * 3 * (rate / 75) * CHANNELS, counts, FRAMES, clipped, 6, lowest, 6, highest, 6, empty, 6, data, 2, decibels, 1);
     double taken = now() - start;
     if (answer != PUIGNEHT_ACCEPTED) exit(1);

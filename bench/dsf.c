@@ -99,7 +99,7 @@ static double converting(const uint8_t *frames, size_t n, int32_t *out, size_t i
     uint8_t empty[6];
     must(puigneht_gain(0.0, gain, 2, decibels, 1));
     double start = now();
-    must(puigneht_convert_run(88200, PUIGNEHT_STANDARD, 2, gain, 2, 0, NULL, 0, frames, n, 0, NULL, 0, out, items, clipped, 6, lowest, 6, highest, 6, empty, 6, data, 2, decibels, 1));
+    must(puigneht_convert_run(88200, PUIGNEHT_STANDARD, 2, gain, 2, 0, NULL, 0, 0, NULL, 0, frames, n, 0, NULL, 0, out, items, clipped, 6, lowest, 6, highest, 6, empty, 6, data, 2, decibels, 1));
     return now() - start;
 }
 

@@ -58,7 +58,7 @@ static void give_back(struct call *c, const size_t *offset) {
 
 /* The lists as the calls take them. */
 #define ITEMS(k, type) (type *)(void *)c->list[k], c->length[k] / sizeof(type)
-#define SETTINGS c->rate, c->cutoff, c->channels, ITEMS(GAIN, double)
+#define SETTINGS c->rate, c->cutoff, c->channels, ITEMS(GAIN, double), 0, NULL, 0
 #define LENT_RUN 1, ITEMS(BEFORE, uint8_t), ITEMS(RUN, uint8_t), 1, ITEMS(AFTER, uint8_t)
 #define STATS ITEMS(CLIPPED, uint64_t), ITEMS(LOWEST, int64_t), ITEMS(HIGHEST, int64_t), ITEMS(EMPTY, uint8_t)
 #define TOLD ITEMS(DATA, uint64_t), ITEMS(DECIBELS, double)

@@ -11,6 +11,9 @@
  * Numbers: `rate` is 88200, 176400 or 352800; `cutoff` is 0 Standard, 1 Low or 2 Wide; a flag is 0 or 1.
  * `gain` has 2 items, as puigneht_gain wrote them: decibels and factor. At 0 dB, 100 % modulation of the one-bit signal
  * is full scale: bytes of 0x00 give -8388608, and bytes of 0xFF one more than the largest sample, so they are clipped.
+ * `own` says whether a low-pass of the caller's own is given, for Standard in place of the built-in one: `taps` are then 1 to
+ * PUIGNEHT_MOST_TAPS taps from the centre outwards, as from a filter whose taps sum to 2^24. Where it is 0, `taps` is not
+ * read. A filter that is given is checked under every cutoff; Low and Wide do not use it.
  *
  * A call answers PUIGNEHT_ACCEPTED, the number of a refusal, or PUIGNEHT_NOT_UNDERSTOOD where a rate, cutoff or
  * flag is unknown or a list of fixed length has another length: then nothing is written. A refused call writes `data`
@@ -45,6 +48,8 @@ enum {
     PUIGNEHT_BEFORE = 13,       /* data: bytes of `before`, which are not one frame */
     PUIGNEHT_AFTER = 14,        /* data: bytes of `after`, which are not one frame */
     PUIGNEHT_DESK = 16,         /* more than PUIGNEHT_DESK_FRAMES frames, in puigneht_convert_desk */
+    PUIGNEHT_TAPS = 17,         /* no tap, or more than PUIGNEHT_MOST_TAPS */
+    PUIGNEHT_TAP_SUMS = 18,     /* centre plus twice the rest is not 16777216, or the absolute sum so is over 40000000 */
     PUIGNEHT_SCHEDULE = 19,     /* a number of a simulation of turns outside its range */
     PUIGNEHT_SHEET = 20,        /* a number too wide for its column of the level sheet */
     PUIGNEHT_NOT_UNDERSTOOD = 255
@@ -55,6 +60,9 @@ enum { PUIGNEHT_STANDARD = 0, PUIGNEHT_LOW = 1, PUIGNEHT_WIDE = 2 };
 /* Bytes of one channel in a frame; the channels' bytes take turns. */
 enum { PUIGNEHT_FRAME_BYTES = 4704 };
 
+/* Taps of the longest filter of one's own. */
+enum { PUIGNEHT_MOST_TAPS = 117 };
+
 /* Frames that puigneht_convert_desk takes. */
 enum { PUIGNEHT_DESK_FRAMES = 8 };
 
@@ -64,50 +72,51 @@ uint8_t puigneht_gain(double db, double *gain, size_t gain_len, double *decibels
 /* Whether a converter has these settings. Writes `opened` (2 items) if accepted: samples of a channel in a frame, and
  * how many bytes of each channel before and after a run its samples may depend on. */
 uint8_t puigneht_open(uint32_t rate, uint8_t cutoff, uint8_t channels, const double *gain, size_t gain_len,
-                      uint64_t *opened, size_t opened_len, uint64_t *data, size_t data_len, double *decibels,
-                      size_t decibels_len);
+                      uint8_t own, const int32_t *taps, size_t taps_len, uint64_t *opened, size_t opened_len,
+                      uint64_t *data, size_t data_len, double *decibels, size_t decibels_len);
 
 /* 32-bit samples of a run of whole frames, the channels in turn. `before` and `after` are the frames next to the run;
  * where the flag is 0 there is none, and the list is not read. `out` has a sample for each sample of the run.
  * Writes the statistics of each channel (6 items each) if accepted: `clipped`, its clipped samples; `lowest` and
  * `highest`, its lowest and highest sample before it was clipped; `empty`, 1 where it has no samples, and else 0. */
 uint8_t puigneht_convert_run(uint32_t rate, uint8_t cutoff, uint8_t channels, const double *gain, size_t gain_len,
-                             uint8_t has_before, const uint8_t *before, size_t before_len, const uint8_t *frames,
-                             size_t frames_len, uint8_t has_after, const uint8_t *after, size_t after_len,
-                             int32_t *out, size_t out_len, uint64_t *clipped, size_t clipped_len, int64_t *lowest,
-                             size_t lowest_len, int64_t *highest, size_t highest_len, uint8_t *empty,
-                             size_t empty_len, uint64_t *data, size_t data_len, double *decibels,
-                             size_t decibels_len);
+                             uint8_t own, const int32_t *taps, size_t taps_len, uint8_t has_before,
+                             const uint8_t *before, size_t before_len, const uint8_t *frames, size_t frames_len,
+                             uint8_t has_after, const uint8_t *after, size_t after_len, int32_t *out, size_t out_len,
+                             uint64_t *clipped, size_t clipped_len, int64_t *lowest, size_t lowest_len,
+                             int64_t *highest, size_t highest_len, uint8_t *empty, size_t empty_len, uint64_t *data,
+                             size_t data_len, double *decibels, size_t decibels_len);
 
 /* 32-bit samples of exactly one frame, with the arguments of puigneht_convert_run. */
 uint8_t puigneht_convert_frame(uint32_t rate, uint8_t cutoff, uint8_t channels, const double *gain, size_t gain_len,
-                               uint8_t has_before, const uint8_t *before, size_t before_len, const uint8_t *frames,
-                               size_t frames_len, uint8_t has_after, const uint8_t *after, size_t after_len,
-                               int32_t *out, size_t out_len, uint64_t *clipped, size_t clipped_len, int64_t *lowest,
-                               size_t lowest_len, int64_t *highest, size_t highest_len, uint8_t *empty,
-                               size_t empty_len, uint64_t *data, size_t data_len, double *decibels,
-                               size_t decibels_len);
+                               uint8_t own, const int32_t *taps, size_t taps_len, uint8_t has_before,
+                               const uint8_t *before, size_t before_len, const uint8_t *frames, size_t frames_len,
+                               uint8_t has_after, const uint8_t *after, size_t after_len, int32_t *out, size_t out_len,
+                               uint64_t *clipped, size_t clipped_len, int64_t *lowest, size_t lowest_len,
+                               int64_t *highest, size_t highest_len, uint8_t *empty, size_t empty_len, uint64_t *data,
+                               size_t data_len, double *decibels, size_t decibels_len);
 
 /* Samples of a run of whole frames, packed in three bytes each, least first: `out` has three bytes for each sample of
  * the run. If `lent` is 1, `counts` has an item for each frame, its clipped samples over all channels; if 0 it is not
  * read or written. The other arguments are those of puigneht_convert_run. */
 uint8_t puigneht_convert(uint32_t rate, uint8_t cutoff, uint8_t channels, const double *gain, size_t gain_len,
-                         uint8_t has_before, const uint8_t *before, size_t before_len, const uint8_t *frames,
-                         size_t frames_len, uint8_t has_after, const uint8_t *after, size_t after_len, uint8_t lent,
-                         uint8_t *out, size_t out_len, uint64_t *counts, size_t counts_len, uint64_t *clipped,
-                         size_t clipped_len, int64_t *lowest, size_t lowest_len, int64_t *highest, size_t highest_len,
-                         uint8_t *empty, size_t empty_len, uint64_t *data, size_t data_len, double *decibels,
-                         size_t decibels_len);
+                         uint8_t own, const int32_t *taps, size_t taps_len, uint8_t has_before, const uint8_t *before,
+                         size_t before_len, const uint8_t *frames, size_t frames_len, uint8_t has_after,
+                         const uint8_t *after, size_t after_len, uint8_t lent, uint8_t *out, size_t out_len,
+                         uint64_t *counts, size_t counts_len, uint64_t *clipped, size_t clipped_len, int64_t *lowest,
+                         size_t lowest_len, int64_t *highest, size_t highest_len, uint8_t *empty, size_t empty_len,
+                         uint64_t *data, size_t data_len, double *decibels, size_t decibels_len);
 
 /* For the listening desk: puigneht_convert of at most PUIGNEHT_DESK_FRAMES frames, with its arguments and answers. More
  * frames are refused PUIGNEHT_DESK. */
 uint8_t puigneht_convert_desk(uint32_t rate, uint8_t cutoff, uint8_t channels, const double *gain, size_t gain_len,
-                              uint8_t has_before, const uint8_t *before, size_t before_len, const uint8_t *frames,
-                              size_t frames_len, uint8_t has_after, const uint8_t *after, size_t after_len,
-                              uint8_t lent, uint8_t *out, size_t out_len, uint64_t *counts, size_t counts_len,
-                              uint64_t *clipped, size_t clipped_len, int64_t *lowest, size_t lowest_len,
-                              int64_t *highest, size_t highest_len, uint8_t *empty, size_t empty_len, uint64_t *data,
-                              size_t data_len, double *decibels, size_t decibels_len);
+                              uint8_t own, const int32_t *taps, size_t taps_len, uint8_t has_before,
+                              const uint8_t *before, size_t before_len, const uint8_t *frames, size_t frames_len,
+                              uint8_t has_after, const uint8_t *after, size_t after_len, uint8_t lent, uint8_t *out,
+                              size_t out_len, uint64_t *counts, size_t counts_len, uint64_t *clipped,
+                              size_t clipped_len, int64_t *lowest, size_t lowest_len, int64_t *highest,
+                              size_t highest_len, uint8_t *empty, size_t empty_len, uint64_t *data, size_t data_len,
+                              double *decibels, size_t decibels_len);
 
 /* 32-bit samples as three bytes each, their low 24 bits, least first: as many as there are bytes for. Later bytes are
  * kept. */
@@ -147,12 +156,13 @@ enum { PUIGNEHT_WAV_HEADER = 44 };
 /* A run as a file: puigneht_convert with the header in front, so `out` has PUIGNEHT_WAV_HEADER bytes more.
  * PUIGNEHT_NOT_WAV, after all other refusals, for more than two channels or for more data. */
 uint8_t puigneht_wav_convert(uint32_t rate, uint8_t cutoff, uint8_t channels, const double *gain, size_t gain_len,
-                             uint8_t has_before, const uint8_t *before, size_t before_len, const uint8_t *frames,
-                             size_t frames_len, uint8_t has_after, const uint8_t *after, size_t after_len,
-                             uint8_t lent, uint8_t *out, size_t out_len, uint64_t *counts, size_t counts_len,
-                             uint64_t *clipped, size_t clipped_len, int64_t *lowest, size_t lowest_len,
-                             int64_t *highest, size_t highest_len, uint8_t *empty, size_t empty_len, uint64_t *data,
-                             size_t data_len, double *decibels, size_t decibels_len);
+                             uint8_t own, const int32_t *taps, size_t taps_len, uint8_t has_before,
+                             const uint8_t *before, size_t before_len, const uint8_t *frames, size_t frames_len,
+                             uint8_t has_after, const uint8_t *after, size_t after_len, uint8_t lent, uint8_t *out,
+                             size_t out_len, uint64_t *counts, size_t counts_len, uint64_t *clipped,
+                             size_t clipped_len, int64_t *lowest, size_t lowest_len, int64_t *highest,
+                             size_t highest_len, uint8_t *empty, size_t empty_len, uint64_t *data, size_t data_len,
+                             double *decibels, size_t decibels_len);
 
 /* Reads a whole file. Writes `told` (4 items) if accepted: rate, channels, and where in `file` the sample bytes begin
  * and how many there are. PUIGNEHT_NOT_WAV for any other file; it has no data. */

@@ -28,10 +28,10 @@ int main(int argc, char **argv) {
         for (int channels = 1; channels <= 2; channels++)
             for (int k = 0; k < 3; k++) {
                 size_t length = counts[k] * PUIGNEHT_FRAME_BYTES * (size_t)channels, n = counts[k] * rates[r] / 75 * 3 * (size_t)channels;
-                if (puigneht_convert(rates[r], 0, (uint8_t)channels, gain, 2, 0, NULL, 0, in, length, 0, NULL, 0, 0, raw, n, NULL, 0, clipped, 6, lowest, 6, highest, 6, empty, 6, data, 2,
+                if (puigneht_convert(rates[r], 0, (uint8_t)channels, gain, 2, 0, NULL, 0, 0, NULL, 0, in, length, 0, NULL, 0, 0, raw, n, NULL, 0, clipped, 6, lowest, 6, highest, 6, empty, 6, data, 2,
                                      decibels, 1))
                     return 1;
-                if (puigneht_wav_convert(rates[r], 0, (uint8_t)channels, gain, 2, 0, NULL, 0, in, length, 0, NULL, 0, 0, wav, n + PUIGNEHT_WAV_HEADER, NULL, 0,
+                if (puigneht_wav_convert(rates[r], 0, (uint8_t)channels, gain, 2, 0, NULL, 0, 0, NULL, 0, in, length, 0, NULL, 0, 0, wav, n + PUIGNEHT_WAV_HEADER, NULL, 0,
                                          clipped, 6, lowest, 6, highest, 6, empty, 6, data, 2, decibels, 1))
                     return 1;
                 put(argv[1], rates[r], channels, counts[k], "raw", raw, n);

@@ -25,6 +25,7 @@ fn clips() -> Result<(), Box<dyn Error>> {
         cutoff: Cutoff::Standard,
         channels: 2,
         gain: gain(db)?,
+        taps: None,
     };
     let count = frames.len() / (2 * FRAME_BYTES);
     let mut out = vec![0; count * conv.open()?.samples_per_frame * 2 * 3];

@@ -16,6 +16,9 @@ pub use turns::{turns, Album, Turns};
 /// Bytes of one channel in a frame.
 pub const FRAME_BYTES: usize = 4704;
 
+/// Taps of the longest filter of one's own.
+pub const MOST_TAPS: usize = 117;
+
 /// Frames that [`Converter::convert_desk`] takes.
 pub const DESK_FRAMES: usize = 8;
 
@@ -95,6 +98,10 @@ pub enum Error {
     After(usize),
     /// More than 8 frames at the listening desk.
     Desk,
+    /// A filter of no tap, or of more than 117.
+    Taps,
+    /// A filter whose centre plus twice the rest is not 16,777,216, or whose absolute sum so is over 40,000,000.
+    TapSums,
     /// A number too wide for its column of the level sheet.
     Sheet,
 }
@@ -172,6 +179,11 @@ impl std::fmt::Display for Error {
                 f,
                 "too many frames for the listening desk: there may be {DESK_FRAMES}"
             ),
+            Error::Taps => write!(f, "a filter may have 1 to {MOST_TAPS} taps"),
+            Error::TapSums => write!(
+                f,
+                "a filter's centre and twice its other taps are to sum to 16777216, and their sizes to at most 40000000"
+            ),
             Error::Sheet => write!(f, "a number is too wide for its column of the level sheet"),
         }
     }
@@ -197,11 +209,13 @@ pub struct Run<'a> {
 }
 
 #[derive(Clone, Copy, Debug, PartialEq)]
-pub struct Converter {
+pub struct Converter<'a> {
     pub rate: PcmRate,
     pub cutoff: Cutoff,
     pub channels: u8,
     pub gain: Gain,
+    /// A low-pass of one's own for Standard: 1 to [`MOST_TAPS`] taps from the centre outwards; `None` for the built-in one.
+    pub taps: Option<&'a [i32]>,
 }
 
 /// What a conversion tells of each channel. Of a channel that has no samples all numbers are 0.
@@ -244,6 +258,8 @@ impl Told {
             13 => Error::Before(a as usize),
             14 => Error::After(a as usize),
             16 => Error::Desk,
+            17 => Error::Taps,
+            18 => Error::TapSums,
             19 => Error::Schedule,
             20 => Error::Sheet,
             _ => unreachable!("answer {answer}"),
@@ -299,6 +315,9 @@ type ConvertSamples = unsafe extern "C" fn(
     *const f64,
     usize,
     u8,
+    *const i32,
+    usize,
+    u8,
     *const u8,
     usize,
     *const u8,
@@ -330,6 +349,9 @@ type ConvertBytes = unsafe extern "C" fn(
     *const f64,
     usize,
     u8,
+    *const i32,
+    usize,
+    u8,
     *const u8,
     usize,
     *const u8,
@@ -356,10 +378,11 @@ type ConvertBytes = unsafe extern "C" fn(
     usize,
 ) -> u8;
 
-impl Converter {
+impl Converter<'_> {
     /// Whether the converter is accepted. Each conversion asks this again.
     pub fn open(&self) -> Result<Opened, Error> {
         let gain = [self.gain.db, self.gain.linear];
+        let taps = self.taps.unwrap_or(&[]);
         let mut opened = [0; 2];
         let mut told = Told::default();
         // SAFETY: each pointer and length is that of a live array, and the arrays are apart.
@@ -370,6 +393,9 @@ impl Converter {
                 self.channels,
                 gain.as_ptr(),
                 2,
+                self.taps.is_some() as u8,
+                taps.as_ptr(),
+                taps.len(),
                 opened.as_mut_ptr(),
                 2,
                 told.data.as_mut_ptr(),
@@ -405,6 +431,7 @@ impl Converter {
         out: &mut [i32],
     ) -> Result<Stats, Error> {
         let gain = [self.gain.db, self.gain.linear];
+        let taps = self.taps.unwrap_or(&[]);
         let before = run.before.unwrap_or(&[]);
         let after = run.after.unwrap_or(&[]);
         let (mut clipped, mut lowest, mut highest, mut empty) = ([0; 6], [0; 6], [0; 6], [0; 6]);
@@ -417,6 +444,9 @@ impl Converter {
                 self.channels,
                 gain.as_ptr(),
                 2,
+                self.taps.is_some() as u8,
+                taps.as_ptr(),
+                taps.len(),
                 run.before.is_some() as u8,
                 before.as_ptr(),
                 before.len(),
@@ -480,6 +510,7 @@ impl Converter {
         counts: Option<&mut [u64]>,
     ) -> Result<Stats, Error> {
         let gain = [self.gain.db, self.gain.linear];
+        let taps = self.taps.unwrap_or(&[]);
         let before = run.before.unwrap_or(&[]);
         let after = run.after.unwrap_or(&[]);
         let lent = counts.is_some() as u8;
@@ -494,6 +525,9 @@ impl Converter {
                 self.channels,
                 gain.as_ptr(),
                 2,
+                self.taps.is_some() as u8,
+                taps.as_ptr(),
+                taps.len(),
                 run.before.is_some() as u8,
                 before.as_ptr(),
                 before.len(),

@@ -19,7 +19,7 @@ pub struct Wav<'a> {
 
 /// A run as a file: [`Converter::convert`] with the header in front.
 pub fn convert(
-    converter: &Converter,
+    converter: &Converter<'_>,
     run: Run<'_>,
     out: &mut [u8],
     counts: Option<&mut [u64]>,

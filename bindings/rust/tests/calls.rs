@@ -5,12 +5,13 @@ use puigneht::{
 const RATES: [PcmRate; 3] = [PcmRate::Hz88200, PcmRate::Hz176400, PcmRate::Hz352800];
 const CUTOFFS: [Cutoff; 3] = [Cutoff::Standard, Cutoff::Low, Cutoff::Wide];
 
-fn mono() -> Converter {
+fn mono() -> Converter<'static> {
     Converter {
         rate: PcmRate::Hz88200,
         cutoff: Cutoff::Standard,
         channels: 1,
         gain: gain(0.0).unwrap(),
+        taps: None,
     }
 }
 
@@ -315,6 +316,7 @@ fn pieces_join() {
                 cutoff,
                 channels: 2,
                 gain: gain(6.0).unwrap(),
+                taps: None,
             };
             let Ok(opened) = conv.open() else { continue };
             let per = 2 * opened.samples_per_frame;
@@ -370,4 +372,41 @@ fn packing_stops_at_room() {
     pack_s24le(&[], &mut bytes);
     pack_s24le(&[1], &mut []);
     assert_eq!(bytes[..3], [0xfe, 0xff, 0xff]);
+}
+
+// A filter of one's own: its reach, zeros at its end, and its refusals in their place.
+#[test]
+fn own_filters() {
+    let frame: Vec<u8> = (0..FRAME_BYTES).map(|k| (k * 37 % 251) as u8).collect();
+    let convert = |taps: Option<&[i32]>| {
+        let mut out = vec![7; 1176];
+        let told = Converter { taps, ..mono() }.convert_run(alone(&frame), &mut out);
+        (told, out)
+    };
+    let reach = |taps: &[i32], rate| {
+        let taps = Some(taps);
+        Converter { rate, taps, ..mono() }.open().unwrap().reach
+    };
+    assert_eq!(reach(&[1 << 24], PcmRate::Hz88200), 19);
+    assert_eq!(reach(&[1 << 24, 0, 0], PcmRate::Hz352800), 39);
+    let mut longest = vec![0; 117];
+    longest[0] = 1 << 24;
+    assert_eq!(reach(&longest, PcmRate::Hz176400), 251);
+    assert_eq!(convert(Some(&longest)), convert(Some(&[1 << 24])));
+    assert_ne!(convert(Some(&longest)), convert(None));
+    let none: [i32; 0] = [];
+    for (taps, error) in [
+        (&none[..], Error::Taps),
+        (&[1 << 24; 118][..], Error::Taps),
+        (&[1][..], Error::TapSums),
+        (&[16_777_216, 1][..], Error::TapSums),
+        (&[i32::MIN; 117][..], Error::TapSums),
+        (&[i32::MAX; 117][..], Error::TapSums),
+    ] {
+        let wrong = Converter { taps: Some(taps), ..mono() };
+        assert_eq!(wrong.open(), Err(error));
+        assert_eq!(Converter { cutoff: Cutoff::Low, ..wrong }.open(), Err(error));
+        assert_eq!(Converter { channels: 7, ..wrong }.open(), Err(Error::Channels(7)));
+        assert_eq!(convert(Some(taps)), (Err(error), vec![7; 1176]));
+    }
 }

@@ -18,12 +18,13 @@ fn noise(n: usize) -> Vec<u8> {
         .collect()
 }
 
-fn converter(rate: PcmRate, channels: u8) -> Converter {
+fn converter(rate: PcmRate, channels: u8) -> Converter<'static> {
     Converter {
         rate,
         cutoff: Cutoff::Standard,
         channels,
         gain: gain(0.0).unwrap(),
+        taps: None,
     }
 }
 
@@ -169,6 +170,9 @@ mod raw {
             channels: u8,
             gain: *const f64,
             gain_len: usize,
+            own: u8,
+            taps: *const i32,
+            taps_len: usize,
             has_before: u8,
             before: *const u8,
             before_len: usize,
@@ -308,6 +312,9 @@ fn a_long_run() {
                 2,
                 gain.as_ptr(),
                 2,
+                0,
+                std::ptr::null(),
+                0,
                 0,
                 std::ptr::null(),
                 0,

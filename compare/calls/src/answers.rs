@@ -38,26 +38,26 @@ pub mod port {
     unsafe extern "C" {
         fn puigneht_gain(db: f64, gain: *mut f64, gains: usize, decibels: *mut f64, n: usize) -> u8;
         fn puigneht_open(
-            rate: u32, cutoff: u8, channels: u8, gain: *const f64, gains: usize, opened: *mut u64, opens: usize, data: *mut u64, datas: usize,
+            rate: u32, cutoff: u8, channels: u8, gain: *const f64, gains: usize, own: u8, taps: *const i32, tapss: usize, opened: *mut u64, opens: usize, data: *mut u64, datas: usize,
             decibels: *mut f64, n: usize,
         ) -> u8;
         fn puigneht_convert_run(
-            rate: u32, cutoff: u8, channels: u8, gain: *const f64, gains: usize, has_before: u8, before: *const u8, befores: usize,
+            rate: u32, cutoff: u8, channels: u8, gain: *const f64, gains: usize, own: u8, taps: *const i32, tapss: usize, has_before: u8, before: *const u8, befores: usize,
             frames: *const u8, framess: usize, has_after: u8, after: *const u8, afters: usize, out: *mut i32, outs: usize,
             clipped: *mut u64, clips: usize, lowest: *mut i64, lows: usize, highest: *mut i64, highs: usize, empty: *mut u8, marks: usize, data: *mut u64, datas: usize, decibels: *mut f64, n: usize,
         ) -> u8;
         fn puigneht_convert_frame(
-            rate: u32, cutoff: u8, channels: u8, gain: *const f64, gains: usize, has_before: u8, before: *const u8, befores: usize,
+            rate: u32, cutoff: u8, channels: u8, gain: *const f64, gains: usize, own: u8, taps: *const i32, tapss: usize, has_before: u8, before: *const u8, befores: usize,
             frames: *const u8, framess: usize, has_after: u8, after: *const u8, afters: usize, out: *mut i32, outs: usize,
             clipped: *mut u64, clips: usize, lowest: *mut i64, lows: usize, highest: *mut i64, highs: usize, empty: *mut u8, marks: usize, data: *mut u64, datas: usize, decibels: *mut f64, n: usize,
         ) -> u8;
         fn puigneht_convert(
-            rate: u32, cutoff: u8, channels: u8, gain: *const f64, gains: usize, has_before: u8, before: *const u8, befores: usize,
+            rate: u32, cutoff: u8, channels: u8, gain: *const f64, gains: usize, own: u8, taps: *const i32, tapss: usize, has_before: u8, before: *const u8, befores: usize,
             frames: *const u8, framess: usize, has_after: u8, after: *const u8, afters: usize, lent: u8, out: *mut u8, outs: usize,
             counts: *mut u64, countss: usize, clipped: *mut u64, clips: usize, lowest: *mut i64, lows: usize, highest: *mut i64, highs: usize, empty: *mut u8, marks: usize, data: *mut u64, datas: usize, decibels: *mut f64, n: usize,
         ) -> u8;
         fn puigneht_convert_desk(
-            rate: u32, cutoff: u8, channels: u8, gain: *const f64, gains: usize, has_before: u8, before: *const u8, befores: usize,
+            rate: u32, cutoff: u8, channels: u8, gain: *const f64, gains: usize, own: u8, taps: *const i32, tapss: usize, has_before: u8, before: *const u8, befores: usize,
             frames: *const u8, framess: usize, has_after: u8, after: *const u8, afters: usize, lent: u8, out: *mut u8, outs: usize,
             counts: *mut u64, countss: usize, clipped: *mut u64, clips: usize, lowest: *mut i64, lows: usize, highest: *mut i64, highs: usize, empty: *mut u8, marks: usize, data: *mut u64, datas: usize, decibels: *mut f64, n: usize,
         ) -> u8;
@@ -97,7 +97,7 @@ pub mod port {
         let (mut b, mut opened) = (back(), [7; 2]);
         let number = unsafe {
             puigneht_open(
-                RATES[s.rate], s.cutoff as u8, s.channels, gain.as_ptr(), 2, opened.as_mut_ptr(), 2, b.data.as_mut_ptr(), 2,
+                RATES[s.rate], s.cutoff as u8, s.channels, gain.as_ptr(), 2, 0, std::ptr::null(), 0, opened.as_mut_ptr(), 2, b.data.as_mut_ptr(), 2,
                 b.decibels.as_mut_ptr(), 1,
             )
         };
@@ -113,7 +113,7 @@ pub mod port {
         let call = if one { puigneht_convert_frame } else { puigneht_convert_run };
         let number = unsafe {
             call(
-                RATES[s.rate], s.cutoff as u8, s.channels, gain.as_ptr(), 2, i.before.is_some().into(), before.as_ptr(), before.len(),
+                RATES[s.rate], s.cutoff as u8, s.channels, gain.as_ptr(), 2, 0, std::ptr::null(), 0, i.before.is_some().into(), before.as_ptr(), before.len(),
                 i.frames.as_ptr(), i.frames.len(), i.after.is_some().into(), after.as_ptr(), after.len(), out.as_mut_ptr(), out.len(),
                 b.clipped.as_mut_ptr(), 6, b.lowest.as_mut_ptr(), 6, b.highest.as_mut_ptr(), 6, b.empty.as_mut_ptr(), 6, b.data.as_mut_ptr(), 2, b.decibels.as_mut_ptr(), 1,
             )
@@ -129,7 +129,7 @@ pub mod port {
         let counts = counts.unwrap_or(&mut []);
         let number = unsafe {
             call(
-                RATES[s.rate], s.cutoff as u8, s.channels, gain.as_ptr(), 2, i.before.is_some().into(), before.as_ptr(), before.len(),
+                RATES[s.rate], s.cutoff as u8, s.channels, gain.as_ptr(), 2, 0, std::ptr::null(), 0, i.before.is_some().into(), before.as_ptr(), before.len(),
                 i.frames.as_ptr(), i.frames.len(), i.after.is_some().into(), after.as_ptr(), after.len(), lent, out.as_mut_ptr(), out.len(),
                 counts.as_mut_ptr(), counts.len(), b.clipped.as_mut_ptr(), 6, b.lowest.as_mut_ptr(), 6, b.highest.as_mut_ptr(), 6, b.empty.as_mut_ptr(), 6, b.data.as_mut_ptr(), 2, b.decibels.as_mut_ptr(), 1,
             )
@@ -147,7 +147,8 @@ pub mod port {
         let (mut lowest, mut highest, mut empty) = ([7i64; 7], [7i64; 7], [7u8; 7]);
         let number = unsafe {
             puigneht_convert(
-                wrong(0, 88200, 44100) as u32, wrong(1, 0, 3) as u8, 1, gain.as_ptr(), wrong(2, 2, 3) as usize, wrong(3, 1, 2) as u8,
+                wrong(0, 88200, 44100) as u32, wrong(1, 0, 3) as u8, 1, gain.as_ptr(), wrong(2, 2, 3) as usize, wrong(12, 0, 2) as u8, std::ptr::null(), 0,
+                wrong(3, 1, 2) as u8,
                 frame.as_ptr(), 4704, frame.as_ptr(), 4704, wrong(4, 1, 255) as u8, frame.as_ptr(), 4704, wrong(5, 1, 2) as u8,
                 out.as_mut_ptr(), 3528, counts.as_mut_ptr(), 1, clipped.as_mut_ptr(), wrong(6, 6, 7) as usize,
                 lowest.as_mut_ptr(), wrong(9, 6, 7) as usize, highest.as_mut_ptr(), wrong(10, 6, 7) as usize, empty.as_mut_ptr(),
@@ -165,7 +166,7 @@ pub mod port {
         let none = std::ptr::null_mut::<u8>();
         let number = unsafe {
             puigneht_convert(
-                88200, 0, 1, gain.as_ptr(), 2, 0, none, 0, none, 0, 0, none, 0, 0, none, 0, none.cast(), 0, b.clipped.as_mut_ptr(), 6,
+                88200, 0, 1, gain.as_ptr(), 2, 0, none.cast(), 0, 0, none, 0, none, 0, 0, none, 0, 0, none, 0, none.cast(), 0, b.clipped.as_mut_ptr(), 6,
                 b.lowest.as_mut_ptr(), 6, b.highest.as_mut_ptr(), 6, b.empty.as_mut_ptr(), 6, b.data.as_mut_ptr(), 2, b.decibels.as_mut_ptr(), 1,
             )
         };

@@ -17,7 +17,7 @@ use Rattle.numbers.specs.Lists.{Held}
 use Rattle.numbers.proofs.Lists.{below-or, held-some}
 use Rattle.reference.specs.Frames.{Run, frame-count}
 use Rattle.reference.specs.Scaling.{scaled, clamp}
-use Rattle.reference.specs.Stages.{M, y}
+use Rattle.reference.specs.Stages.{taps-of, M, y}
 use Rattle.reference.specs.Output.{samples-per-frame, unclamped, sample, channel-samples, all-samples}
 use Rattle.reference.specs.declared.PcmRate.{PcmRate}
 use Rattle.reference.specs.declared.PcmRate.the-variants.{Hz88200, Hz176400, Hz352800}
@@ -28,7 +28,7 @@ use Rattle.reference.proofs.Frames.{frame-samples}
 use Rattle.channel_bytes.specs.Lent.{Lent, lent-run, byte-at}
 use Rattle.filters.specs.Filters.{Small}
 use Rattle.filters.proofs.Signals.{past}
-use Rattle.routes.specs.Routes.{last-taps, y-of, stride, around, first-byte, block-length, fresh, margin-from, Kept, State}
+use Rattle.routes.specs.Routes.{last-of, y-of, stride, around, first-byte, block-length, fresh, margin-from, Kept, State}
 use Rattle.routes.proofs.Routes.{a-frame, y-of-is, y-of-size}
 use Rattle.gain.specs.Scale.{ScaledBlock}
 use Rattle.gain.specs.Tallies.{tally, none, joined, Joins}
@@ -66,18 +66,18 @@ run-samples conv {f = f} l = few-samples (conv .rate) (frame-count (conv .channe
 -- ---- a block of y, from sample k of channel c on
 
 module _ {conv : Converter} {count : ℕ} {b f a : List ℕ} {tables taps : List ℤ} (ready : Ready conv count b f a tables taps) (c k m : ℕ) {ys : List ℤ}
-    (held : Held (pos 0) (y-of (conv .rate) (conv .cutoff) (last-taps (conv .rate) (conv .cutoff)) (byte-at (conv .channels) b f a c)) (samples-per-frame (conv .rate) + k) m ys) where
+    (held : Held (pos 0) (y-of (conv .rate) (conv .cutoff) (last-of conv) (byte-at (conv .channels) b f a c)) (samples-per-frame (conv .rate) + k) m ys) where
   pub values-small : (i : ℕ) → i < m → natAbs (at0 ys i) < 2 ^ 31
   values-small i l =
       let e = held .is i l in
-      rw e (omega (arith, y-of-size (conv .rate) (conv .cutoff) (last-taps (conv .rate) (conv .cutoff)) (ready .last .last) (byte-at (conv .channels) b f a c) (samples-per-frame (conv .rate) + k + i)))
+      rw e (omega (arith, y-of-size (conv .rate) (conv .cutoff) (last-of conv) (ready .last .last) (byte-at (conv .channels) b f a c) (samples-per-frame (conv .rate) + k + i)))
 
   value-is : (i : ℕ) → i < m → scaled (conv .gain .linear) (at0 ys i) ≡ unclamped conv (lent-run b f a) c (k + i)
   unfolding unclamped byte-at
   value-is i l =
       let e : samples-per-frame (conv .rate) + k + i ≡ samples-per-frame (conv .rate) + (k + i) = omega arith in
-      ap (scaled (conv .gain .linear)) (held .is i l ∙ y-of-is (conv .rate) (conv .cutoff) (byte-at (conv .channels) b f a c) (samples-per-frame (conv .rate) + k + i)
-      ∙ ap (y (conv .rate) (conv .cutoff) (byte-at (conv .channels) b f a c)) e)
+      ap (scaled (conv .gain .linear)) (held .is i l ∙ y-of-is (conv .rate) (conv .cutoff) (taps-of (conv .filter)) (byte-at (conv .channels) b f a c) (samples-per-frame (conv .rate) + k + i)
+      ∙ ap (y (conv .rate) (conv .cutoff) (taps-of (conv .filter)) (byte-at (conv .channels) b f a c)) e)
 
   -- scaled and stored
   pub block-made : {packed : Bool} {l : List ℤ} {told : Tally} {o o' : List ℤ} {w w' : List ℕ} → Held (pos 0) (λ i. clamp (scaled (conv .gain .linear) (at0 ys i))) 0 m l
@@ -220,10 +220,6 @@ pub record Sized (bytes : List ℕ) (odd x kept y samples : List ℤ) : Type 0 w
 pub record Smalls (x kept : List ℤ) : Type 0 where
   pub x-small : Small (2 ^ 27) x
   pub kept-small : Small (2 ^ 29) kept
-
--- the last filter of the definition
-abbrev pub last-of : Converter → List ℤ
-last-of conv = last-taps (conv .rate) (conv .cutoff)
 
 -- the arrays and the position before the block at sample n of channel c; the kernel counts from the frame before the run
 pub record Staged (conv : Converter) (β : ℕ → ℕ) (first : Bool) (n at : ℕ) (x kept : List ℤ) : Type 0 where

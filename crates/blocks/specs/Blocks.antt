@@ -9,7 +9,7 @@ use Rattle.reference.specs.Frames.{Run}
 use Rattle.reference.specs.Output.{unclamped, sample}
 use Rattle.reference.specs.declared.Converter.{Converter}
 use Rattle.channel_bytes.specs.Lent.{Lent}
-use Rattle.routes.specs.Routes.{FirstTables, Taps, last-taps}
+use Rattle.routes.specs.Routes.{FirstTables, Taps, last-of}
 use Rattle.gain.specs.Scale.{bounded}
 use Rattle.gain.specs.Tallies.{tally}
 use Rattle.gain.specs.declared.Tally.{Tally}
@@ -19,7 +19,7 @@ use Rattle.output.specs.Fills.{Drawn}
 pub record Ready (conv : Converter) (count : ℕ) (b f a : List ℕ) (tables taps : List ℤ) : Type 0 where
   pub slices : Lent (conv .channels) count b f a
   pub first : FirstTables (conv .cutoff) tables
-  pub last : Taps (conv .rate) (conv .cutoff) (last-taps (conv .rate) (conv .cutoff)) taps
+  pub last : Taps (conv .rate) (conv .cutoff) (last-of conv) taps
   pub factor : T (bounded (conv .gain .linear))
 
 -- m samples of channel c from sample n on, written to the output, and what they tell. S is any signal that has these samples at their places, so

@@ -79,7 +79,7 @@ module _ {h : ℤ} (f : SFits w64 h) where
   back-is : {b : _} → ltZ (t h) (pos 0) ≡ b → ltZ h (pos 0) ≡ b
   back-is e = ap (λ (z : ℤ). ltZ z (pos 0)) (sym (toZ-ofZ f)) ∙ e
 
-  module _ (small : natAbs h ≤ 2 ^ 25) (e : ltZ (t h) (pos 0) ≡ true) where
+  module _ (small : natAbs h ≤ 2 ^ 31) (e : ltZ (t h) (pos 0) ≡ true) where
     d-is : pos 0 -ℤ t h ≡ pos (natAbs h)
     d-is = ap (λ (z : ℤ). pos 0 -ℤ z) (toZ-ofZ f) ∙ below-0 h (back-is e)
 
@@ -95,7 +95,7 @@ module _ {h : ℤ} (f : SFits w64 h) where
     pub size-is : natAbs (t (pos 0 -ℤ t h)) ≡ natAbs h
     size-is = ap natAbs v-is
 
-  pub size-cast-2 : natAbs h ≤ 2 ^ 25 → ltZ (t h) (pos 0) ≡ false → T (nonNeg (t h)) × Fits w32 (natAbs (t h))
+  pub size-cast-2 : natAbs h ≤ 2 ^ 31 → ltZ (t h) (pos 0) ≡ false → T (nonNeg (t h)) × Fits w32 (natAbs (t h))
   size-cast-2 small e = rw (toZ-ofZ f ∙ above-0 h (back-is e)) (tt, record { fits = omega arith })
 
   module _ {n : ℕ} (p : ℤ) (e : n ≡ natAbs (t h)) where

@@ -32,8 +32,8 @@ fn less(s: i64, h: u32, v: u64) -> i64
 }
 
 // A tap's size.
-fn size(h: i64) -> u32
-    requires { ⌜ natAbs h ≤ 2 ^ 25 ⌝ }
+pub fn size(h: i64) -> u32
+    requires { ⌜ natAbs h ≤ 2 ^ 31 ⌝ }
     ensures { λ r. ⌜ r ≡ natAbs h ⌝ }
 {
     if h < 0 {

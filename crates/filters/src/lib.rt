@@ -15,6 +15,7 @@ mod start;
 
 pub use copy::every_second;
 pub use copy::widen_taps;
+pub use lane::size;
 
 // A filter at the rate of its input.
 pub fn fir1(y: &mut [i64], h: &[i64], x: &[i64])

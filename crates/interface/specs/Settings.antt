@@ -4,25 +4,42 @@ use mathlib.Core.Bool.{Bool, _&&_}
 use Prim.Native.Nat.{ℕ}
 use lib.Dec.{eqb}
 use lib.Ieee.{Float, nan}
-use lib.ListN.{getD}
+use lib.IntN.{ℤ}
+use lib.ListN.{length, getD}
+use Rattle.numbers.specs.Lists.{tabulate}
+use Rattle.reference.specs.Stages.{tap}
+use Rattle.reference.specs.declared.Filter.{Filter}
 use Rattle.reference.specs.declared.Settings.{Settings}
-use Rattle.interface.specs.Codes.{known-rate, rate-of, known-cutoff, cutoff-of}
+use Rattle.interface.specs.Codes.{known-rate, rate-of, known-cutoff, cutoff-of, known-flag, flag}
 
--- numbers, and the gain record as decibels and factor
+-- numbers, the gain record as decibels and factor, and a list of taps with a flag that says whether a filter is given
 pub record CSettings : Type 0 where
   pub rate : ℕ
   pub cutoff : ℕ
   pub channels : ℕ
   pub gain : List Float
+  pub own : ℕ
+  pub taps : List ℤ
 
-abbrev pub c-settings : ℕ → ℕ → ℕ → List Float → CSettings
-c-settings r c n g = record { rate = r; cutoff = c; channels = n; gain = g }
+abbrev pub c-settings : ℕ → ℕ → ℕ → List Float → ℕ → List ℤ → CSettings
+c-settings r c n g o t = record { rate = r; cutoff = c; channels = n; gain = g; own = o; taps = t }
 
--- a known rate and cutoff, and a gain of two floats
-abbrev pub known-settings : ℕ → ℕ → ℕ → Bool
-known-settings rate cutoff floats = known-rate rate && (known-cutoff cutoff && eqb floats 2)
+-- a known rate and cutoff, a gain of two floats, and a flag
+abbrev pub known-settings : ℕ → ℕ → ℕ → ℕ → Bool
+known-settings rate cutoff floats own = known-rate rate && (known-cutoff cutoff && (eqb floats 2 && known-flag own))
+
+-- a list of taps as a filter record: what it has room for, and how many there are
+unfoldable pub listed : List ℤ → Filter
+listed h = record { taps = tabulate (tap h) 0 117; count = length h }
 
 -- the settings that known ones stand for
 unfoldable pub settings-of : CSettings → Settings
 settings-of s =
-    record { rate = rate-of (s .rate); cutoff = cutoff-of (s .cutoff); channels = s .channels; gain = record { db = getD (s .gain) 0 nan; linear = getD (s .gain) 1 nan } }
+    record {
+      rate = rate-of (s .rate);
+      cutoff = cutoff-of (s .cutoff);
+      channels = s .channels;
+      gain = record { db = getD (s .gain) 0 nan; linear = getD (s .gain) 1 nan };
+      own = flag (s .own);
+      filter = listed (s .taps);
+    }

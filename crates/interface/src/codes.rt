@@ -2,11 +2,14 @@
 ghost use mathlib.Core.Path.{_≡_};
 ghost use mathlib.Core.Bool.{_&&_};
 ghost use lib.ListN.{length};
+ghost use Rattle.reference.specs.Stages as stages;
 ghost use Rattle.reference.specs.Settings.{converter-of};
 ghost use Rattle.interface.specs.Codes as codes;
+ghost use Rattle.interface.specs.Settings as spelled;
 ghost use Rattle.interface.specs.Settings.{c-settings, known-settings, settings-of};
 use reference::Converter;
 use reference::Cutoff;
+use reference::Filter;
 use reference::Gain;
 use reference::PcmRate;
 use reference::Settings;
@@ -69,19 +72,53 @@ pub fn known_flag(n: u8) -> bool
     n < 2
 }
 
-// A rate, a cutoff and a gain's length that are understood.
-pub fn known_settings(rate: u32, cutoff: u8, floats: usize) -> bool
-    ensures { λ r. ⌜ r ≡ known-settings rate cutoff floats ⌝ }
+// A rate, a cutoff, a gain's length and a flag that are understood.
+pub fn known_settings(rate: u32, cutoff: u8, floats: usize, own: u8) -> bool
+    ensures { λ r. ⌜ r ≡ known-settings rate cutoff floats own ⌝ }
 {
     let known_rate = hertz(rate_of(rate)) == rate as u64;
     let known_cutoff = cutoff_number(cutoff_of(cutoff)) == cutoff as u64;
-    both(known_rate, both(known_cutoff, floats == 2))
+    both(
+        known_rate,
+        both(known_cutoff, both(floats == 2, known_flag(own))),
+    )
+}
+
+// A tap of a list, and 0 past its end.
+fn tap(taps: &[i32], k: usize) -> i32
+    ensures { λ r. ⌜ r ≡ stages.tap (now (taps .entry)) k ⌝ }
+{
+    if k < taps.len() { taps[k] } else { 0 }
+}
+
+// A list of taps as a filter record.
+fn listed(taps: &[i32]) -> Filter
+    ensures { λ r. ⌜ r ≡ spelled.listed (now (taps .entry)) ⌝ }
+{
+    let mut made = [0i32; 117];
+    let mut k = 0usize;
+    while k < 117 {
+        let t = tap(taps, k);
+        made[k] = t;
+        k += 1;
+    }
+    Filter {
+        taps: made,
+        count: taps.len(),
+    }
 }
 
 // The settings that the numbers of known ones stand for.
-pub fn settings(rate: u32, cutoff: u8, channels: u8, gain: &[f64]) -> Settings
+pub fn settings(
+    rate: u32,
+    cutoff: u8,
+    channels: u8,
+    gain: &[f64],
+    own: u8,
+    taps: &[i32],
+) -> Settings
     requires { ⌜ length (now gain) ≡ 2 ⌝ }
-    ensures { λ r. ⌜ r ≡ settings-of (c-settings rate cutoff channels (now (gain .entry))) ⌝ }
+    ensures { λ r. ⌜ r ≡ settings-of (c-settings rate cutoff channels (now (gain .entry)) own (now (taps .entry))) ⌝ }
 {
     let rate = rate_of(rate);
     let cutoff = cutoff_of(cutoff);
@@ -89,19 +126,29 @@ pub fn settings(rate: u32, cutoff: u8, channels: u8, gain: &[f64]) -> Settings
         db: gain[0],
         linear: gain[1],
     };
+    let filter = listed(taps);
     Settings {
         rate,
         cutoff,
         channels,
         gain,
+        own: own == 1,
+        filter,
     }
 }
 
 // The converter whose settings known numbers stand for.
-pub fn converter(rate: u32, cutoff: u8, channels: u8, gain: &[f64]) -> Converter
+pub fn converter(
+    rate: u32,
+    cutoff: u8,
+    channels: u8,
+    gain: &[f64],
+    own: u8,
+    taps: &[i32],
+) -> Converter
     requires { ⌜ length (now gain) ≡ 2 ⌝ }
-    ensures { λ r. ⌜ r ≡ converter-of (settings-of (c-settings rate cutoff channels (now (gain .entry)))) ⌝ }
+    ensures { λ r. ⌜ r ≡ converter-of (settings-of (c-settings rate cutoff channels (now (gain .entry)) own (now (taps .entry)))) ⌝ }
 {
-    let s = settings(rate, cutoff, channels, gain);
+    let s = settings(rate, cutoff, channels, gain, own, taps);
     reference::converter_of(s)
 }

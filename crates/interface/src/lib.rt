@@ -37,20 +37,22 @@ pub use results::tell_gain;
 pub use statistics::held_stats;
 pub use statistics::known_stats;
 
-// What each conversion asks first: its numbers, and the lengths of its gain and result lists; `stats` says whether those for statistics are right.
+// What each conversion asks first: its numbers and flags, and the lengths of its gain and result lists; `stats` says whether those for statistics are
+// right.
 pub fn understood(
     rate: u32,
     cutoff: u8,
     floats: usize,
+    own: u8,
     has_before: u8,
     has_after: u8,
     stats: bool,
     data: usize,
     decibels: usize,
 ) -> bool
-    ensures { λ r. ⌜ r ≡ (known-settings rate cutoff floats && (known-flag «has_before» && (known-flag «has_after» && (stats && room «data» decibels)))) ⌝ }
+    ensures { λ r. ⌜ r ≡ (known-settings rate cutoff floats own && (known-flag «has_before» && (known-flag «has_after» && (stats && room «data» decibels)))) ⌝ }
 {
-    let known = known_settings(rate, cutoff, floats);
+    let known = known_settings(rate, cutoff, floats, own);
     let before = known_flag(has_before);
     let after = known_flag(has_after);
     let fits = both(stats, room(data, decibels));

@@ -61,6 +61,8 @@ pub fn of_error(e: PcmError) -> Report
         PcmError::Before(n) => numbers(13, n as u64, 0),
         PcmError::After(n) => numbers(14, n as u64, 0),
         PcmError::Desk => numbers(16, 0, 0),
+        PcmError::Taps => numbers(17, 0, 0),
+        PcmError::TapSums => numbers(18, 0, 0),
         PcmError::Sheet => numbers(20, 0, 0),
     }
 }

@@ -2,14 +2,15 @@
 use mathlib.Core.Path.{_≡_, refl, sym, _∙_}
 use mathlib.Core.List.{List, [], _∷_, flatMap, append-nil}
 use mathlib.Core.Bool.{true, false}
-use Prim.Native.Nat.{ℕ, zero, suc, _+_, _*_, _<_}
+use Prim.Native.Nat.{ℕ, zero, suc, _+_, _*_, _≤_, _<_}
 use native.Mathlib.Nat.{zero-add}
 use native.Mathlib.Omega.{arith}
 use lib.ListN.{getD, replicate}
 use Rattle.reference.specs.Frames.{Run, idle, frame-length, frame-count, frame, neighbour, before-frame, sequence, channel-byte}
 use Rattle.reference.specs.Refusals.{rack}
+use Rattle.reference.specs.Settings.{reach-of}
 use Rattle.reference.specs.declared.Converter.{Converter}
-use Rattle.reference.proofs.Locality.{reach-small}
+use Rattle.reference.proofs.Locality.{reach-small, last-tap}
 use Rattle.reference.proofs.Frames.{channel-left, channel-right, channel-frame}
 use Rattle.reference.proofs.Refusals.{whole-frames, one-before}
 use Rattle.joins.specs.Joins.{Call, run-of, right-lengths, keep, pieces, SameBytes, Agree, AcceptedRun, JoinTo}
@@ -38,7 +39,7 @@ own conv r a =
     let ch = conv .channels in
     let n = frame-count ch (r .frames) in
     let one = one-before rack conv r (a .fits) in
-    let small = reach-small (conv .rate) (conv .cutoff) in
+    let small : reach-of conv ≤ 4704 = reach-small (conv .rate) (conv .cutoff) _ (last-tap (conv .filter)) in
     record {
       last = record { same = λ c k l m. sym (channel-frame ch c (sequence ch r) 0 _ l (omega arith) ∙ rw zero-add (channel-left ch c (before-frame ch r) _ 1 (omega arith) _ l (omega arith))) };
       first = record {

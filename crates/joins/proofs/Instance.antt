@@ -15,6 +15,7 @@ use lib.Seq.{take-at, drop-at}
 use Rattle.numbers.specs.Lists.{Each}
 use Rattle.reference.specs.Frames.{Run, run, idle, frame-length, frame-count, frame, neighbour, sequence, channel-byte}
 use Rattle.reference.specs.Scaling.{LN-10, magnitude, exponent, series, squared, db-to-linear, allowed, right-gain}
+use Rattle.reference.specs.Settings.{filter-of}
 use Rattle.reference.specs.Figures.{mono}
 use Rattle.reference.specs.Output.{samples-per-frame, channel-samples, all-samples, samples, stats, s24le}
 use Rattle.reference.specs.Refusals.{rack, number, accepted, refused, Place, decide, is-accepted, unsupported, opening-places, held-places, input-places, run-length, one-long, if-present, lent-length, byte-lengths, run-lengths, convert-places, convert-run-places}
@@ -24,6 +25,7 @@ use Rattle.reference.specs.declared.Converter.{Converter}
 use Rattle.reference.specs.declared.Verdict.the-variants as verdict
 use Rattle.reference.specs.declared.PcmError.the-variants as error
 use Rattle.reference.proofs.Frames.{some-samples}
+use Rattle.reference.proofs.Filters.{built-in-passes}
 use Rattle.reference.proofs.Refusals.{at-first, at-next, at-end, decide-skip}
 use Rattle.reference.proofs.Promises.{exit-accepted, exit-refused}
 use Rattle.joins.specs.Joins.{Call, convert, convert-run, ConvertCall, ConvertRunCall, right-lengths, keep, pieces, SameBytes, AllAgree, JoinTo}
@@ -217,8 +219,8 @@ module _ (conv : Converter) (opens : decide (held-places conv) ≡ accepted) (so
 -- ---- and there is such a converter: Standard 88,200, mono, 0 dB; with a frame of zeros and a frame of ones
 
 pub mono-opens : decide (held-places mono) ≡ accepted
-unfolding decide opening-places mono unsupported right-gain allowed db-to-linear exponent magnitude series squared LN-10 ofInt ofBits toBits mul div add lt le
-mono-opens = refl
+unfolding decide opening-places filter-of mono unsupported right-gain allowed db-to-linear exponent magnitude series squared LN-10 ofInt ofBits toBits mul div add lt le
+mono-opens = built-in-passes
 
 pub some-mono : 0 < mono .channels
 unfolding mono

@@ -10,11 +10,12 @@ use lib.ListN.{length}
 use Rattle.numbers.specs.Lists.{tabulate, count}
 use Rattle.numbers.proofs.Lists.{tabulate-same, total-same}
 use Rattle.reference.specs.Frames.{Run, frame-length, frame, before-frame, sequence, channel-byte}
-use Rattle.reference.specs.Stages.{reach}
+use Rattle.reference.specs.Stages.{taps-of}
+use Rattle.reference.specs.Settings.{reach-of}
 use Rattle.reference.specs.Scaling.{scaled, clamp, clips}
 use Rattle.reference.specs.Output.{samples-per-frame, unclamped, sample, clipped, item, frame-clips}
 use Rattle.reference.specs.declared.Converter.{Converter}
-use Rattle.reference.proofs.Locality.{Same, y-same, reach-small}
+use Rattle.reference.proofs.Locality.{Same, y-same, reach-small, last-tap}
 use Rattle.reference.proofs.Frames.{channel-left, channel-right, channel-frame}
 use Rattle.joins.specs.Joins.{Agree}
 
@@ -35,10 +36,10 @@ module _ (conv : Converter) (r : Run) (a n : ℕ) (piece : Run) (cut : PieceOf c
   ch = conv .channels
 
   abbrev far : ℕ
-  far = reach (conv .rate) (conv .cutoff)
+  far = reach-of conv
 
   near-by : far ≤ 4704
-  near-by = reach-small (conv .rate) (conv .cutoff)
+  near-by = reach-small (conv .rate) (conv .cutoff) _ (last-tap (conv .filter))
 
   before-same : (c p : ℕ) → c < ch → p < 4704 → 4704 - far ≤ p → channel-byte ch (sequence ch piece) c p ≡ channel-byte ch (sequence ch r) c (4704 * a + p)
   unfolding sequence
@@ -99,7 +100,7 @@ module _ (conv : Converter) (r : Run) (a n : ℕ) (piece : Run) (cut : PieceOf c
       let small = near-by in
       let i : per + k ≡ 1 * per + k = omega arith in
       let j : per + (a * per + k) ≡ suc a * per + k = omega arith in
-      rw (i, j) (ap (scaled (conv .gain .linear)) (y-same n _ 1 _ (suc a) (conv .rate) (conv .cutoff) (record { room = omega arith; room' = omega arith; same = bytes-same c l }) k h))
+      rw (i, j) (ap (scaled (conv .gain .linear)) (y-same n _ 1 _ (suc a) (conv .rate) (conv .cutoff) (taps-of (conv .filter)) (record { room = omega arith; room' = omega arith; same = bytes-same c l }) k h))
 
   item-same : (i : ℕ) → i < n * per * ch → item conv piece i ≡ item conv r (a * per * ch + i)
   unfolding item sample

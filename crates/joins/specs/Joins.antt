@@ -8,7 +8,7 @@ use lib.IntN.{ℤ, pos, negsuc}
 use lib.ListN.{length, getD}
 use Rattle.numbers.specs.Lists.{tabulate}
 use Rattle.reference.specs.Frames.{Run, frame-bytes, frame-count, frame, before-frame, after-frame, sequence, channel-byte}
-use Rattle.reference.specs.Stages.{reach}
+use Rattle.reference.specs.Settings.{reach-of}
 use Rattle.reference.specs.Output.{samples, channel-clips, per-frame-clips, stats}
 use Rattle.reference.specs.Refusals.{rack, accepted, Place, decide, decision, is-accepted, held-places, input-places, byte-lengths, run-lengths}
 use Rattle.reference.specs.Promises.{BytesPromise, ConvertRunPromise}
@@ -110,8 +110,8 @@ pub record SameBytes (channels start n : ℕ) (a b : List ℕ) : Type 0 where
 
 -- a piece's neighbours agree with the true frames: in each channel the last bytes of the one and the first of the other, as many as the reach
 pub record Agree (conv : Converter) (true-before : List ℕ) (piece : Run) (true-after : List ℕ) : Type 0 where
-  pub last : SameBytes (conv .channels) (frame-bytes - reach (conv .rate) (conv .cutoff)) (reach (conv .rate) (conv .cutoff)) (before-frame (conv .channels) piece) true-before
-  pub first : SameBytes (conv .channels) 0 (reach (conv .rate) (conv .cutoff)) (after-frame (conv .channels) piece) true-after
+  pub last : SameBytes (conv .channels) (frame-bytes - reach-of conv) (reach-of conv) (before-frame (conv .channels) piece) true-before
+  pub first : SameBytes (conv .channels) 0 (reach-of conv) (after-frame (conv .channels) piece) true-after
 
 -- every piece's neighbours agree, the first piece starting after `start` frames of the run. Frame 0 of the sequence is the one before the run
 abbrev pub AllAgree : Converter → List ℕ → ℕ → List Run → Type 0

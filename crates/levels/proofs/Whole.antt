@@ -13,12 +13,13 @@ use Rattle.numbers.specs.Extremes.{lesser, greater, extreme}
 use Rattle.numbers.proofs.Extremes.{extreme-same}
 use Rattle.numbers.specs.Lists.{tabulate, count}
 use Rattle.numbers.proofs.Lists.{getD-tabulate, tabulate-same, total-same, below-or, part-end}
+use Rattle.reference.specs.Settings.{reach-of}
 use Rattle.reference.specs.Frames.{Run, frame-length, frame-count, frame, idle, neighbour, before-frame, after-frame, sequence, channel-byte}
 use Rattle.reference.specs.Scaling.{clamp}
 use Rattle.reference.specs.Output.{samples-per-frame, sample, clipped, samples, frame-clips}
 use Rattle.reference.specs.declared.Converter.{Converter}
 use Rattle.reference.proofs.Frames.{some-samples, channel-left, channel-right, channel-frame}
-use Rattle.reference.proofs.Locality.{reach-small}
+use Rattle.reference.proofs.Locality.{reach-small, last-tap}
 use Rattle.joins.proofs.Pieces.{PieceOf, unclamped-same, piece-clips}
 use Rattle.overs.specs.Overs.{in-progress, none, channel, overs-of}
 use Rattle.overs.specs.Joins.{frame-overs}
@@ -121,7 +122,7 @@ module _ (conv : Converter) (input : List ℕ) (f : ℕ) (piece : Run) (here : F
   pub piece-of : PieceOf conv whole f 1 piece
   unfolding whole-input neighbour frame
   piece-of =
-      let small = reach-small (conv .rate) (conv .cutoff) in
+      let small : reach-of conv ≤ 4704 = reach-small (conv .rate) (conv .cutoff) _ (last-tap (conv .filter)) in
       let end = part-end f (N ch input) (frame-length ch) (here .inside) in
       record {
         some-channel = here .some-channel;

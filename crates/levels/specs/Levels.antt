@@ -11,6 +11,7 @@ use Rattle.numbers.specs.Extremes.{lesser, greater, extreme}
 use Rattle.numbers.specs.Lists.{tabulate, count}
 use Rattle.reference.specs.Frames.{Run, run, frame-length, frame-count, frame}
 use Rattle.reference.specs.Scaling.{db-to-linear}
+use Rattle.reference.specs.Settings.{built-in}
 use Rattle.reference.specs.Output.{samples-per-frame, sample, clipped, samples, frame-clips}
 use Rattle.reference.specs.Refusals.{accepted, decide, decision, convert-frame-places}
 use Rattle.reference.specs.Promises.{by-decision}
@@ -27,11 +28,11 @@ use Rattle.levels.specs.declared.Reported.{Reported}
 
 -- ---- settings
 
--- the settings that a line's stand for: their gain record is that of the whole decibels
+-- the settings that a line's stand for: their gain record is that of the whole decibels, and no filter is given
 unfoldable pub read-settings : LineSettings → Settings
 read-settings s =
     let db = ofInt binary64 (s .db) in
-    record { rate = s .rate; cutoff = s .cutoff; channels = s .channels; gain = record { db = db; linear = db-to-linear db } }
+    record { rate = s .rate; cutoff = s .cutoff; channels = s .channels; gain = record { db = db; linear = db-to-linear db }; own = false; filter = built-in }
 
 -- ---- a channel of a frame
 

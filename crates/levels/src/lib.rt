@@ -43,11 +43,14 @@ pub fn opened(s: LineSettings) -> Opened
     let db = std::num::nearest_i64_to_f64(s.db as i64);
     let linear = gain::db_to_linear(db);
     let gain = Gain { db, linear };
+    let filter = reference::built_in();
     scarletbook_pcm::open(Settings {
         rate,
         cutoff,
         channels: s.channels,
         gain,
+        own: false,
+        filter,
     })
 }
 
@@ -72,6 +75,8 @@ pub fn refusal_number(e: PcmError) -> u64
         PcmError::Before(_) => 13,
         PcmError::After(_) => 14,
         PcmError::Desk => 16,
+        PcmError::Taps => 17,
+        PcmError::TapSums => 18,
         PcmError::Sheet => 20,
     }
 }

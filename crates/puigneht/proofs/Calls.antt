@@ -23,8 +23,10 @@ module _ {u : Bool} {Kept Done : Type 0} where
   pub worked : {answer : ℕ} → u ≡ true → Done → Call u answer Kept Done
   worked e d = record { unclear = λ h. absurd (true≢false (sym e ∙ h)); done = λ _. d }
 
-pub two-floats : (rate cutoff floats : ℕ) → known-settings rate cutoff floats ≡ true → floats ≡ 2
-two-floats r c n h = eqb-true n 2 (both-true (known-cutoff c) (eqb n 2) (both-true (known-rate r) (known-cutoff c && eqb n 2) h .1) .1)
+pub two-floats : (rate cutoff floats own : ℕ) → known-settings rate cutoff floats own ≡ true → floats ≡ 2
+two-floats r c n o h =
+    let rest = both-true (known-cutoff c) (eqb n 2 && known-flag o) (both-true (known-rate r) (known-cutoff c && (eqb n 2 && known-flag o)) h .1) in
+    eqb-true n 2 (both-true (eqb n 2) (known-flag o) (rest .1) .0)
 
 pub room-is : (numbers decibels : ℕ) → room numbers decibels ≡ true → (numbers ≡ 2) × (decibels ≡ 1)
 room-is n d h =
@@ -39,9 +41,9 @@ pub record Lengths (gain : List Float) (numbers : List ℕ) (decibels : List Flo
 pub open-lengths : (s : CSettings) (opened numbers : List ℕ) (decibels : List Float) → open-understood s opened numbers decibels ≡ true
     → Lengths (s .gain) numbers decibels × (length opened ≡ 2)
 open-lengths s opened numbers decibels h =
-    let settings = both-true (known-settings (s .rate) (s .cutoff) (length (s .gain))) _ h in
+    let settings = both-true (known-settings (s .rate) (s .cutoff) (length (s .gain)) (s .own)) _ h in
     let lists = both-true (eqb (length opened) 2) _ (settings .1) in
-    (record { floats = two-floats _ _ _ (settings .0); told = room-is _ _ (lists .1) }, eqb-true _ _ (lists .0))
+    (record { floats = two-floats (s .rate) (s .cutoff) (length (s .gain)) (s .own) (settings .0); told = room-is _ _ (lists .1) }, eqb-true _ _ (lists .0))
 
 -- six items for each statistic
 pub six-each : (s : StatLists) → has-room s ≡ true → (length (s .clipped) ≡ 6) × (length (s .lowest) ≡ 6) × (length (s .highest) ≡ 6) × (length (s .empty) ≡ 6)
@@ -53,7 +55,7 @@ six-each s h =
 
 pub lengths : (s : CSettings) (i : Input) (old : Results) → conversion-understood s i old ≡ true → Lengths (s .gain) (old .numbers) (old .decibels) × (has-room (old .stats) ≡ true)
 lengths s i old h =
-    let settings = both-true (known-settings (s .rate) (s .cutoff) (length (s .gain))) _ h in
+    let settings = both-true (known-settings (s .rate) (s .cutoff) (length (s .gain)) (s .own)) _ h in
     let flags = both-true (known-flag (i .has-after)) _ (both-true (known-flag (i .has-before)) _ (settings .1) .1) in
     let lists = both-true (has-room (old .stats)) _ (flags .1) in
-    (record { floats = two-floats _ _ _ (settings .0); told = room-is _ _ (lists .1) }, lists .0)
+    (record { floats = two-floats (s .rate) (s .cutoff) (length (s .gain)) (s .own) (settings .0); told = room-is _ _ (lists .1) }, lists .0)

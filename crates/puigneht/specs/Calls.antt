@@ -8,8 +8,7 @@ use lib.IntN.{ℤ}
 use lib.Ieee.{Float}
 use lib.ListN.{length}
 use Rattle.reference.specs.Frames.{Run, run}
-use Rattle.reference.specs.Stages.{reach}
-use Rattle.reference.specs.Settings.{converter-of}
+use Rattle.reference.specs.Settings.{converter-of, reach-of}
 use Rattle.reference.specs.Output.{samples-per-frame}
 use Rattle.reference.specs.Refusals.{rack, desk, decision, gain-decision}
 use Rattle.reference.specs.Promises.{by-decision, GainPromise, OpeningPromise, ConvertRunPromise, ConvertFramePromise, BytesPromise}
@@ -75,7 +74,7 @@ GainCall db gain gain' decibels decibels' answer =
 
 -- samples of one channel in a frame, and the reach
 unfoldable pub opened-numbers : Converter → List ℕ
-opened-numbers conv = samples-per-frame (conv .rate) ∷ reach (conv .rate) (conv .cutoff) ∷ []
+opened-numbers conv = samples-per-frame (conv .rate) ∷ reach-of conv ∷ []
 
 -- so for opening
 pub record OpenDone (settings : Settings) (opened opened' numbers' : List ℕ) (decibels' : List Float) (answer : ℕ) : Type 0 where
@@ -86,7 +85,7 @@ pub record OpenDone (settings : Settings) (opened opened' numbers' : List ℕ) (
 
 abbrev pub open-understood : CSettings → List ℕ → List ℕ → List Float → Bool
 open-understood s opened numbers decibels =
-    known-settings (s .rate) (s .cutoff) (length (s .gain)) && (eqb (length opened) 2 && room (length numbers) (length decibels))
+    known-settings (s .rate) (s .cutoff) (length (s .gain)) (s .own) && (eqb (length opened) 2 && room (length numbers) (length decibels))
 
 abbrev pub OpenCall : CSettings → List ℕ → List ℕ → List ℕ → List ℕ → List Float → List Float → ℕ → Type 0
 OpenCall s opened opened' numbers numbers' decibels decibels' answer =
@@ -106,7 +105,7 @@ has-room s = room-for-stats (length (s .clipped)) (length (s .lowest)) (length (
 
 abbrev pub conversion-understood : CSettings → Input → Results → Bool
 conversion-understood s i old =
-    known-settings (s .rate) (s .cutoff) (length (s .gain))
+    known-settings (s .rate) (s .cutoff) (length (s .gain)) (s .own)
     && (known-flag (i .has-before) && (known-flag (i .has-after) && (has-room (old .stats) && room (length (old .numbers)) (length (old .decibels)))))
 
 -- a call for 32-bit samples

@@ -88,16 +88,18 @@ pub extern "C" fn puigneht_open(
     cutoff: u8,
     channels: u8,
     gain: &[f64],
+    own: u8,
+    taps: &[i32],
     opened: &mut [u64],
     data: &mut [u64],
     decibels: &mut [f64],
 ) -> u8
-    ensures { λ r. ⌜ OpenCall (c-settings rate cutoff channels (now (gain .entry))) (now (opened .entry)) (now (opened .exit)) (now («data» .entry)) (now («data» .exit)) (now (decibels .entry)) (now (decibels .exit)) r ⌝ }
+    ensures { λ r. ⌜ OpenCall (c-settings rate cutoff channels (now (gain .entry)) own (now (taps .entry))) (now (opened .entry)) (now (opened .exit)) (now («data» .entry)) (now («data» .exit)) (now (decibels .entry)) (now (decibels .exit)) r ⌝ }
 {
-    let known = known_settings(rate, cutoff, gain.len());
+    let known = known_settings(rate, cutoff, gain.len(), own);
     let fits = both(opened.len() == 2, room(data.len(), decibels.len()));
     if both(known, fits) {
-        let made = scarletbook_pcm::open(settings(rate, cutoff, channels, gain));
+        let made = scarletbook_pcm::open(settings(rate, cutoff, channels, gain, own, taps));
         return tell_opening(made, opened, data, decibels);
     }
     255
@@ -110,6 +112,8 @@ pub extern "C" fn puigneht_convert_run<'a>(
     cutoff: u8,
     channels: u8,
     gain: &[f64],
+    own: u8,
+    taps: &[i32],
     has_before: u8,
     before: &'a [u8],
     frames: &'a [u8],
@@ -123,20 +127,21 @@ pub extern "C" fn puigneht_convert_run<'a>(
     data: &mut [u64],
     decibels: &mut [f64],
 ) -> u8
-    ensures { λ r. ⌜ ConvertRunCall (c-settings rate cutoff channels (now (gain .entry))) (input «has_before» (now (before .entry)) (now (frames .entry)) «has_after» (now (after .entry))) (now (out .entry)) (now (out .exit)) (results (stat-lists (now (clipped .entry)) (now (lowest .entry)) (now (highest .entry)) (now (empty .entry))) (now («data» .entry)) (now (decibels .entry))) (results (stat-lists (now (clipped .exit)) (now (lowest .exit)) (now (highest .exit)) (now (empty .exit))) (now («data» .exit)) (now (decibels .exit))) r ⌝ }
+    ensures { λ r. ⌜ ConvertRunCall (c-settings rate cutoff channels (now (gain .entry)) own (now (taps .entry))) (input «has_before» (now (before .entry)) (now (frames .entry)) «has_after» (now (after .entry))) (now (out .entry)) (now (out .exit)) (results (stat-lists (now (clipped .entry)) (now (lowest .entry)) (now (highest .entry)) (now (empty .entry))) (now («data» .entry)) (now (decibels .entry))) (results (stat-lists (now (clipped .exit)) (now (lowest .exit)) (now (highest .exit)) (now (empty .exit))) (now («data» .exit)) (now (decibels .exit))) r ⌝ }
 {
     let fits = room_for_stats(clipped.len(), lowest.len(), highest.len(), empty.len());
     if understood(
         rate,
         cutoff,
         gain.len(),
+        own,
         has_before,
         has_after,
         fits,
         data.len(),
         decibels.len(),
     ) {
-        let conv = converter(rate, cutoff, channels, gain);
+        let conv = converter(rate, cutoff, channels, gain, own, taps);
         let made = scarletbook_pcm::convert_run_parts(
             conv,
             has_before == 1,
@@ -158,6 +163,8 @@ pub extern "C" fn puigneht_convert_frame<'a>(
     cutoff: u8,
     channels: u8,
     gain: &[f64],
+    own: u8,
+    taps: &[i32],
     has_before: u8,
     before: &'a [u8],
     frames: &'a [u8],
@@ -171,20 +178,21 @@ pub extern "C" fn puigneht_convert_frame<'a>(
     data: &mut [u64],
     decibels: &mut [f64],
 ) -> u8
-    ensures { λ r. ⌜ ConvertFrameCall (c-settings rate cutoff channels (now (gain .entry))) (input «has_before» (now (before .entry)) (now (frames .entry)) «has_after» (now (after .entry))) (now (out .entry)) (now (out .exit)) (results (stat-lists (now (clipped .entry)) (now (lowest .entry)) (now (highest .entry)) (now (empty .entry))) (now («data» .entry)) (now (decibels .entry))) (results (stat-lists (now (clipped .exit)) (now (lowest .exit)) (now (highest .exit)) (now (empty .exit))) (now («data» .exit)) (now (decibels .exit))) r ⌝ }
+    ensures { λ r. ⌜ ConvertFrameCall (c-settings rate cutoff channels (now (gain .entry)) own (now (taps .entry))) (input «has_before» (now (before .entry)) (now (frames .entry)) «has_after» (now (after .entry))) (now (out .entry)) (now (out .exit)) (results (stat-lists (now (clipped .entry)) (now (lowest .entry)) (now (highest .entry)) (now (empty .entry))) (now («data» .entry)) (now (decibels .entry))) (results (stat-lists (now (clipped .exit)) (now (lowest .exit)) (now (highest .exit)) (now (empty .exit))) (now («data» .exit)) (now (decibels .exit))) r ⌝ }
 {
     let fits = room_for_stats(clipped.len(), lowest.len(), highest.len(), empty.len());
     if understood(
         rate,
         cutoff,
         gain.len(),
+        own,
         has_before,
         has_after,
         fits,
         data.len(),
         decibels.len(),
     ) {
-        let conv = converter(rate, cutoff, channels, gain);
+        let conv = converter(rate, cutoff, channels, gain, own, taps);
         let made = scarletbook_pcm::convert_frame_parts(
             conv,
             has_before == 1,
@@ -206,6 +214,8 @@ pub extern "C" fn puigneht_convert<'a>(
     cutoff: u8,
     channels: u8,
     gain: &[f64],
+    own: u8,
+    taps: &[i32],
     has_before: u8,
     before: &'a [u8],
     frames: &'a [u8],
@@ -221,13 +231,14 @@ pub extern "C" fn puigneht_convert<'a>(
     data: &mut [u64],
     decibels: &mut [f64],
 ) -> u8
-    ensures { λ r. ⌜ ConvertCall (c-settings rate cutoff channels (now (gain .entry))) (input «has_before» (now (before .entry)) (now (frames .entry)) «has_after» (now (after .entry))) lent (now (out .entry)) (now (out .exit)) (now (counts .entry)) (now (counts .exit)) (results (stat-lists (now (clipped .entry)) (now (lowest .entry)) (now (highest .entry)) (now (empty .entry))) (now («data» .entry)) (now (decibels .entry))) (results (stat-lists (now (clipped .exit)) (now (lowest .exit)) (now (highest .exit)) (now (empty .exit))) (now («data» .exit)) (now (decibels .exit))) r ⌝ }
+    ensures { λ r. ⌜ ConvertCall (c-settings rate cutoff channels (now (gain .entry)) own (now (taps .entry))) (input «has_before» (now (before .entry)) (now (frames .entry)) «has_after» (now (after .entry))) lent (now (out .entry)) (now (out .exit)) (now (counts .entry)) (now (counts .exit)) (results (stat-lists (now (clipped .entry)) (now (lowest .entry)) (now (highest .entry)) (now (empty .entry))) (now («data» .entry)) (now (decibels .entry))) (results (stat-lists (now (clipped .exit)) (now (lowest .exit)) (now (highest .exit)) (now (empty .exit))) (now («data» .exit)) (now (decibels .exit))) r ⌝ }
 {
     let fits = room_for_stats(clipped.len(), lowest.len(), highest.len(), empty.len());
     let known = understood(
         rate,
         cutoff,
         gain.len(),
+        own,
         has_before,
         has_after,
         fits,
@@ -235,7 +246,7 @@ pub extern "C" fn puigneht_convert<'a>(
         decibels.len(),
     );
     if both(known_flag(lent), known) {
-        let conv = converter(rate, cutoff, channels, gain);
+        let conv = converter(rate, cutoff, channels, gain, own, taps);
         let made = scarletbook_pcm::convert_parts(
             conv,
             has_before == 1,

@@ -1,7 +1,7 @@
 -- A signal that repeats gives stage values that repeat; where every byte is the same, so is every value of a stage.
 use mathlib.Core.Path.{_≡_, refl, ap, _∙_}
 use mathlib.Core.List.{List}
-use Prim.Native.Nat.{ℕ, suc, _+_, _-_, _*_, _<_}
+use Prim.Native.Nat.{ℕ, suc, _+_, _-_, _*_, _<_, _≤_}
 use native.Mathlib.Omega.{arith}
 use lib.Dec.{lit<}
 use lib.IntN.{ℤ}
@@ -14,16 +14,16 @@ use Rattle.reference.specs.declared.Cutoff.{Cutoff}
 use Rattle.reference.proofs.Locality.{fir-same, u-same, S1-length, HB-last, y-same, reach-small}
 
 -- bytes that repeat every d frames: so do the samples, from the second frame on
-pub y-repeats : (rate : PcmRate) (cutoff : Cutoff) (β : ℕ → ℕ) (d : ℕ) → ((p : ℕ) → β (4704 * d + p) ≡ β p)
-    → (k : ℕ) → k < samples-per-frame rate → y rate cutoff β ((1 + d) * samples-per-frame rate + k) ≡ y rate cutoff β (1 * samples-per-frame rate + k)
-y-repeats rate cutoff β d repeats k l =
-    y-same 1 β (1 + d) β 1 rate cutoff
+pub y-repeats : (rate : PcmRate) (cutoff : Cutoff) (F : List ℤ) → M F ≤ 116 → (β : ℕ → ℕ) (d : ℕ) → ((p : ℕ) → β (4704 * d + p) ≡ β p)
+    → (k : ℕ) → k < samples-per-frame rate → y rate cutoff F β ((1 + d) * samples-per-frame rate + k) ≡ y rate cutoff F β (1 * samples-per-frame rate + k)
+y-repeats rate cutoff F few β d repeats k l =
+    y-same 1 β (1 + d) β 1 rate cutoff F
     (record {
-      room = omega (arith, reach-small rate cutoff);
-      room' = omega (arith, reach-small rate cutoff);
+      room = omega (arith, reach-small rate cutoff F few);
+      room' = omega (arith, reach-small rate cutoff F few);
       same = λ p m.
-          let e : 4704 * (1 + d) - reach rate cutoff + p ≡ 4704 * d + (4704 * 1 - reach rate cutoff + p) = omega (arith, reach-small rate cutoff) in
-          rw e (repeats (4704 * 1 - reach rate cutoff + p));
+          let e : 4704 * (1 + d) - reach rate cutoff F + p ≡ 4704 * d + (4704 * 1 - reach rate cutoff F + p) = omega (arith, reach-small rate cutoff F few) in
+          rw e (repeats (4704 * 1 - reach rate cutoff F + p));
     })
     k (omega arith)
 

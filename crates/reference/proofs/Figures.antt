@@ -24,6 +24,7 @@ use Rattle.reference.specs.declared.Cutoff.the-variants.{Standard}
 use Rattle.reference.specs.Figures.{mono, one-byte, frame-of, Holds, figures}
 use Rattle.reference.proofs.Locality.{F40-last, y-same}
 use Rattle.reference.proofs.Constant.{w-constant}
+use Rattle.reference.proofs.Filters.{built-in-taps}
 
 -- the value of w at Standard where every byte is b, computed
 abbrev level : ℕ → ℤ
@@ -32,17 +33,20 @@ level b = R (fir F40 (λ _. R (fir HB (λ _. u S1 (λ _. b) 4) 0) 24) 0) 24
 -- a frame among three of byte b
 module _ (b : ℕ) (r : Run) (bytes : (p : ℕ) → p < 14112 → channel-byte 1 (sequence 1 r) 0 p ≡ b) (one : frame-count 1 (r .frames) ≡ 1)
     (z : ℤ) (unchanged : scaled (mono .gain .linear) (level b) ≡ z) (inside : clamp z ≡ z) (no-clip : clips z ≡ false) where
-  y-is : (k : ℕ) → k < 1176 → y Hz88200 Standard (channel-byte 1 (sequence 1 r) 0) (1176 + k) ≡ level b
-  unfolding y y-narrow samples-per-frame reach
+  y-is : (k : ℕ) → k < 1176 → y Hz88200 Standard F40 (channel-byte 1 (sequence 1 r) 0) (1176 + k) ≡ level b
+  unfolding y y-narrow samples-per-frame reach F40
   y-is k l =
-      y-same 1 (channel-byte 1 (sequence 1 r) 0) 1 (λ _. b) 1 Hz88200 Standard
+      y-same 1 (channel-byte 1 (sequence 1 r) 0) 1 (λ _. b) 1 Hz88200 Standard F40
       (record { room = lit≤ tt; room' = lit≤ tt; same = λ p m. bytes (4704 * 1 - 139 + p) (omega arith) }) k (omega arith)
       ∙ ap (w F40 (λ _. b)) (omega (arith, F40-last))
       ∙ w-constant b F40 (2282 + 2 * k)
 
   unclamped-is : (k : ℕ) → k < 1176 → unclamped mono r 0 k ≡ z
   unfolding unclamped mono samples-per-frame
-  unclamped-is k l = ap (scaled _) (y-is k l) ∙ unchanged
+  unclamped-is k l =
+      ap (λ F. scaled (mono .gain .linear) (y Hz88200 Standard F (channel-byte 1 (sequence 1 r) 0) (1176 + k))) built-in-taps
+      ∙ ap (scaled _) (y-is k l)
+      ∙ unchanged
 
   channel-is : channel-samples mono r ≡ 1176
   unfolding channel-samples mono samples-per-frame

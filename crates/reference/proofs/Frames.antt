@@ -6,10 +6,11 @@ use native.Mathlib.Nat.{mul-le-mul-left}
 use native.Mathlib.Omega.{arith}
 use lib.Arith.{digits-lt}
 use lib.Dec.{lit≤, lit<}
+use lib.IntN.{ℤ}
 use lib.ListN.{length, drop, List·getD-append}
 use lib.Seq.{getD-take, getD-drop, getD-append-add}
 use Rattle.reference.specs.Frames.{frame-length, frame, channel-byte}
-use Rattle.reference.specs.Stages.{y, reach}
+use Rattle.reference.specs.Stages.{M, y, reach}
 use Rattle.reference.specs.Output.{samples-per-frame}
 use Rattle.reference.specs.declared.PcmRate.{PcmRate}
 use Rattle.reference.specs.declared.PcmRate.the-variants.{Hz88200, Hz176400, Hz352800}
@@ -48,15 +49,15 @@ frame-samples Hz176400 = lit≤ tt
 frame-samples Hz352800 = lit≤ tt
 
 -- γ is β with a frame of any bytes put in front: the samples from the first frame on are the same
-pub no-earlier-byte : (rate : PcmRate) (cutoff : Cutoff) (β γ : ℕ → ℕ) → ((p : ℕ) → γ (4704 + p) ≡ β p)
-    → (k : ℕ) → y rate cutoff γ (2 * samples-per-frame rate + k) ≡ y rate cutoff β (1 * samples-per-frame rate + k)
-no-earlier-byte rate cutoff β γ front k =
-    y-same (suc k) γ 2 β 1 rate cutoff
+pub no-earlier-byte : (rate : PcmRate) (cutoff : Cutoff) (F : List ℤ) → M F ≤ 116 → (β γ : ℕ → ℕ) → ((p : ℕ) → γ (4704 + p) ≡ β p)
+    → (k : ℕ) → y rate cutoff F γ (2 * samples-per-frame rate + k) ≡ y rate cutoff F β (1 * samples-per-frame rate + k)
+no-earlier-byte rate cutoff F few β γ front k =
+    y-same (suc k) γ 2 β 1 rate cutoff F
     (record {
-      room = omega (arith, reach-small rate cutoff);
-      room' = omega (arith, reach-small rate cutoff);
+      room = omega (arith, reach-small rate cutoff F few);
+      room' = omega (arith, reach-small rate cutoff F few);
       same = λ p m.
-          let i : 4704 * 2 - reach rate cutoff + p ≡ 4704 + (4704 * 1 - reach rate cutoff + p) = omega (arith, reach-small rate cutoff) in
-          rw i (front (4704 * 1 - reach rate cutoff + p));
+          let i : 4704 * 2 - reach rate cutoff F + p ≡ 4704 + (4704 * 1 - reach rate cutoff F + p) = omega (arith, reach-small rate cutoff F few) in
+          rw i (front (4704 * 1 - reach rate cutoff F + p));
     })
     k (omega (arith, mul-le-mul-left (suc k) (some-samples rate)))

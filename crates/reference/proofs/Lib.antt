@@ -7,3 +7,5 @@ pub mod Refusals
 pub mod Promises
 pub mod Limits
 pub mod Figures
+pub mod Filters
+pub mod Opening

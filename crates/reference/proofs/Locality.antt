@@ -5,12 +5,13 @@ use Prim.Native.Nat.{ℕ, _+_, _-_, _*_, _/_, _%_, _≤_, _<_}
 use native.Mathlib.Omega.{arith}
 use lib.Dec.{lit≤, lit<}
 use lib.IntN.{ℤ}
-use lib.ListN.{length}
+use lib.ListN.{length, take, length-take}
 use Rattle.numbers.proofs.Sums.{sum-same}
 use Rattle.reference.specs.Rounding.{R}
 use Rattle.reference.specs.Taps.{S1, S1-WIDE, HB, F40, F30, F80}
-use Rattle.reference.specs.Stages.{M, fir, x, u, v, w, between, y-narrow, y-wide, y, reach}
+use Rattle.reference.specs.Stages.{taps-of, M, fir, x, u, v, w, between, y-narrow, y-wide, y, reach}
 use Rattle.reference.specs.Output.{samples-per-frame}
+use Rattle.reference.specs.declared.Filter.{Filter}
 use Rattle.reference.specs.declared.PcmRate.{PcmRate}
 use Rattle.reference.specs.declared.PcmRate.the-variants.{Hz88200, Hz176400, Hz352800}
 use Rattle.reference.specs.declared.Cutoff.{Cutoff}
@@ -118,12 +119,6 @@ between-same s t n i j same k l = sum-same 8 _ _ (λ z m.
 
 -- ---- whole frames of samples
 
--- the reach of the routes with a low-pass F of last place m
-unfoldable pub narrow-reach : PcmRate → ℕ → ℕ
-narrow-reach Hz88200 m = 2 * m + 19
-narrow-reach Hz176400 m = 2 * m + 19
-narrow-reach Hz352800 m = 2 * m + 35
-
 -- n frames of bytes agree, from frame A of β and from frame B of γ on, and with them r bytes before and r after
 pub record Near (n : ℕ) (β : ℕ → ℕ) (A : ℕ) (γ : ℕ → ℕ) (B r : ℕ) : Type 0 where
   pub room : r ≤ 4704 * A
@@ -145,18 +140,18 @@ module _ (n : ℕ) (β : ℕ → ℕ) (A : ℕ) (γ : ℕ → ℕ) (B : ℕ) whe
       (2352 * A - e - M F) (2352 * B - e - M F) (omega arith) (omega arith) k l)
 
   -- the routes of Standard and Low, for every low-pass F
-  pub narrow-same : (rate : PcmRate) (F : List ℤ) (r : ℕ) → r ≡ narrow-reach rate (M F) → Near n β A γ B r → SameSamples rate (y-narrow rate F)
-  unfolding y-narrow narrow-reach samples-per-frame
-  narrow-same Hz88200 F r er near k l =
+  pub narrow-same : (rate : PcmRate) (F : List ℤ) → Near n β A γ B (reach rate Standard F) → SameSamples rate (y-narrow rate F)
+  unfolding y-narrow reach samples-per-frame
+  narrow-same Hz88200 F near k l =
       let i : 2 * (A * 1176 + k) ≡ 2352 * A - 0 + 2 * k = omega arith in
       let j : 2 * (B * 1176 + k) ≡ 2352 * B - 0 + 2 * k = omega arith in
-      rw (i, j) (w-near F 0 r (omega arith) near (2 * k) (omega arith))
-  narrow-same Hz176400 F r er near k l =
+      rw (i, j) (w-near F 0 _ (omega arith) near (2 * k) (omega arith))
+  narrow-same Hz176400 F near k l =
       let i : A * 2352 + k ≡ 2352 * A - 0 + k = omega arith in
       let j : B * 2352 + k ≡ 2352 * B - 0 + k = omega arith in
-      rw (i, j) (w-near F 0 r (omega arith) near k (omega arith))
-  narrow-same Hz352800 F r er near k l =
-      let t : Same (2352 * n + 16) (w F β) (2352 * A - 8) (w F γ) (2352 * B - 8) = w-near F 8 r (omega arith) near in
+      rw (i, j) (w-near F 0 _ (omega arith) near k (omega arith))
+  narrow-same Hz352800 F near k l =
+      let t : Same (2352 * n + 16) (w F β) (2352 * A - 8) (w F γ) (2352 * B - 8) = w-near F 8 _ (omega arith) near in
       let p : (A * 4704 + k) % 2 ≡ k % 2 = omega arith in
       let p' : (B * 4704 + k) % 2 ≡ k % 2 = omega arith in
       let q : (A * 4704 + k) / 2 ≡ 2352 * A - 8 + (8 + k / 2) = omega arith in
@@ -168,10 +163,10 @@ module _ (n : ℕ) (β : ℕ → ℕ) (A : ℕ) (γ : ℕ → ℕ) (B : ℕ) whe
       = rw (i, j) (between-same (w F β) (w F γ) (2352 * n + 1) (2352 * A - 8) (2352 * B - 8) (λ z m. t z (omega arith)) (1 + k / 2) (omega arith)) in
       rw (p, p', q, q', even, odd)
 
-  wide-same : (rate : PcmRate) → Near n β A γ B (reach rate Wide) → SameSamples rate (y-wide rate)
+  wide-same : (rate : PcmRate) (F : List ℤ) → Near n β A γ B (reach rate Wide F) → SameSamples rate (y-wide rate)
   unfolding y-wide reach samples-per-frame
-  wide-same Hz88200 near k l = refl
-  wide-same Hz176400 near k l =
+  wide-same Hz88200 F near k l = refl
+  wide-same Hz176400 F near k l =
       let a = 4704 * A - 122 in
       let b = 4704 * B - 122 in
       let first : Same (4704 * n + 232) (u S1-WIDE β) (a + 6) (u S1-WIDE γ) (b + 6)
@@ -180,7 +175,7 @@ module _ (n : ℕ) (β : ℕ → ℕ) (A : ℕ) (γ : ℕ → ℕ) (B : ℕ) whe
       let j : B * 2352 + k ≡ 2352 * B + k = omega arith in
       rw (i, j) (ap (λ z. R z 24) (fir-halved F80 (2352 * n) (u S1-WIDE β) (a + 6) (u S1-WIDE γ) (b + 6) (λ z m. first z (omega (arith, F80-last)))
       (2352 * A) (2352 * B) (omega (arith, F80-last)) (omega (arith, F80-last)) k (omega arith)))
-  wide-same Hz352800 near k l =
+  wide-same Hz352800 F near k l =
       let a = 4704 * A - 66 in
       let b = 4704 * B - 66 in
       let first : Same (4704 * n + 120) (u S1-WIDE β) (a + 6) (u S1-WIDE γ) (b + 6)
@@ -189,28 +184,34 @@ module _ (n : ℕ) (β : ℕ → ℕ) (A : ℕ) (γ : ℕ → ℕ) (B : ℕ) whe
       let j : B * 4704 + k ≡ b + 6 + M F40 + k = omega (arith, F40-last) in
       rw (i, j) (ap (λ z. R z 24) (fir-same F40 (4704 * n) (u S1-WIDE β) (a + 6) (u S1-WIDE γ) (b + 6) (λ z m. first z (omega (arith, F40-last))) k (omega arith)))
 
-  -- every rate and cutoff of document 01's table
-  pub y-same : (rate : PcmRate) (cutoff : Cutoff) → Near n β A γ B (reach rate cutoff) → SameSamples rate (y rate cutoff)
-  unfolding y reach narrow-reach
-  y-same Hz88200 Standard = narrow-same Hz88200 F40 139 (omega (arith, F40-last))
-  y-same Hz176400 Standard = narrow-same Hz176400 F40 139 (omega (arith, F40-last))
-  y-same Hz352800 Standard = narrow-same Hz352800 F40 155 (omega (arith, F40-last))
-  y-same Hz88200 Low = narrow-same Hz88200 F30 179 (omega (arith, F30-last))
-  y-same Hz176400 Low = narrow-same Hz176400 F30 179 (omega (arith, F30-last))
-  y-same Hz352800 Low = narrow-same Hz352800 F30 195 (omega (arith, F30-last))
-  y-same Hz88200 Wide = wide-same Hz88200
-  y-same Hz176400 Wide = wide-same Hz176400
-  y-same Hz352800 Wide = wide-same Hz352800
+  -- F30 has its reach
+  low-near : (rate : PcmRate) (F : List ℤ) → Near n β A γ B (reach rate Low F) → Near n β A γ B (reach rate Standard F30)
+  unfolding reach F30
+  low-near Hz88200 F near = near
+  low-near Hz176400 F near = near
+  low-near Hz352800 F near = near
+
+  -- every rate and cutoff of document 01's table, with any low-pass F for Standard
+  pub y-same : (rate : PcmRate) (cutoff : Cutoff) (F : List ℤ) → Near n β A γ B (reach rate cutoff F) → SameSamples rate (y rate cutoff F)
+  unfolding y
+  y-same rate Standard F near = narrow-same rate F near
+  y-same rate Low F near = narrow-same rate F30 (low-near rate F near)
+  y-same rate Wide F near = wide-same rate F near
+
+-- a filter record has at most 117 taps
+pub last-tap : (f : Filter) → M (taps-of f) ≤ 116
+unfolding taps-of
+last-tap f = omega (arith, length-take (f .count) (take 117 (f .taps)), length-take 117 (f .taps))
 
 -- the reach stays within one frame
-pub reach-small : (rate : PcmRate) (cutoff : Cutoff) → reach rate cutoff ≤ 4704
+pub reach-small : (rate : PcmRate) (cutoff : Cutoff) (F : List ℤ) → M F ≤ 116 → reach rate cutoff F ≤ 4704
 unfolding reach
-reach-small Hz88200 Standard = lit≤ tt
-reach-small Hz176400 Standard = lit≤ tt
-reach-small Hz352800 Standard = lit≤ tt
-reach-small Hz88200 Low = lit≤ tt
-reach-small Hz176400 Low = lit≤ tt
-reach-small Hz352800 Low = lit≤ tt
-reach-small Hz88200 Wide = lit≤ tt
-reach-small Hz176400 Wide = lit≤ tt
-reach-small Hz352800 Wide = lit≤ tt
+reach-small Hz88200 Standard F l = omega arith
+reach-small Hz176400 Standard F l = omega arith
+reach-small Hz352800 Standard F l = omega arith
+reach-small Hz88200 Low F l = lit≤ tt
+reach-small Hz176400 Low F l = lit≤ tt
+reach-small Hz352800 Low F l = lit≤ tt
+reach-small Hz88200 Wide F l = lit≤ tt
+reach-small Hz176400 Wide F l = lit≤ tt
+reach-small Hz352800 Wide F l = lit≤ tt

@@ -87,7 +87,9 @@ case-of n a b =
     (cond (eqb n 13) (error.Before (n-of a))
     (cond (eqb n 14) (error.After (n-of a))
     (cond (eqb n 16) error.Desk
-    (cond (eqb n 20) error.Sheet error.Schedule)))))))))))))))
+    (cond (eqb n 17) error.Taps
+    (cond (eqb n 18) error.TapSums
+    (cond (eqb n 20) error.Sheet error.Schedule)))))))))))))))))
 
 error-of : Decision → PcmError
 error-of accepted = error.Frames 0
@@ -111,6 +113,8 @@ error-back error.Schedule = refl
 error-back (error.Before n) = refl
 error-back (error.After n) = refl
 error-back error.Desk = refl
+error-back error.Taps = refl
+error-back error.TapSums = refl
 error-back error.Sheet = refl
 
 error-exact : (a b : PcmError) → error-decision a ≡ error-decision b → a ≡ b

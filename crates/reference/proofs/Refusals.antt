@@ -1,11 +1,11 @@
 -- What it takes to pass the table's places, and what a refusal says.
 use mathlib.Core.Path.{_≡_, refl}
 use mathlib.Core.List.{List, [], _∷_, _++_}
-use mathlib.Core.Bool.{Bool, true, false, cond, _&&_}
+use mathlib.Core.Bool.{Bool, true, false, cond, not, _&&_}
 use Prim.Native.Nat.{ℕ, _*_, _%_, _<_, _≤_}
 use native.Mathlib.Nat.{div-add-mod'}
 use native.Mathlib.Omega.{arith}
-use borrow.Author.Tests.{ltb-false, lt-ltb, le-ltb, leb-true, eqb-true, not-false}
+use borrow.Author.Tests.{le-leb, lt-leb, ltb-false, lt-ltb, le-ltb, leb-true, eqb-true, not-false}
 use lib.Dec.{leb, lit≤}
 use lib.ListN.{length, length-replicate}
 use Rattle.reference.specs.Frames.{Run, idle, frame-length, frame-count, neighbour, before-frame}
@@ -98,15 +98,29 @@ error-refuses error.Schedule = refl
 error-refuses (error.Before n) = refl
 error-refuses (error.After n) = refl
 error-refuses error.Desk = refl
+error-refuses error.Taps = refl
+error-refuses error.TapSums = refl
 error-refuses error.Sheet = refl
+
+-- ---- a number from 1 to k: none, more, or so many
+
+module _ (k n : ℕ) where
+  pub below-range : n < 1 → not (leb 1 n && leb n k) ≡ true
+  below-range l = rw (lt-leb 1 n l)
+
+  pub above-range : 1 ≤ n → k < n → not (leb 1 n && leb n k) ≡ true
+  above-range l m = rw (le-leb 1 n l, lt-leb n k m)
+
+  pub in-range : 1 ≤ n → n ≤ k → not (leb 1 n && leb n k) ≡ false
+  in-range l m = rw (le-leb 1 n l, le-leb n k m)
 
 -- ---- what an accepted converter and an accepted run have
 
-and-left : (a b : Bool) → a && b ≡ true → a ≡ true
+pub and-left : (a b : Bool) → a && b ≡ true → a ≡ true
 and-left true b e = refl
 and-left false b e = e
 
-and-right : (a b : Bool) → a && b ≡ true → b ≡ true
+pub and-right : (a b : Bool) → a && b ≡ true → b ≡ true
 and-right true b e = e
 and-right false b e = let z : _≡_ {A = ℕ} 0 1 = cc in absurd (omega arith)
 

@@ -12,11 +12,9 @@ use Rattle.numbers.specs.Lists.{total}
 use Rattle.numbers.proofs.Integers.{abs-add}
 use Rattle.numbers.proofs.Sums.{sum-size}
 use Rattle.reference.specs.Taps.{S1, S1-WIDE, HB, F40, F30, F80}
-use Rattle.reference.specs.Stages.{tap, M, fir, bit, sign, x, u, v, w, between, y-narrow, y-wide, y}
+use Rattle.reference.specs.Stages.{tap, M, fir, bit, sign, x, u, v, w, between, y-narrow, y-wide}
 use Rattle.reference.specs.declared.PcmRate.{PcmRate}
 use Rattle.reference.specs.declared.PcmRate.the-variants.{Hz88200, Hz176400, Hz352800}
-use Rattle.reference.specs.declared.Cutoff.{Cutoff}
-use Rattle.reference.specs.declared.Cutoff.the-variants.{Standard, Low, Wide}
 use Rattle.reference.proofs.Rounding.{R-size}
 
 -- the sizes of the taps added up, over |t| ≤ M: the centre once, the rest twice
@@ -121,14 +119,8 @@ y-narrow-size Hz352800 F small β n =
 pub wide-sum-size : (h : List ℤ) → absolute-sum h ≤ 40100000 → (β : ℕ → ℕ) (c : ℕ) → natAbs (fir h (u S1-WIDE β) c) < 2 ^ 52
 wide-sum-size h small β c = omega (arith, fir-size h (u S1-WIDE β) c 96336740 (u-WIDE-size β), mul-le-mul-right 96336740 small)
 
-y-wide-size : (rate : PcmRate) (β : ℕ → ℕ) (n : ℕ) → natAbs (y-wide rate β n) < 2 ^ 30
+pub y-wide-size : (rate : PcmRate) (β : ℕ → ℕ) (n : ℕ) → natAbs (y-wide rate β n) < 2 ^ 30
 unfolding y-wide
 y-wide-size Hz88200 β n = lit< tt
 y-wide-size Hz176400 β n = omega (arith, R-size (fir F80 (u S1-WIDE β) (2 * n)) 24, wide-sum-size F80 F80-sum β (2 * n))
 y-wide-size Hz352800 β n = omega (arith, R-size (fir F40 (u S1-WIDE β) n) 24, wide-sum-size F40 (omega (arith, F40-sum)) β n)
-
-pub y-size : (rate : PcmRate) (cutoff : Cutoff) (β : ℕ → ℕ) (n : ℕ) → natAbs (y rate cutoff β n) < 2 ^ 30
-unfolding y
-y-size rate Standard β n = y-narrow-size rate F40 F40-sum β n
-y-size rate Low β n = y-narrow-size rate F30 F30-sum β n
-y-size rate Wide β n = y-wide-size rate β n

@@ -8,7 +8,7 @@ use lib.ListN.{length, getD}
 use Rattle.numbers.specs.Extremes.{lesser, greater, extreme0}
 use Rattle.numbers.specs.Lists.{tabulate, total, count}
 use Rattle.reference.specs.Frames.{Run, frame-count, sequence, channel-byte}
-use Rattle.reference.specs.Stages.{y}
+use Rattle.reference.specs.Stages.{taps-of, y}
 use Rattle.reference.specs.Scaling.{scaled, clamp, clips}
 use Rattle.reference.specs.declared.PcmRate.{PcmRate}
 use Rattle.reference.specs.declared.PcmRate.the-variants.{Hz88200, Hz176400, Hz352800}
@@ -28,7 +28,7 @@ module _ (conv : Converter) (r : Run) where
   unfoldable pub unclamped : ℕ → ℕ → ℤ
   unclamped c n =
       scaled (conv .gain .linear)
-      (y (conv .rate) (conv .cutoff) (channel-byte (conv .channels) (sequence (conv .channels) r) c) (samples-per-frame (conv .rate) + n))
+      (y (conv .rate) (conv .cutoff) (taps-of (conv .filter)) (channel-byte (conv .channels) (sequence (conv .channels) r) c) (samples-per-frame (conv .rate) + n))
 
   unfoldable pub sample : ℕ → ℕ → ℤ
   sample c n = clamp (unclamped c n)

@@ -8,10 +8,12 @@ use lib.Ieee.{Float}
 use lib.ListN.{length, take, drop}
 use Rattle.reference.specs.Frames.{Run, frame-count}
 use Rattle.reference.specs.Scaling.{db-to-linear}
-use Rattle.reference.specs.Settings.{converter-of}
-use Rattle.reference.specs.Output.{samples, stats, per-frame-clips, s24le}
+use Rattle.reference.specs.Stages.{taps-of}
+use Rattle.reference.specs.Settings.{converter-of, with-filter, reach-of}
+use Rattle.reference.specs.Output.{unclamped, samples, stats, per-frame-clips, s24le}
 use Rattle.reference.specs.Statistics.{no-stats}
-use Rattle.reference.specs.Refusals.{rack, desk, most, Decision, accepted, refused, Place, decide, decision, gain-decision, gain-places, opening-places, convert-run-places, convert-places, convert-frame-places}
+use Rattle.reference.specs.Refusals.{rack, desk, most, Decision, accepted, refused, Place, decide, decision, gain-decision, gain-places, opening-places, held-places, convert-run-places, convert-places, convert-frame-places}
+use Rattle.reference.specs.declared.Filter.{Filter}
 use Rattle.reference.specs.declared.Settings.{Settings}
 use Rattle.reference.specs.declared.Converter.{Converter}
 use Rattle.reference.specs.declared.Limit.{Limit}
@@ -75,6 +77,14 @@ abbrev pub DeskAsRack : Type 0
 DeskAsRack =
     (conv : Converter) (r : Run) (lent : Bool) (out counts o o' c c' : List ℕ) (a b : Converted) → frame-count (conv .channels) (r .frames) ≤ most desk
     → ConvertPromise conv r lent out counts o c a → DeskPromise conv r lent out counts o' c' b → (a ≡ b) × (o ≡ o') × (c ≡ c')
+
+-- request 10: the places of a filter record past its number of taps are free. With another record of the same taps a converter is accepted or refused
+-- alike, has the same reach, and gives the same before the clamp, on which samples, bytes and statistics stand. Proved in proofs/Filters
+abbrev pub FilterPlacesFree : Type 0
+FilterPlacesFree =
+    (conv : Converter) (f : Filter) → f .count ≡ conv .filter .count → taps-of f ≡ taps-of (conv .filter) → (r : Run)
+    → (decide (held-places (with-filter f conv)) ≡ decide (held-places conv)) × (reach-of (with-filter f conv) ≡ reach-of conv)
+    × (unclamped (with-filter f conv) r ≡ unclamped conv r)
 
 -- ---- `pack_s24le`
 

@@ -3,17 +3,20 @@ use mathlib.Core.List.{List, [], _∷_, _++_}
 use mathlib.Core.Bool.{Bool, true, false, cond, not, _&&_}
 use Prim.Native.Nat.{ℕ, _*_, _%_}
 use lib.Dec.{eqb, ltb, leb}
-use lib.IntN.{ℤ}
+use lib.IntN.{ℤ, pos}
 use lib.ListN.{length}
 use lib.Ieee.{Float}
+use lib.Signed.{leZ}
 use Rattle.reference.specs.Frames.{Run, frame-length, frame-count}
+use Rattle.reference.specs.Stages.{taps-of, whole-sum, whole-size}
 use Rattle.reference.specs.Scaling.{allowed, right-gain}
-use Rattle.reference.specs.Settings.{held-settings}
+use Rattle.reference.specs.Settings.{filter-of, held-settings}
 use Rattle.reference.specs.Output.{all-samples}
 use Rattle.reference.specs.declared.PcmRate.{PcmRate}
 use Rattle.reference.specs.declared.PcmRate.the-variants.{Hz88200, Hz176400, Hz352800}
 use Rattle.reference.specs.declared.Cutoff.{Cutoff}
 use Rattle.reference.specs.declared.Cutoff.the-variants.{Standard, Low, Wide}
+use Rattle.reference.specs.declared.Filter.{Filter}
 use Rattle.reference.specs.declared.Settings.{Settings}
 use Rattle.reference.specs.declared.Converter.{Converter}
 use Rattle.reference.specs.declared.Limit.{Limit}
@@ -66,6 +69,8 @@ error-decision error.Schedule = refused 19 []
 error-decision (error.Before n) = refused 13 (number n ∷ [])
 error-decision (error.After n) = refused 14 (number n ∷ [])
 error-decision error.Desk = refused 16 []
+error-decision error.Taps = refused 17 []
+error-decision error.TapSums = refused 18 []
 error-decision error.Sheet = refused 20 []
 
 abbrev pub decision : Verdict → Decision
@@ -110,13 +115,24 @@ unsupported Hz88200 Low = false
 unsupported Hz176400 c = false
 unsupported Hz352800 c = false
 
+-- centre plus twice the rest is 16,777,216, and the absolute sum at most 40,000,000
+unfoldable pub right-sums : List ℤ → Bool
+right-sums h = leZ (whole-sum h) (pos 16777216) && leZ (pos 16777216) (whole-sum h) && leb (whole-size h) 40000000
+
+-- a filter: the number of its taps, then their sums
+unfoldable pub filter-places : Filter → List Place
+filter-places f =
+    place (not (leb 1 (f .count) && leb (f .count) 117)) 17 []
+    ∷ place (not (right-sums (taps-of f))) 18 []
+    ∷ []
+
 -- opening
 unfoldable pub opening-places : Settings → List Place
 opening-places s =
     place (not (leb 1 (s .channels) && leb (s .channels) 6)) 1 (number (s .channels) ∷ [])
     ∷ place (unsupported (s .rate) (s .cutoff)) 2 (rate (s .rate) ∷ cutoff (s .cutoff) ∷ [])
     ∷ place (not (right-gain (s .gain))) 3 (decibels (s .gain .db) ∷ [])
-    ∷ []
+    ∷ filter-places (filter-of s)
 
 -- and again in each conversion, on the converter as held
 abbrev pub held-places : Converter → List Place

@@ -4,11 +4,13 @@ use mathlib.Core.List.{List}
 use mathlib.Core.Bool.{cond}
 use Prim.Native.Nat.{ℕ, zero, suc, _+_, _-_, _*_, _/_, _%_, _^_}
 use lib.Dec.{eqb}
-use lib.IntN.{ℤ, pos, negsuc, _+ℤ_, _*ℤ_}
-use lib.ListN.{length, getD}
+use lib.IntN.{ℤ, pos, negsuc, natAbs, _+ℤ_, _*ℤ_}
+use lib.ListN.{length, getD, take}
+use Rattle.numbers.specs.Lists.{total}
 use Rattle.numbers.specs.Sums.{sumTo, apart}
 use Rattle.reference.specs.Rounding.{R}
 use Rattle.reference.specs.Taps.{S1, S1-WIDE, HB, F40, F30, F80}
+use Rattle.reference.specs.declared.Filter.{Filter}
 use Rattle.reference.specs.declared.PcmRate.{PcmRate}
 use Rattle.reference.specs.declared.PcmRate.the-variants.{Hz88200, Hz176400, Hz352800}
 use Rattle.reference.specs.declared.Cutoff.{Cutoff}
@@ -23,6 +25,18 @@ tap h k = getD h k (pos 0)
 -- M, the last place of a table of taps
 abbrev pub M : List ℤ → ℕ
 M h = length h - 1
+
+-- the taps of a filter record: of its 117 places the first `count`. The others are free
+unfoldable pub taps-of : Filter → List ℤ
+taps-of f = take (f .count) (take 117 (f .taps))
+
+-- centre plus twice the rest
+unfoldable pub whole-sum : List ℤ → ℤ
+whole-sum h = tap h 0 +ℤ sumTo (M h) (λ k. tap h (1 + k)) *ℤ pos 2
+
+-- the absolute sum: the centre once, the rest twice
+unfoldable pub whole-size : List ℤ → ℕ
+whole-size h = natAbs (tap h 0) + 2 * total (λ k. natAbs (tap h k)) 1 (M h)
 
 -- sum over |t| ≤ M of h(|t|) × s(c + t), where t = k - M
 unfoldable pub fir : List ℤ → (ℕ → ℤ) → ℕ → ℤ
@@ -75,19 +89,20 @@ y-wide Hz88200 β n = pos 0
 y-wide Hz176400 β n = R (fir F80 (u S1-WIDE β) (2 * n)) 24
 y-wide Hz352800 β n = R (fir F40 (u S1-WIDE β) n) 24
 
-unfoldable pub y : PcmRate → Cutoff → (ℕ → ℕ) → ℕ → ℤ
-y rate Standard β n = y-narrow rate F40 β n
-y rate Low β n = y-narrow rate F30 β n
-y rate Wide β n = y-wide rate β n
+-- y(n) with the low-pass F of Standard; Low has F30
+unfoldable pub y : PcmRate → Cutoff → List ℤ → (ℕ → ℕ) → ℕ → ℤ
+y rate Standard F β n = y-narrow rate F β n
+y rate Low F β n = y-narrow rate F30 β n
+y rate Wide F β n = y-wide rate β n
 
--- ---- document 01's reach: bytes of each channel, before and after a stretch of frames, that its samples may depend on
-unfoldable pub reach : PcmRate → Cutoff → ℕ
-reach Hz88200 Standard = 139
-reach Hz176400 Standard = 139
-reach Hz352800 Standard = 155
-reach Hz88200 Low = 179
-reach Hz176400 Low = 179
-reach Hz352800 Low = 195
-reach Hz88200 Wide = 0
-reach Hz176400 Wide = 122
-reach Hz352800 Wide = 66
+-- ---- document 01's reach: bytes of each channel, before and after a stretch of frames, that its samples may depend on. With the low-pass F of Standard
+unfoldable pub reach : PcmRate → Cutoff → List ℤ → ℕ
+reach Hz88200 Standard F = 2 * M F + 19
+reach Hz176400 Standard F = 2 * M F + 19
+reach Hz352800 Standard F = 2 * M F + 35
+reach Hz88200 Low F = 179
+reach Hz176400 Low F = 179
+reach Hz352800 Low F = 195
+reach Hz88200 Wide F = 0
+reach Hz176400 Wide F = 122
+reach Hz352800 Wide F = 66

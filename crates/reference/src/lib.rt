@@ -3,8 +3,10 @@ ghost use mathlib.Core.Path.{_≡_};
 ghost use Prim.Native.Nat.{_≤_};
 ghost use Rattle.numbers.specs.Extremes as extremes;
 ghost use Rattle.reference.specs.Output.{samples-per-frame};
-ghost use Rattle.reference.specs.Settings.{converter-of};
+ghost use Rattle.reference.specs.Settings.{built-in, filter-of, converter-of};
 ghost use Rattle.reference.specs.Statistics.{no-stats};
+
+mod taps;
 
 // Bytes of one channel in a frame.
 pub const FRAME_BYTES: usize = 4704;
@@ -41,12 +43,28 @@ pub struct Gain {
     pub linear: f64,
 }
 
-// What opening is given.
+// A low-pass: its first `count` taps, from the centre outwards. The places past them are free.
+pub struct Filter {
+    pub taps: [i32; 117],
+    pub count: usize,
+}
+
+// F40.
+pub fn built_in() -> Filter
+    ensures { λ r. ⌜ r ≡ built-in ⌝ }
+{
+    let taps = taps::F40;
+    Filter { taps, count: 61 }
+}
+
+// What opening is given: with a filter if `own` says so, else its record is not read.
 pub struct Settings {
     pub rate: PcmRate,
     pub cutoff: Cutoff,
     pub channels: u8,
     pub gain: Gain,
+    pub own: bool,
+    pub filter: Filter,
 }
 
 // What opening gives, and each conversion is given.
@@ -55,6 +73,17 @@ pub struct Converter {
     pub cutoff: Cutoff,
     pub channels: u8,
     pub gain: Gain,
+    pub filter: Filter,
+}
+
+// The filter given, or F40.
+pub fn filter_of(settings: Settings) -> Filter
+    ensures { λ r. ⌜ r ≡ filter-of settings ⌝ }
+{
+    if settings.own {
+        return settings.filter;
+    }
+    built_in()
 }
 
 pub fn converter_of(settings: Settings) -> Converter
@@ -63,11 +92,13 @@ pub fn converter_of(settings: Settings) -> Converter
     let rate = settings.rate;
     let cutoff = settings.cutoff;
     let gain = settings.gain;
+    let filter = filter_of(settings);
     Converter {
         rate,
         cutoff,
         channels: settings.channels,
         gain,
+        filter,
     }
 }
 
@@ -161,6 +192,9 @@ pub enum PcmError {
     After(usize),
     // More frames than the listening desk takes.
     Desk,
+    // Of a filter: the number of its taps, their sums.
+    Taps,
+    TapSums,
     // A number too wide for its column of the level sheet.
     Sheet,
 }

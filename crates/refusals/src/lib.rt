@@ -57,7 +57,8 @@ pub fn opening(settings: Settings) -> Verdict
     }
     let gain = settings.gain;
     if gain::right_gain(gain) {
-        return Verdict::Accepted;
+        let filter = reference::filter_of(settings);
+        return label_taps::filter(filter);
     }
     let db = gain.db;
     Verdict::Refused(PcmError::Gain(db))
@@ -70,11 +71,14 @@ pub fn held(conv: Converter) -> Verdict
     let rate = conv.rate;
     let cutoff = conv.cutoff;
     let gain = conv.gain;
+    let filter = conv.filter;
     opening(Settings {
         rate,
         cutoff,
         channels: conv.channels,
         gain,
+        own: true,
+        filter,
     })
 }
 

@@ -7,11 +7,12 @@ use lib.IntN.{ℤ, pos}
 use lib.ListN.{length}
 use Rattle.numbers.specs.Lists.{Held}
 use Rattle.reference.specs.Taps.{S1, S1-WIDE, F40, F30, F80}
-use Rattle.reference.specs.Stages.{M, u, v, w, y-narrow, y-wide}
+use Rattle.reference.specs.Stages.{taps-of, M, u, v, w, y-narrow, y-wide}
 use Rattle.reference.specs.declared.PcmRate.{PcmRate}
 use Rattle.reference.specs.declared.PcmRate.the-variants.{Hz88200, Hz176400, Hz352800}
 use Rattle.reference.specs.declared.Cutoff.{Cutoff}
 use Rattle.reference.specs.declared.Cutoff.the-variants.{Standard, Low, Wide}
+use Rattle.reference.specs.declared.Converter.{Converter}
 use Rattle.reference.proofs.Sizes.{absolute-sum}
 use Rattle.tables.specs.Tables.{ByteTables}
 use Rattle.filters.specs.Filters.{even-taps, odd-taps, Filter}
@@ -33,13 +34,17 @@ LastFilter Hz88200 Wide F = ⊥
 LastFilter Hz176400 Wide F = F ≡ F80
 LastFilter Hz352800 Wide F = F ≡ F40
 
--- the last filters of the reference; opening refuses Wide at 88,200
-unfoldable pub last-taps : PcmRate → Cutoff → List ℤ
-last-taps rate Standard = F40
-last-taps rate Low = F30
-last-taps Hz88200 Wide = F40
-last-taps Hz176400 Wide = F80
-last-taps Hz352800 Wide = F40
+-- the last filters of the reference, with the low-pass F of Standard; opening refuses Wide at 88,200
+unfoldable pub last-taps : PcmRate → Cutoff → List ℤ → List ℤ
+last-taps rate Standard F = F
+last-taps rate Low F = F30
+last-taps Hz88200 Wide F = F40
+last-taps Hz176400 Wide F = F80
+last-taps Hz352800 Wide F = F40
+
+-- a converter's
+abbrev pub last-of : Converter → List ℤ
+last-of conv = last-taps (conv .rate) (conv .cutoff) (taps-of (conv .filter))
 
 -- the byte tables of the first stage
 unfoldable pub FirstTables : Cutoff → List ℤ → Type 0

@@ -12,10 +12,11 @@ use lib.Ieee.{binary64, fits}
 use Rattle.numbers.specs.Extremes.{lesser, greater, extreme0}
 use Rattle.numbers.specs.Lists.{tabulate, total, count}
 use Rattle.reference.specs.Frames.{Run, run, frame-length, frame-count, neighbour, sequence, channel-byte}
-use Rattle.reference.specs.Stages.{y}
+use Rattle.reference.specs.Stages.{taps-of, y}
+use Rattle.reference.specs.Settings.{filter-of}
 use Rattle.reference.specs.Scaling.{scaled, clamp, clips, right-gain}
 use Rattle.reference.specs.Output.{samples-per-frame, unclamped, sample, clipped, item, channel-samples, all-samples, samples, channel-clips, channel-extreme, channel-empty, stats, frame-clips, per-frame-clips, s24le}
-use Rattle.reference.specs.Refusals.{rack, accepted, decide, Datum, Place, if-present, one-long, run-length, opening-places, input-places, unsupported}
+use Rattle.reference.specs.Refusals.{rack, accepted, decide, Datum, Place, if-present, one-long, run-length, filter-places, opening-places, input-places, unsupported}
 use Rattle.reference.specs.declared.Converter.{Converter}
 use Rattle.reference.specs.declared.ConvertStats.{ConvertStats}
 use Rattle.reference.proofs.Refusals.{pass, some-channel, few-channels, whole-frames, few-frames}
@@ -24,14 +25,14 @@ use Rattle.gain.proofs.Records.{right-bounded}
 use Rattle.runs.specs.Loops.{Ran}
 use Rattle.workspace.specs.Accepted.{Accepted}
 use Rattle.scarletbook_pcm.specs.Calls.{AcceptedCall, present}
-use Rattle.routes.proofs.Routes.{last-filter}
+use Rattle.routes.proofs.Routes.{few-taps, low-pass, last-filter}
 
 -- ---- what depends on the sequence and the frames alone
 
 module _ (conv : Converter) (r q : Run) (e : sequence (conv .channels) r ≡ sequence (conv .channels) q) (g : r .frames ≡ q .frames) where
   unclamped-same : unclamped conv r ≡ unclamped conv q
   unfolding unclamped
-  unclamped-same = ap {B = ℕ → ℕ → ℤ} (λ (l : List ℕ). λ c n. scaled (conv .gain .linear) (y (conv .rate) (conv .cutoff) (channel-byte (conv .channels) l c) (samples-per-frame (conv .rate) + n))) e
+  unclamped-same = ap {B = ℕ → ℕ → ℤ} (λ (l : List ℕ). λ c n. scaled (conv .gain .linear) (y (conv .rate) (conv .cutoff) (taps-of (conv .filter)) (channel-byte (conv .channels) l c) (samples-per-frame (conv .rate) + n))) e
 
   pub samples-same : samples conv r ≡ samples conv q
   unfolding samples item sample all-samples channel-samples
@@ -108,8 +109,19 @@ module _ (conv : Converter) (hb : Bool) (b f : List ℕ) (ha : Bool) (a : List �
   unfolding opening-places
   right = not-false _ (pass _ _ (pass _ _ (pass _ _ (ok .opens) .1) .1) .0)
 
-  pub slices-accepted : T (fits binary64 (conv .gain .linear)) → Accepted conv (frame-count (conv .channels) f) (present hb b) f (present ha a)
-  slices-accepted h = record { slices = lent; last = last-filter (conv .rate) (conv .cutoff) supported; factor = right-bounded (conv .gain) h right }
+  filtered : decide (filter-places (conv .filter)) ≡ accepted
+  unfolding opening-places filter-of
+  filtered = pass _ _ (pass _ _ (pass _ _ (ok .opens) .1) .1) .1
+
+  -- its record's array has 117 places
+  pub slices-accepted : T (fits binary64 (conv .gain .linear)) → length (conv .filter .taps) ≡ 117 → Accepted conv (frame-count (conv .channels) f) (present hb b) f (present ha a)
+  slices-accepted h long =
+      record {
+        slices = lent;
+        few-taps = few-taps (conv .filter) filtered;
+        last = last-filter (conv .rate) (conv .cutoff) (taps-of (conv .filter)) (low-pass (conv .filter) filtered long) supported;
+        factor = right-bounded (conv .gain) h right;
+      }
 
   module _ {packed : Bool} {told : ConvertStats} {out out' : List ℤ} {raw raw' counts counts' : List ℕ} (ran : Ran packed conv (lent-run (present hb b) f (present ha a)) told out out' raw raw' counts counts') where
     pub ran-items : packed ≡ false → out' ≡ samples conv (run hb b f ha a)

@@ -1,12 +1,15 @@
 // The converter's calls. None asks anything: a call that document 01's table turns down is refused, and all lent memory keeps its contents.
 ghost use mathlib.Core.Path.{_≡_};
+ghost use Prim.Native.Nat.{_≤_};
 ghost use Rattle.reference.specs.Frames.{run};
 ghost use Rattle.reference.specs.Output as output;
-ghost use Rattle.reference.specs.Stages.{reach};
+ghost use Rattle.reference.specs.Stages.{taps-of, M};
+ghost use Rattle.reference.specs.Settings.{reach-of};
 ghost use Rattle.reference.specs.Promises.{OpeningPromise, ConvertRunPromise, ConvertFramePromise, BytesPromise, ConvertPromise, DeskPromise, PackPromise};
 use reference::Converted;
 use reference::Converter;
 use reference::Cutoff;
+use reference::Filter;
 use reference::Limit;
 use reference::Opened;
 use reference::PcmRate;
@@ -33,17 +36,32 @@ pub fn samples_per_frame(rate: PcmRate) -> usize
     reference::samples_per_frame(rate)
 }
 
+// M of a filter record of any number of taps: those past 117 are not there.
+fn last_tap(filter: Filter) -> usize
+    ensures { λ r. ⌜ (r ≡ M (taps-of filter)) × (r ≤ 116) ⌝ }
+{
+    if filter.count > 117 {
+        return 116;
+    }
+    if filter.count == 0 {
+        return 0;
+    }
+    filter.count - 1
+}
+
 // Bytes of each channel before and after a stretch of frames that its samples may depend on.
 pub fn context_bytes(conv: Converter) -> usize
-    ensures { λ r. ⌜ r ≡ reach (conv .rate) (conv .cutoff) ⌝ }
+    ensures { λ r. ⌜ r ≡ reach-of conv ⌝ }
 {
     let rate = conv.rate;
     let cutoff = conv.cutoff;
+    let filter = conv.filter;
+    let m = last_tap(filter);
     match cutoff {
         Cutoff::Standard => match rate {
-            PcmRate::Hz88200 => 139,
-            PcmRate::Hz176400 => 139,
-            PcmRate::Hz352800 => 155,
+            PcmRate::Hz88200 => 2 * m + 19,
+            PcmRate::Hz176400 => 2 * m + 19,
+            PcmRate::Hz352800 => 2 * m + 35,
         },
         Cutoff::Low => match rate {
             PcmRate::Hz88200 => 179,

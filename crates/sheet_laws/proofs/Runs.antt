@@ -14,13 +14,15 @@ use Rattle.numbers.proofs.Extremes.{Best, least-best, greatest-best, picked-in}
 use Rattle.numbers.proofs.Lists.{getD-tabulate, count-few}
 use Rattle.reference.specs.Frames.{Run}
 use Rattle.reference.specs.Output.{samples-per-frame, unclamped, clipped, channel-samples, channel-clips, channel-extreme, stats}
-use Rattle.reference.specs.Refusals.{Datum, rack, accepted, refused, refusal-number, decide, opening-places, lent-length}
+use Rattle.reference.specs.Refusals.{Datum, rack, accepted, refused, refusal-number, decide, opening-places, filter-places, unsupported, lent-length}
+use Rattle.reference.specs.Settings.{filter-of}
+use Rattle.reference.specs.Stages.{taps-of, y}
 use Rattle.reference.specs.Scaling.{right-gain, scaled}
 use Rattle.reference.specs.declared.Converter.{Converter}
 use Rattle.reference.specs.declared.PcmRate.{PcmRate}
 use Rattle.reference.specs.declared.PcmRate.the-variants.{Hz88200, Hz176400, Hz352800}
 use Rattle.reference.proofs.Refusals.{pass, few-frames}
-use Rattle.reference.proofs.Sizes.{y-size}
+use Rattle.routes.proofs.Routes.{low-pass, last-filter, y-of-is, y-of-size}
 use Rattle.gain.proofs.Records.{right-bounded}
 use Rattle.gain.proofs.Scaling.{scaled-small}
 use Rattle.joins.specs.Joins.{AcceptedConverter, AcceptedRun}
@@ -42,13 +44,26 @@ module _ (conv : Converter) (r : Run) (held : Held conv) (ok : AcceptedConverter
   unfolding opening-places
   right = not-false _ (pass _ _ (pass _ _ (pass _ _ (ok .opens) .1) .1) .0)
 
+  supported : unsupported (conv .rate) (conv .cutoff) ≡ false
+  unfolding opening-places
+  supported = pass _ _ (pass _ _ (ok .opens) .1) .0
+
+  filtered : decide (filter-places (conv .filter)) ≡ accepted
+  unfolding opening-places filter-of
+  filtered = pass _ _ (pass _ _ (pass _ _ (ok .opens) .1) .1) .1
+
+  y-small : (β : ℕ → ℕ) (n : ℕ) → natAbs (y (conv .rate) (conv .cutoff) (taps-of (conv .filter)) β n) < 2 ^ 30
+  y-small β n =
+      rw (← y-of-is (conv .rate) (conv .cutoff) (taps-of (conv .filter)) β n)
+      (y-of-size (conv .rate) (conv .cutoff) _ (last-filter (conv .rate) (conv .cutoff) (taps-of (conv .filter)) (low-pass (conv .filter) filtered (held .1)) supported) β n)
+
   -- ---- sizes
   scaled-within : (y : ℤ) → natAbs y < 2 ^ 30 → natAbs (scaled (conv .gain .linear) y) < 10 ^ 11
-  scaled-within y h = omega (arith, scaled-small y (conv .gain .linear) (omega arith) (right-bounded (conv .gain) held right))
+  scaled-within y h = omega (arith, scaled-small y (conv .gain .linear) (omega arith) (right-bounded (conv .gain) (held .0) right))
 
   unclamped-small : (c n : ℕ) → natAbs (unclamped conv r c n) < 10 ^ 11
   unfolding unclamped
-  unclamped-small c n = scaled-within _ (y-size (conv .rate) (conv .cutoff) _ _)
+  unclamped-small c n = scaled-within _ (y-small _ _)
 
   samples-few : channel-samples conv r ≤ 540000 * 4704
   unfolding channel-samples

@@ -4,6 +4,7 @@ use mathlib.Core.Bool.{false}
 use mathlib.Core.List.{List, map}
 use Prim.Native.Nat.{ℕ, _≤_}
 use lib.Dec.{T}
+use lib.ListN.{length}
 use lib.Ieee.{binary64, fits}
 use Rattle.reference.specs.Frames.{Run}
 use Rattle.reference.specs.Output.{stats}
@@ -15,9 +16,9 @@ use Rattle.stretches.specs.Joining.{joined-on}
 use Rattle.sheet.specs.Sheet.{sheet, sheet-too-wide}
 use Rattle.sheet.specs.Promises.{sheet-places}
 
--- the factor is a binary64, as every float that a program holds
+-- as every program holds a converter: the factor is a binary64, and the filter's array has 117 places
 abbrev pub Held : Converter → Type 0
-Held conv = T (fits binary64 (conv .gain .linear))
+Held conv = T (fits binary64 (conv .gain .linear)) × (length (conv .filter .taps) ≡ 117)
 
 -- every number that an accepted run can give fits its column, whichever channels are printed
 abbrev pub NumbersFit : Type 0

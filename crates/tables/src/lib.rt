@@ -1,18 +1,11 @@
-// Tap tables of tables.rs, and the byte tables that `lut` makes of its first two. A `const` array that is indexed is made anew at each
+// Tap tables of tables.rs (F40 is `reference::built_in`), and the byte tables that `lut` makes of its first two. A `const` array that is indexed is made anew at each
 // use: a caller binds a table once, by these functions, and lends it.
 ghost use mathlib.Core.Path.{_≡_};
-ghost use Rattle.reference.specs.Taps.{S1, S1-WIDE, F40, F30, F80};
+ghost use Rattle.reference.specs.Taps.{S1, S1-WIDE, F30, F80};
 ghost use Rattle.tables.specs.Tables.{ByteTables};
 
 mod bytes;
 mod taps;
-
-// Low-pass of Standard, and of Wide at 352,800.
-pub fn f40() -> [i32; 61]
-    ensures { λ r. ⌜ r ≡ F40 ⌝ }
-{
-    taps::F40
-}
 
 // Low-pass of Low.
 pub fn f30() -> [i32; 81]

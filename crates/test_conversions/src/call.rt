@@ -37,11 +37,14 @@ fn cutoff(route: u64) -> Cutoff {
 pub fn settings(route: u64, channels: u64, gain: Gain) -> Settings {
     let rate = rate(route);
     let cutoff = cutoff(route);
+    let filter = reference::built_in();
     Settings {
         rate,
         cutoff,
         channels: (channels % 256) as u8,
         gain,
+        own: false,
+        filter,
     }
 }
 

@@ -12,40 +12,53 @@ fn standard() -> Converter {
     call::converter(0, 1, gain)
 }
 
-// A call with both neighbours and the counts lent: the lengths of before, run, after, output and counts.
-fn call<'a>(
+// A call with both neighbours and the counts lent.
+fn done<'a>(
     desk: bool,
-    lengths: &[u64],
-    s: &'a [u8],
+    before: &'a [u8],
+    frames: &'a [u8],
+    after: &'a [u8],
     raw: &mut [u8],
     counts: &mut [u64],
 ) -> Converted {
-    let b = test_support::of_bytes(at(lengths, 0), s);
-    let f = test_support::of_bytes(at(lengths, 1), s);
-    let a = test_support::of_bytes(at(lengths, 2), s);
-    let r = test_support::of_bytes(at(lengths, 3), raw);
-    let c = test_support::of_numbers(at(lengths, 4), counts);
     if desk {
         return scarletbook_pcm::convert_desk_of(
             standard(),
             true,
-            &s[..b],
-            &s[..f],
+            before,
+            frames,
             true,
-            &s[..a],
+            after,
             true,
-            &mut raw[..r],
-            &mut counts[..c],
+            raw,
+            counts,
         );
     }
     scarletbook_pcm::convert_of(
         standard(),
         true,
+        before,
+        frames,
+        true,
+        after,
+        true,
+        raw,
+        counts,
+    )
+}
+
+// Such a call by the lengths of before, run, after, output and counts.
+fn call(desk: bool, lengths: &[u64], s: &[u8], raw: &mut [u8], counts: &mut [u64]) -> Converted {
+    let b = test_support::of_bytes(at(lengths, 0), s);
+    let f = test_support::of_bytes(at(lengths, 1), s);
+    let a = test_support::of_bytes(at(lengths, 2), s);
+    let r = test_support::of_bytes(at(lengths, 3), raw);
+    let c = test_support::of_numbers(at(lengths, 4), counts);
+    done(
+        desk,
         &s[..b],
         &s[..f],
-        true,
         &s[..a],
-        true,
         &mut raw[..r],
         &mut counts[..c],
     )

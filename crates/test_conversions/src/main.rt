@@ -1,7 +1,9 @@
-// The conversions beside what the original gives (data/, written by compare/answers.sh; its headers by compare/wav/headers.py), the figures of document 01 and its table of refusals.
+// The conversions beside what the original gives (data/, written by compare/answers.sh; its headers by compare/wav/headers.py), the figures of document 01, its table of refusals, and
+// labels' own filters (data/filters, by compare/filters.py).
 mod call;
 mod desk;
 mod document;
+mod filters;
 mod input;
 mod refusals;
 mod replay;
@@ -12,4 +14,5 @@ fn main() {
     document::figures();
     refusals::refusals();
     desk::desk();
+    filters::own();
 }

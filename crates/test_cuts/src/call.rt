@@ -22,11 +22,13 @@ pub fn standard() -> Converter {
     let gain = louder();
     let rate = PcmRate::Hz88200;
     let cutoff = Cutoff::Standard;
+    let filter = reference::built_in();
     Converter {
         rate,
         cutoff,
         channels: 2,
         gain,
+        filter,
     }
 }
 

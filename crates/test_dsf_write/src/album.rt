@@ -14,11 +14,13 @@ fn converter() -> Converter {
     };
     let rate = PcmRate::Hz88200;
     let cutoff = Cutoff::Standard;
+    let filter = reference::built_in();
     Converter {
         rate,
         cutoff,
         channels: 2,
         gain,
+        filter,
     }
 }
 

@@ -97,6 +97,8 @@ pub fn error(e: PcmError) -> Told
         PcmError::Before(n) => refusal(13, n as u64, 0),
         PcmError::After(n) => refusal(14, n as u64, 0),
         PcmError::Desk => refusal(16, 0, 0),
+        PcmError::Taps => refusal(17, 0, 0),
+        PcmError::TapSums => refusal(18, 0, 0),
         PcmError::Sheet => refusal(20, 0, 0),
     }
 }

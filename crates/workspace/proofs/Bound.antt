@@ -11,7 +11,7 @@ use Rattle.numbers.specs.Sums.{at0}
 use Rattle.reference.specs.declared.Converter.{Converter}
 use Rattle.filters.specs.Filters.{Filled}
 use Rattle.filters.proofs.Signals.{is-even, is-odd}
-use Rattle.routes.specs.Routes.{FirstTables, last-taps, halves-of, lent-taps}
+use Rattle.routes.specs.Routes.{FirstTables, last-of, halves-of, lent-taps}
 use Rattle.blocks.specs.Blocks.{Ready}
 use Rattle.workspace.specs.Accepted.{Accepted}
 
@@ -28,5 +28,5 @@ halves-bound f rest {new = new} {new' = new'} g e g' e' =
 
 -- the taps F that are bound are the route's
 pub made-ready : {conv : Converter} {n : ℕ} {b f a : List ℕ} {tables taps : List ℤ} → Accepted conv n b f a → FirstTables (conv .cutoff) tables
-    → taps ≡ lent-taps (conv .rate) (conv .cutoff) (last-taps (conv .rate) (conv .cutoff)) → Ready conv n b f a tables taps
+    → taps ≡ lent-taps (conv .rate) (conv .cutoff) (last-of conv) → Ready conv n b f a tables taps
 made-ready x t e = record { slices = x .slices; first = t; last = record { last = x .last; lent = e }; factor = x .factor }

@@ -2,6 +2,7 @@
 ghost use mathlib.Core.Path.{_≡_};
 ghost use Prim.Native.Nat.{_*_, _≤_};
 ghost use lib.ListN.{length, take};
+ghost use Rattle.reference.specs.Stages.{taps-of};
 ghost use Rattle.reference.specs.Output.{samples-per-frame};
 ghost use Rattle.channel_bytes.specs.Lent.{lent-run};
 ghost use Rattle.routes.specs.Routes.{last-taps, halves-of, lent-taps};
@@ -11,6 +12,7 @@ ghost use Rattle.workspace.specs.Accepted.{Accepted};
 use reference::ConvertStats;
 use reference::Converter;
 use reference::Cutoff;
+use reference::Filter;
 use reference::PcmRate;
 
 // Taps as they stand, to the front of h; their number comes back, as below.
@@ -50,18 +52,36 @@ fn lent(rate: PcmRate, cutoff: Cutoff, f: &[i32], h: &mut [i64]) -> usize
     }
 }
 
+// The first n taps of a filter record.
+fn first(rate: PcmRate, cutoff: Cutoff, taps: [i32; 117], n: usize, h: &mut [i64]) -> usize
+    requires { ⌜ (n ≤ 117) × (length (now h) ≡ 117) ⌝ }
+    ensures { λ r. ⌜ (r ≤ 117) × (take r (now (h .exit)) ≡ lent-taps rate cutoff (take n taps)) ⌝ }
+{
+    lent(rate, cutoff, &taps[..n], h)
+}
+
+// The taps of a filter record.
+fn held(rate: PcmRate, cutoff: Cutoff, filter: Filter, h: &mut [i64]) -> usize
+    requires { ⌜ (filter .count ≤ 117) × (length (now h) ≡ 117) ⌝ }
+    ensures { λ r. ⌜ (r ≤ 117) × (take r (now (h .exit)) ≡ lent-taps rate cutoff (taps-of filter)) ⌝ }
+{
+    let taps = filter.taps;
+    let n = filter.count;
+    first(rate, cutoff, taps, n, h)
+}
+
 // The last filter of a route. Wide at 88,200 is refused before.
-fn last_taps(rate: PcmRate, cutoff: Cutoff, h: &mut [i64]) -> usize
-    requires { ⌜ length (now h) ≡ 117 ⌝ }
-    ensures { λ r. ⌜ (r ≤ 117) × (take r (now (h .exit)) ≡ lent-taps rate cutoff (last-taps rate cutoff)) ⌝ }
+fn last_taps(rate: PcmRate, cutoff: Cutoff, filter: Filter, h: &mut [i64]) -> usize
+    requires { ⌜ (filter .count ≤ 117) × (length (now h) ≡ 117) ⌝ }
+    ensures { λ r. ⌜ (r ≤ 117) × (take r (now (h .exit)) ≡ lent-taps rate cutoff (last-taps rate cutoff (taps-of filter))) ⌝ }
 {
     match cutoff {
-        Cutoff::Standard => lent(rate, cutoff, &tables::f40(), h),
+        Cutoff::Standard => held(rate, cutoff, filter, h),
         Cutoff::Low => lent(rate, cutoff, &tables::f30(), h),
         Cutoff::Wide => match rate {
-            PcmRate::Hz88200 => lent(rate, cutoff, &tables::f40(), h),
+            PcmRate::Hz88200 => held(rate, cutoff, reference::built_in(), h),
             PcmRate::Hz176400 => lent(rate, cutoff, &tables::f80(), h),
-            PcmRate::Hz352800 => lent(rate, cutoff, &tables::f40(), h),
+            PcmRate::Hz352800 => held(rate, cutoff, reference::built_in(), h),
         },
     }
 }
@@ -85,8 +105,9 @@ pub fn convert_slices<'a>(
 {
     let rate = conv.rate;
     let cutoff = conv.cutoff;
+    let filter = conv.filter;
     let mut taps = [0i64; 117];
-    let n = last_taps(rate, cutoff, &mut taps);
+    let n = last_taps(rate, cutoff, filter, &mut taps);
     match cutoff {
         Cutoff::Standard | Cutoff::Low => {
             let tables = tables::s1_tables();

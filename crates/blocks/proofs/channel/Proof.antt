@@ -14,11 +14,11 @@ use Rattle.numbers.proofs.Lists.{held-some}
 use Rattle.reference.specs.Output.{samples-per-frame, channel-samples}
 use Rattle.reference.proofs.Frames.{frame-samples}
 use Rattle.channel_bytes.specs.Lent.{lent-run, byte-at}
-use Rattle.routes.specs.Routes.{last-taps, y-of, first-byte, margin-from, block-length}
+use Rattle.routes.specs.Routes.{last-of, y-of, first-byte, margin-from, block-length}
 use Rattle.routes.proofs.Routes.{a-frame}
 use Rattle.blocks.specs.Blocks.{Made}
 use Rattle.blocks.proofs.Places.{next-block, some-taps, few-taps, margin-fits, block-fits}
-use Rattle.blocks.proofs.Sums.{last-of, Sized, Smalls, Staged, Blocks, run-samples, even-frame, zeros-small, staged-begins, staged-gives, staged-near, blocks-none, blocks-more, room-items, room-bytes, room-same, values-small, block-made, made-drawn, made-fits}
+use Rattle.blocks.proofs.Sums.{Sized, Smalls, Staged, Blocks, run-samples, even-frame, zeros-small, staged-begins, staged-gives, staged-near, blocks-none, blocks-more, room-items, room-bytes, room-same, values-small, block-made, made-drawn, made-fits}
 use Rattle.blocks.proofs.channel.Statement.{statement}
 use Rattle.blocks.proofs.channel.Tie as tie
 

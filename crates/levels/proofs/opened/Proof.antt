@@ -10,14 +10,18 @@ cast-nearest-i64-to-f64 c = wide-fits (c .before .before .args .s .db) (c .struc
 
 returns : tie.Need-returns
 unfolding read-settings
-returns c = let s = c .before .before .before .before .before in
-    rw (c .before .db-to-linear .ensures, c .before .before .nearest-i64-to-f64 .ensures, wide-is (s .args .s .db) (c .before .before .before .struct-told .given .1 .1 .1 .0 .1)) at (c .«open» .ensures)
+returns c =
+    let made = c .before in
+    let known = made .before .before .before in
+    let s = known .before .before in
+    rw (made .built-in .ensures, made .before .db-to-linear .ensures, made .before .before .nearest-i64-to-f64 .ensures, wide-is (s .args .s .db) (known .struct-told .given .1 .1 .1 .0 .1)) at (c .«open» .ensures)
 
 pub opened-spec : {M : Type 1} → statement M
 opened-spec =
     tie.close
     (tie.spec
     cast-nearest-i64-to-f64
+    (λ c κs. search needs)
     (λ c κs. search needs)
     (λ c κs. search needs)
     (λ c κs. search needs)

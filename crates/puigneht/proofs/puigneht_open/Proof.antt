@@ -12,7 +12,7 @@ use Rattle.puigneht.proofs.puigneht_open.Statement.{statement}
 use Rattle.puigneht.proofs.puigneht_open.Tie as tie
 
 abbrev the-settings : tie.Start → CSettings
-the-settings s = c-settings (s .args .rate) (s .args .cutoff) (s .args .channels) (now (s .args .gain))
+the-settings s = c-settings (s .args .rate) (s .args .cutoff) (s .args .channels) (now (s .args .gain)) (s .args .own) (now (s .args .taps))
 
 abbrev asked : tie.Start → Bool
 asked s = open-understood (the-settings s) (now (s .args .opened)) (now (s .args .«data»)) (now (s .args .decibels))

@@ -1,57 +1,22 @@
 -- `context_bytes` meets its contract.
-use mathlib.Core.Path.{refl}
+use mathlib.Core.Path.{refl, ap}
+use Prim.Native.Nat.{ℕ, _+_, _*_}
 use borrow.Author.Needs.{needs}
 use Rattle.reference.specs.Stages.{reach}
 use Rattle.scarletbook_pcm.proofs.context_bytes.Statement.{statement}
 use Rattle.scarletbook_pcm.proofs.context_bytes.Tie as tie
 
-enum-told : tie.Need-enum-told
-enum-told c = search needs
-
-enum-told-2 : tie.Need-enum-told-2
-enum-told-2 c = search needs
-
-enum-told-3 : tie.Need-enum-told-3
-enum-told-3 c = search needs
-
-enum-told-4 : tie.Need-enum-told-4
-enum-told-4 c = search needs
-
-enum-told-5 : tie.Need-enum-told-5
-enum-told-5 c = search needs
-
-enum-told-6 : tie.Need-enum-told-6
-enum-told-6 c = search needs
-
-enum-told-7 : tie.Need-enum-told-7
-enum-told-7 c = search needs
-
-enum-told-8 : tie.Need-enum-told-8
-enum-told-8 c = search needs
-
-enum-told-9 : tie.Need-enum-told-9
-enum-told-9 c = search needs
-
-enum-told-10 : tie.Need-enum-told-10
-enum-told-10 c = search needs
-
-enum-told-11 : tie.Need-enum-told-11
-enum-told-11 c = search needs
-
-enum-told-12 : tie.Need-enum-told-12
-enum-told-12 c = search needs
-
 returns : tie.Need-returns
 unfolding reach
-returns c = rw (c .before .before .enum-told .given .1, c .enum-told2 .given .1) refl
+returns c = rw (c .before .before .enum-told .given .1, c .enum-told2 .given .1) (ap (λ (m : ℕ). 2 * m + 19) (c .before .before .before .before .last-tap .ensures .0))
 
 returns-2 : tie.Need-returns-2
 unfolding reach
-returns-2 c = rw (c .before .before .enum-told .given .1, c .enum-told3 .given .1) refl
+returns-2 c = rw (c .before .before .enum-told .given .1, c .enum-told3 .given .1) (ap (λ (m : ℕ). 2 * m + 19) (c .before .before .before .before .last-tap .ensures .0))
 
 returns-3 : tie.Need-returns-3
 unfolding reach
-returns-3 c = rw (c .before .before .enum-told .given .1, c .enum-told4 .given .1) refl
+returns-3 c = rw (c .before .before .enum-told .given .1, c .enum-told4 .given .1) (ap (λ (m : ℕ). 2 * m + 35) (c .before .before .before .before .last-tap .ensures .0))
 
 returns-4 : tie.Need-returns-4
 unfolding reach
@@ -81,18 +46,25 @@ pub context-bytes-spec : {M : Type 1} → statement M
 context-bytes-spec =
     tie.close
     (tie.spec
-    enum-told
-    enum-told-2
-    enum-told-3
-    enum-told-4
-    enum-told-5
-    enum-told-6
-    enum-told-7
-    enum-told-8
-    enum-told-9
-    enum-told-10
-    enum-told-11
-    enum-told-12
+    (λ c κs. search needs)
+    (λ c. search needs)
+    (λ c. search needs)
+    (λ c. search needs)
+    (λ c. search needs)
+    (λ c. search needs)
+    (λ c. search needs)
+    (λ c. search needs)
+    (λ c. search needs)
+    (λ c. search needs)
+    (λ c. search needs)
+    (λ c. search needs)
+    (λ c. search needs)
+    (λ c. search needs)
+    (λ c. search needs)
+    (λ c. search needs)
+    (λ c. search needs)
+    (λ c. search needs)
+    (λ c. search needs)
     returns
     returns-2
     returns-3

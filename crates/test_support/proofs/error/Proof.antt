@@ -3,123 +3,6 @@ use borrow.Author.Needs.{needs}
 use Rattle.test_support.proofs.error.Statement.{statement}
 use Rattle.test_support.proofs.error.Tie as tie
 
-enum-known-e : tie.Need-enum-known-e
-enum-known-e c = search needs
-
-cast-refusal : tie.Need-cast-refusal
-cast-refusal c = search needs
-
-refusal-requires : tie.Need-refusal-requires
-refusal-requires c κs = search needs
-
-enum-known-e-2 : tie.Need-enum-known-e-2
-enum-known-e-2 c = search needs
-
-hertz-requires : tie.Need-hertz-requires
-hertz-requires c κs = search needs
-
-which-requires : tie.Need-which-requires
-which-requires c κs = search needs
-
-refusal-requires-2 : tie.Need-refusal-requires-2
-refusal-requires-2 c κs = search needs
-
-enum-known-e-3 : tie.Need-enum-known-e-3
-enum-known-e-3 c = search needs
-
-bits-requires : tie.Need-bits-requires
-bits-requires c κs = search needs
-
-refusal-requires-3 : tie.Need-refusal-requires-3
-refusal-requires-3 c κs = search needs
-
-enum-known-e-4 : tie.Need-enum-known-e-4
-enum-known-e-4 c = search needs
-
-cast-refusal-2 : tie.Need-cast-refusal-2
-cast-refusal-2 c = search needs
-
-refusal-requires-4 : tie.Need-refusal-requires-4
-refusal-requires-4 c κs = search needs
-
-enum-known-e-5 : tie.Need-enum-known-e-5
-enum-known-e-5 c = search needs
-
-refusal-requires-5 : tie.Need-refusal-requires-5
-refusal-requires-5 c κs = search needs
-
-enum-known-e-6 : tie.Need-enum-known-e-6
-enum-known-e-6 c = search needs
-
-refusal-requires-6 : tie.Need-refusal-requires-6
-refusal-requires-6 c κs = search needs
-
-enum-known-e-7 : tie.Need-enum-known-e-7
-enum-known-e-7 c = search needs
-
-refusal-requires-7 : tie.Need-refusal-requires-7
-refusal-requires-7 c κs = search needs
-
-enum-known-e-8 : tie.Need-enum-known-e-8
-enum-known-e-8 c = search needs
-
-refusal-requires-8 : tie.Need-refusal-requires-8
-refusal-requires-8 c κs = search needs
-
-enum-told : tie.Need-enum-told
-enum-told c = search needs
-
-refusal-requires-9 : tie.Need-refusal-requires-9
-refusal-requires-9 c κs = search needs
-
-enum-told-2 : tie.Need-enum-told-2
-enum-told-2 c = search needs
-
-refusal-requires-10 : tie.Need-refusal-requires-10
-refusal-requires-10 c κs = search needs
-
-enum-told-3 : tie.Need-enum-told-3
-enum-told-3 c = search needs
-
-refusal-requires-11 : tie.Need-refusal-requires-11
-refusal-requires-11 c κs = search needs
-
-enum-told-4 : tie.Need-enum-told-4
-enum-told-4 c = search needs
-
-refusal-requires-12 : tie.Need-refusal-requires-12
-refusal-requires-12 c κs = search needs
-
-enum-told-5 : tie.Need-enum-told-5
-enum-told-5 c = search needs
-
-refusal-requires-13 : tie.Need-refusal-requires-13
-refusal-requires-13 c κs = search needs
-
-enum-known-e-9 : tie.Need-enum-known-e-9
-enum-known-e-9 c = search needs
-
-refusal-requires-14 : tie.Need-refusal-requires-14
-refusal-requires-14 c κs = search needs
-
-enum-known-e-10 : tie.Need-enum-known-e-10
-enum-known-e-10 c = search needs
-
-refusal-requires-15 : tie.Need-refusal-requires-15
-refusal-requires-15 c κs = search needs
-
-enum-told-6 : tie.Need-enum-told-6
-enum-told-6 c = search needs
-
-refusal-requires-16 : tie.Need-refusal-requires-16
-refusal-requires-16 c κs = search needs
-
-enum-told-7 : tie.Need-enum-told-7
-enum-told-7 c = search needs
-
-refusal-requires-17 : tie.Need-refusal-requires-17
-refusal-requires-17 c κs = search needs
-
 returns : tie.Need-returns
 returns c = rw (c .before .before .e .given .1) (c .refusal .ensures)
 
@@ -171,49 +54,59 @@ returns-16 c = rw (c .before .enum-told6 .given .1) (c .refusal16 .ensures)
 returns-17 : tie.Need-returns-17
 returns-17 c = rw (c .before .enum-told7 .given .1) (c .refusal17 .ensures)
 
+returns-18 : tie.Need-returns-18
+returns-18 c = rw (c .before .enum-told8 .given .1) (c .refusal18 .ensures)
+
+returns-19 : tie.Need-returns-19
+returns-19 c = rw (c .before .enum-told9 .given .1) (c .refusal19 .ensures)
+
 pub error-spec : {M : Type 1} → statement M
 error-spec =
     tie.close
     (tie.spec
-    enum-known-e
-    cast-refusal
-    refusal-requires
-    enum-known-e-2
-    hertz-requires
-    which-requires
-    refusal-requires-2
-    enum-known-e-3
-    bits-requires
-    refusal-requires-3
-    enum-known-e-4
-    cast-refusal-2
-    refusal-requires-4
-    enum-known-e-5
-    refusal-requires-5
-    enum-known-e-6
-    refusal-requires-6
-    enum-known-e-7
-    refusal-requires-7
-    enum-known-e-8
-    refusal-requires-8
-    enum-told
-    refusal-requires-9
-    enum-told-2
-    refusal-requires-10
-    enum-told-3
-    refusal-requires-11
-    enum-told-4
-    refusal-requires-12
-    enum-told-5
-    refusal-requires-13
-    enum-known-e-9
-    refusal-requires-14
-    enum-known-e-10
-    refusal-requires-15
-    enum-told-6
-    refusal-requires-16
-    enum-told-7
-    refusal-requires-17
+    (λ c. search needs)
+    (λ c. search needs)
+    (λ c κs. search needs)
+    (λ c. search needs)
+    (λ c κs. search needs)
+    (λ c κs. search needs)
+    (λ c κs. search needs)
+    (λ c. search needs)
+    (λ c κs. search needs)
+    (λ c κs. search needs)
+    (λ c. search needs)
+    (λ c. search needs)
+    (λ c κs. search needs)
+    (λ c. search needs)
+    (λ c κs. search needs)
+    (λ c. search needs)
+    (λ c κs. search needs)
+    (λ c. search needs)
+    (λ c κs. search needs)
+    (λ c. search needs)
+    (λ c κs. search needs)
+    (λ c. search needs)
+    (λ c κs. search needs)
+    (λ c. search needs)
+    (λ c κs. search needs)
+    (λ c. search needs)
+    (λ c κs. search needs)
+    (λ c. search needs)
+    (λ c κs. search needs)
+    (λ c. search needs)
+    (λ c κs. search needs)
+    (λ c. search needs)
+    (λ c κs. search needs)
+    (λ c. search needs)
+    (λ c κs. search needs)
+    (λ c. search needs)
+    (λ c κs. search needs)
+    (λ c. search needs)
+    (λ c κs. search needs)
+    (λ c. search needs)
+    (λ c κs. search needs)
+    (λ c. search needs)
+    (λ c κs. search needs)
     returns
     returns-2
     returns-3
@@ -230,4 +123,6 @@ error-spec =
     returns-14
     returns-15
     returns-16
-    returns-17)
+    returns-17
+    returns-18
+    returns-19)

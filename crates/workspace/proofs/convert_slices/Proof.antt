@@ -12,15 +12,15 @@ use Rattle.workspace.proofs.convert_slices.Tie as tie
 
 -- places: the taps are bound; the slices are known; the function's start
 abbrev known : tie.After-last-taps → tie.After-slice-known2
-known c = c .before .before
+known c = c .before .before .before
 
 abbrev entry : tie.After-slice-known2 → tie.Start
 entry c = c .before .before .before .before .before
 
-taps-long : (c : tie.After-last-taps) → c .last-taps .result ≡ length (take (c .last-taps .result) (c .last-taps .last .1 .1 .0))
+taps-long : (c : tie.After-last-taps) → c .last-taps .result ≡ length (take (c .last-taps .result) (c .last-taps .last .1 .1 .1 .0))
 taps-long c =
     let g = c .last-taps in
-    sym (length-take-le (g .result) (g .last .1 .1 .0) (omega (arith, g .ensures .0, g .kept .1 .1 .0)))
+    sym (length-take-le (g .result) (g .last .1 .1 .1 .0) (omega (arith, g .ensures .0, g .kept .1 .1 .1 .0)))
 
 -- ---- Standard and Low
 

@@ -2,10 +2,13 @@
 use Rattle.filters.proofs.Ops.{tap-neg, tap-pos}
 use mir.Facts.{toZ-ofZ}
 use mathlib.Core.Path.{_≡_, _∙_, ap}
-use borrow.Author.Needs.{needs}
+use native.Mathlib.Omega.{arith}
 use lib.IntN.{natAbs}
 use Rattle.filters.proofs.lane.tap1.Statement.{statement}
 use Rattle.filters.proofs.lane.tap1.Tie as tie
+
+size-requires : tie.Need-size-requires
+size-requires c κs = rw (toZ-ofZ (c .before .fits .h)) (omega (arith, c .before .pre .1))
 
 less-requires : tie.Need-less-requires
 less-requires c κs =
@@ -17,6 +20,9 @@ returns : tie.Need-returns
 returns c =
     let k = c .before .before .before in
     tap-neg (k .args .s) (k .fits .h) (k .args .w) (c .before .size .ensures) (c .less .ok) (rw (toZ-ofZ (k .fits .s)) at (c .less .ensures)) (c .before .before .if1 .taken)
+
+size-requires-2 : tie.Need-size-requires-2
+size-requires-2 c κs = rw (toZ-ofZ (c .before .fits .h)) (omega (arith, c .before .pre .1))
 
 more-requires : tie.Need-more-requires
 more-requires c κs =
@@ -32,4 +38,4 @@ returns-2 c =
 pub tap1-spec : {M : Type 1} → statement M
 tap1-spec =
     tie.close
-    (tie.spec (λ c κs. search needs) less-requires returns (λ c κs. search needs) more-requires returns-2)
+    (tie.spec size-requires less-requires returns size-requires-2 more-requires returns-2)

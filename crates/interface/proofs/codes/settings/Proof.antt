@@ -6,7 +6,9 @@ use Rattle.interface.proofs.codes.settings.Tie as tie
 
 returns : tie.Need-returns
 unfolding settings-of
-returns c = rw (c .before .before .before .rate-of .ensures, c .before .before .cutoff-of .ensures)
+returns c =
+    let numbers = c .before .before .before in
+    rw (c .listed .ensures, numbers .before .rate-of .ensures, numbers .cutoff-of .ensures)
 
 pub settings-spec : {M : Type 1} → statement M
 settings-spec =
@@ -16,4 +18,5 @@ settings-spec =
     (λ c κs. search needs)
     (λ c. search needs)
     (λ c. search needs)
+    (λ c κs. search needs)
     returns)

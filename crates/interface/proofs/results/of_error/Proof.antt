@@ -4,117 +4,6 @@ use borrow.Author.Needs.{needs}
 use Rattle.interface.proofs.results.of_error.Statement.{statement}
 use Rattle.interface.proofs.results.of_error.Tie as tie
 
-enum-known-e : tie.Need-enum-known-e
-enum-known-e c = search needs
-
-cast-numbers : tie.Need-cast-numbers
-cast-numbers c = search needs
-
-numbers-requires : tie.Need-numbers-requires
-numbers-requires c κs = search needs
-
-enum-known-e-2 : tie.Need-enum-known-e-2
-enum-known-e-2 c = search needs
-
-hertz-requires : tie.Need-hertz-requires
-hertz-requires c κs = search needs
-
-cutoff-number-requires : tie.Need-cutoff-number-requires
-cutoff-number-requires c κs = search needs
-
-numbers-requires-2 : tie.Need-numbers-requires-2
-numbers-requires-2 c κs = search needs
-
-enum-known-e-3 : tie.Need-enum-known-e-3
-enum-known-e-3 c = search needs
-
-enum-known-e-4 : tie.Need-enum-known-e-4
-enum-known-e-4 c = search needs
-
-cast-numbers-2 : tie.Need-cast-numbers-2
-cast-numbers-2 c = search needs
-
-numbers-requires-3 : tie.Need-numbers-requires-3
-numbers-requires-3 c κs = search needs
-
-enum-known-e-5 : tie.Need-enum-known-e-5
-enum-known-e-5 c = search needs
-
-numbers-requires-4 : tie.Need-numbers-requires-4
-numbers-requires-4 c κs = search needs
-
-enum-known-e-6 : tie.Need-enum-known-e-6
-enum-known-e-6 c = search needs
-
-numbers-requires-5 : tie.Need-numbers-requires-5
-numbers-requires-5 c κs = search needs
-
-enum-known-e-7 : tie.Need-enum-known-e-7
-enum-known-e-7 c = search needs
-
-numbers-requires-6 : tie.Need-numbers-requires-6
-numbers-requires-6 c κs = search needs
-
-enum-known-e-8 : tie.Need-enum-known-e-8
-enum-known-e-8 c = search needs
-
-numbers-requires-7 : tie.Need-numbers-requires-7
-numbers-requires-7 c κs = search needs
-
-enum-told : tie.Need-enum-told
-enum-told c = search needs
-
-numbers-requires-8 : tie.Need-numbers-requires-8
-numbers-requires-8 c κs = search needs
-
-enum-told-2 : tie.Need-enum-told-2
-enum-told-2 c = search needs
-
-numbers-requires-9 : tie.Need-numbers-requires-9
-numbers-requires-9 c κs = search needs
-
-enum-told-3 : tie.Need-enum-told-3
-enum-told-3 c = search needs
-
-numbers-requires-10 : tie.Need-numbers-requires-10
-numbers-requires-10 c κs = search needs
-
-enum-told-4 : tie.Need-enum-told-4
-enum-told-4 c = search needs
-
-numbers-requires-11 : tie.Need-numbers-requires-11
-numbers-requires-11 c κs = search needs
-
-enum-told-5 : tie.Need-enum-told-5
-enum-told-5 c = search needs
-
-numbers-requires-12 : tie.Need-numbers-requires-12
-numbers-requires-12 c κs = search needs
-
-enum-known-e-9 : tie.Need-enum-known-e-9
-enum-known-e-9 c = search needs
-
-numbers-requires-13 : tie.Need-numbers-requires-13
-numbers-requires-13 c κs = search needs
-
-enum-known-e-10 : tie.Need-enum-known-e-10
-enum-known-e-10 c = search needs
-
-numbers-requires-14 : tie.Need-numbers-requires-14
-numbers-requires-14 c κs = search needs
-
-enum-told-6 : tie.Need-enum-told-6
-enum-told-6 c = search needs
-
-numbers-requires-15 : tie.Need-numbers-requires-15
-numbers-requires-15 c κs = search needs
-
-enum-told-7 : tie.Need-enum-told-7
-enum-told-7 c = search needs
-
-numbers-requires-16 : tie.Need-numbers-requires-16
-numbers-requires-16 c κs = search needs
-
 returns : tie.Need-returns
 returns c = rw (c .before .before .e .given .1) (c .numbers .ensures)
 
@@ -166,47 +55,57 @@ returns-16 c = rw (c .before .enum-told6 .given .1) (c .numbers15 .ensures)
 returns-17 : tie.Need-returns-17
 returns-17 c = rw (c .before .enum-told7 .given .1) (c .numbers16 .ensures)
 
+returns-18 : tie.Need-returns-18
+returns-18 c = rw (c .before .enum-told8 .given .1) (c .numbers17 .ensures)
+
+returns-19 : tie.Need-returns-19
+returns-19 c = rw (c .before .enum-told9 .given .1) (c .numbers18 .ensures)
+
 pub of-error-spec : {M : Type 1} → statement M
 of-error-spec =
     tie.close
     (tie.spec
-    enum-known-e
-    cast-numbers
-    numbers-requires
-    enum-known-e-2
-    hertz-requires
-    cutoff-number-requires
-    numbers-requires-2
-    enum-known-e-3
-    enum-known-e-4
-    cast-numbers-2
-    numbers-requires-3
-    enum-known-e-5
-    numbers-requires-4
-    enum-known-e-6
-    numbers-requires-5
-    enum-known-e-7
-    numbers-requires-6
-    enum-known-e-8
-    numbers-requires-7
-    enum-told
-    numbers-requires-8
-    enum-told-2
-    numbers-requires-9
-    enum-told-3
-    numbers-requires-10
-    enum-told-4
-    numbers-requires-11
-    enum-told-5
-    numbers-requires-12
-    enum-known-e-9
-    numbers-requires-13
-    enum-known-e-10
-    numbers-requires-14
-    enum-told-6
-    numbers-requires-15
-    enum-told-7
-    numbers-requires-16
+    (λ c. search needs)
+    (λ c. search needs)
+    (λ c κs. search needs)
+    (λ c. search needs)
+    (λ c κs. search needs)
+    (λ c κs. search needs)
+    (λ c κs. search needs)
+    (λ c. search needs)
+    (λ c. search needs)
+    (λ c. search needs)
+    (λ c κs. search needs)
+    (λ c. search needs)
+    (λ c κs. search needs)
+    (λ c. search needs)
+    (λ c κs. search needs)
+    (λ c. search needs)
+    (λ c κs. search needs)
+    (λ c. search needs)
+    (λ c κs. search needs)
+    (λ c. search needs)
+    (λ c κs. search needs)
+    (λ c. search needs)
+    (λ c κs. search needs)
+    (λ c. search needs)
+    (λ c κs. search needs)
+    (λ c. search needs)
+    (λ c κs. search needs)
+    (λ c. search needs)
+    (λ c κs. search needs)
+    (λ c. search needs)
+    (λ c κs. search needs)
+    (λ c. search needs)
+    (λ c κs. search needs)
+    (λ c. search needs)
+    (λ c κs. search needs)
+    (λ c. search needs)
+    (λ c κs. search needs)
+    (λ c. search needs)
+    (λ c κs. search needs)
+    (λ c. search needs)
+    (λ c κs. search needs)
     returns
     returns-2
     returns-3
@@ -223,4 +122,6 @@ of-error-spec =
     returns-14
     returns-15
     returns-16
-    returns-17)
+    returns-17
+    returns-18
+    returns-19)

@@ -1,9 +1,10 @@
 -- `bytes_and_counts` meets its contract.
 use mathlib.Core.Bool.{true≢false}
-use mathlib.Core.Path.{refl}
+use mathlib.Core.Path.{_≡_, refl}
 use native.Mathlib.Omega.{arith}
 use borrow.Author.Needs.{needs}
 use denote.Ref.{now}
+use lib.ListN.{length}
 use Rattle.reference.specs.Output.{channel-samples, all-samples}
 use Rattle.reference.specs.Frames.{frame-count}
 use Rattle.reference.proofs.Refusals.{some-channel}
@@ -17,6 +18,13 @@ div-count c =
     let entry = past .before in
     omega (arith, some-channel (entry .args .conv) (entry .pre .0 .opens))
 
+-- the function's start, from where the converter is known
+abbrev entry : tie.After-struct-known → tie.Start
+entry u = let past = u .before .before .before .before .before in past .before
+
+taps-long : (u : tie.After-struct-known) → length (entry u .args .conv .filter .taps) ≡ 117
+taps-long u = search needs
+
 convert-slices-requires : tie.Need-convert-slices-requires
 unfolding frame-count all-samples channel-samples
 convert-slices-requires c κs =
@@ -24,7 +32,7 @@ convert-slices-requires c κs =
     let past-at-struct-known = at-struct-known .before .before .before .before .before in
     let s = past-at-struct-known .before in
     let a = s .args in
-    rw (c .before .before .before .before .present .ensures, c .before .before .before .present2 .ensures) (slices-accepted (a .conv) (a .has-before) (now (a .before)) (now (a .frames)) (a .has-after) (now (a .after)) (s .pre .0) (at-struct-known .struct-known .given .1 .1 .1 .0 .1 .0), (record { items = λ e. absurd (true≢false e); bytes = λ e. s .pre .1 .0 }, omega (arith, s .pre .1 .1)))
+    rw (c .before .before .before .before .present .ensures, c .before .before .before .present2 .ensures) (slices-accepted (a .conv) (a .has-before) (now (a .before)) (now (a .frames)) (a .has-after) (now (a .after)) (s .pre .0) (at-struct-known .struct-known .given .1 .1 .1 .0 .1 .0) (taps-long at-struct-known), (record { items = λ e. absurd (true≢false e); bytes = λ e. s .pre .1 .0 }, omega (arith, s .pre .1 .1)))
 
 returns : tie.Need-returns
 unfolding frame-count
