@@ -5,10 +5,11 @@ The answers are worked out here from document 01's formulas and the original's t
 numbers, and not by the library. Usage: compare/filters.py SRC [FILE [ROWS]]; SRC is the original's repository. It says how
 many rows it wrote, how many of them convert, and how many filters stand at the limits of refusal 18.
 
-A row is 75 numbers of 16 hexadecimal digits: route (three times the cutoff and the rate, both from 0), channels, decibels
+A row is 80 numbers of 16 hexadecimal digits: route (three times the cutoff and the rate, both from 0), channels, decibels
 as bits, bytes of the run, neighbours (1 before, 2 after), pattern and seed of the bytes; refusal and its two data (0 where
 the call is accepted), the reach, two digests of the samples, the clips of two channels; the number of taps, and 117 taps by
 twos: t, or 2^31 - 1 - t where t is negative. Taps past their number are drawn by chance: no answer depends on them.
+Last come the lowest and the highest number before the clamp of two channels, as 64 bits, and their marks (1 and 2).
 """
 import random
 import re
@@ -120,11 +121,11 @@ def reach(rate, cutoff, count):
 
 
 def converted(t, case):
-    """The samples of one frame, items in turn, and the clips of each channel; 0 dB, so the factor is 1."""
+    """The samples of one frame, items in turn, and of each channel the clips and the numbers before the clamp; 0 dB, so the factor is 1."""
     rate, cutoff, channels = case["route"] % 3, case["route"] // 3, case["channels"]
     made = [bytes_by(case["pattern"], case["seed"] + past, channels) for past in (1, 0, 2)]
     there = [case["neighbours"] % 2, 1, case["neighbours"] // 2]
-    items, clips = [0] * (PER_FRAME[rate] * channels), [0, 0]
+    items, clips, far = [0] * (PER_FRAME[rate] * channels), [0, 0], [[], []]
     for c in range(channels):
 
         def bytes_at(p):
@@ -138,8 +139,9 @@ def converted(t, case):
             z = round(channel.y(rate, cutoff, case["taps"], n) * 1.0 * 0.125)
             held = max(-8_388_608, min(8_388_607, z))
             clips[c] += held != z
+            far[c].append(z)
             items[n * channels + c] = held
-    return items, clips
+    return items, clips, far
 
 
 def digests(items):
@@ -305,16 +307,18 @@ def row(t, r, made):
     taps = (made["taps"] + [r.randint(LOW, HIGH) for _ in range(118)])[:118]
     taps[117] = 0
     if made["number"]:
-        answer = [0, 1, 1, 0, 0]
+        answer, far = [0, 1, 1, 0, 0], [[], []]
     else:
-        items, clips = converted(t, made)
+        items, clips, far = converted(t, made)
         answer = [reach(made["route"] % 3, made["route"] // 3, made["count"])]
         answer += digests([x + (1 << 31) for x in items]) + clips
     decibels = struct.unpack("<Q", struct.pack("<d", made["db"]))[0]
     head = [made["route"], made["channels"], decibels, made["bytes"], made["neighbours"], made["pattern"], made["seed"]]
     codes = [x if x >= 0 else HIGH - x for x in taps]
     pairs = [codes[k] << 32 | codes[k + 1] for k in range(0, 118, 2)]
-    return head + [made["number"], made["first"], made["second"]] + answer + [made["count"]] + pairs
+    ends = [end(z, default=0) & (1 << 64) - 1 for z in far for end in (min, max)]
+    marks = (not far[0]) + 2 * (not far[1])
+    return head + [made["number"], made["first"], made["second"]] + answer + [made["count"]] + pairs + ends + [marks]
 
 
 def main():
@@ -326,7 +330,7 @@ def main():
     with open(out, "w") as f:
         for m in made:
             numbers = row(t, r, m)
-            assert len(numbers) == 75, len(numbers)
+            assert len(numbers) == 80, len(numbers)
             f.write(" ".join(f"{n:016x}" for n in numbers) + "\n")
     good = [m for m in made if not m["number"]]
     edge = [m for m in good if size(m["taps"]) == MOST]

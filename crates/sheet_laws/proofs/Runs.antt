@@ -6,7 +6,7 @@ use Prim.Native.Nat.{ℕ, zero, suc, _+_, _*_, _^_, _≤_, _<_}
 use native.Mathlib.Nat.{mul-le-mul}
 use native.Mathlib.Omega.{arith}
 use borrow.Author.Tests.{not-false, leb-true}
-use lib.Dec.{eqb, ltb, leb, lit≤}
+use lib.Dec.{eqb, ltb, leb}
 use lib.IntN.{ℤ, pos, natAbs}
 use Rattle.numbers.specs.Extremes.{lesser, greater, extreme0}
 use Rattle.numbers.specs.Lists.{count}
@@ -19,8 +19,7 @@ use Rattle.reference.specs.Settings.{filter-of}
 use Rattle.reference.specs.Stages.{taps-of, y}
 use Rattle.reference.specs.Scaling.{right-gain, scaled}
 use Rattle.reference.specs.declared.Converter.{Converter}
-use Rattle.reference.specs.declared.PcmRate.{PcmRate}
-use Rattle.reference.specs.declared.PcmRate.the-variants.{Hz88200, Hz176400, Hz352800}
+use Rattle.reference.proofs.Frames.{frame-samples}
 use Rattle.reference.proofs.Refusals.{pass, few-frames}
 use Rattle.routes.proofs.Routes.{low-pass, last-filter, y-of-is, y-of-size}
 use Rattle.gain.proofs.Records.{right-bounded}
@@ -32,12 +31,6 @@ use Rattle.sheet.specs.Sheet.{sheet, sheet-too-wide}
 use Rattle.sheet.specs.Promises.{sheet-length, sheet-places}
 use Rattle.sheet_laws.specs.Runs.{Held, NumbersFit, NeverTooWide, CutSheetsJoin}
 use Rattle.sheet_laws.proofs.Fitting.{Small, sheet-fits}
-
-few-samples : (rate : PcmRate) → samples-per-frame rate ≤ 4704
-unfolding samples-per-frame
-few-samples Hz88200 = lit≤ tt
-few-samples Hz176400 = lit≤ tt
-few-samples Hz352800 = lit≤ tt
 
 module _ (conv : Converter) (r : Run) (held : Held conv) (ok : AcceptedConverter conv) (fits : AcceptedRun conv r) where
   right : right-gain (conv .gain) ≡ true
@@ -67,7 +60,7 @@ module _ (conv : Converter) (r : Run) (held : Held conv) (ok : AcceptedConverter
 
   samples-few : channel-samples conv r ≤ 540000 * 4704
   unfolding channel-samples
-  samples-few = mul-le-mul (few-frames rack conv r (fits .fits)) (few-samples (conv .rate))
+  samples-few = mul-le-mul (few-frames rack conv r (fits .fits)) (frame-samples (conv .rate))
 
   either-way : (b : Bool) (x : ℤ) → natAbs x < 10 ^ 11 → natAbs (cond b x (pos 0)) < 10 ^ 11
   either-way true x h = h

@@ -12,6 +12,7 @@ use reference::Settings;
 use reference::Verdict;
 use test_support::Told;
 use test_support::at;
+use test_support::is_signed;
 use test_support::one;
 
 // A tap by its code: t, or 2^31 - 1 - t where t is negative.
@@ -91,15 +92,30 @@ fn opened_right(v: Verdict, row: &[u64]) -> bool {
     test_support::is(t, 0, 0, 0)
 }
 
-// The row's samples, clips and reach; a refused call counts nothing and keeps the output.
+// How far over: lowest and highest of the first two channels, and their marks.
+fn far(done: Converted, row: &[u64]) -> bool {
+    let stats = done.stats;
+    let lowest = stats.lowest;
+    let highest = stats.highest;
+    let empty = stats.empty;
+    is_signed(lowest[0], at(row, 75))
+        && is_signed(highest[0], at(row, 76))
+        && is_signed(lowest[1], at(row, 77))
+        && is_signed(highest[1], at(row, 78))
+        && one(empty[0]) == at(row, 79) % 2
+        && one(empty[1]) == at(row, 79) / 2
+}
+
+// The row's samples, clips, extremes and reach; a refused call counts nothing and keeps the output.
 fn told(done: Converted, conv: Converter, row: &[u64], out: &[i32]) -> bool {
-    let clips = test_support::clips(done, 0) == at(row, 13)
-        && test_support::clips(done, 1) == at(row, 14);
+    let counted = test_support::clips(done, 0) == at(row, 13)
+        && test_support::clips(done, 1) == at(row, 14)
+        && far(done, row);
     if at(row, 7) != 0 {
-        return clips && row::all_are(0, out);
+        return counted && row::all_are(0, out);
     }
     let d = input::of_samples(out);
-    clips
+    counted
         && d.first == at(row, 11)
         && d.second == at(row, 12)
         && scarletbook_pcm::context_bytes(conv) as u64 == at(row, 10)
@@ -261,15 +277,15 @@ fn row_right(row: &[u64]) -> bool {
 // The text of row i and of those after it.
 fn part(text: &[u8], i: usize) -> &[u8] {
     if i < 240 {
-        if 1275 * i <= text.len() {
-            return &text[1275 * i..];
+        if 1360 * i <= text.len() {
+            return &text[1360 * i..];
         }
     }
     &text[0..0]
 }
 
 fn asked(text: &[u8], i: usize) -> u64 {
-    let mut row = [0u64; 75];
+    let mut row = [0u64; 80];
     test_support::column(part(text, i), 0, 1, &mut row);
     one(row_right(&row))
 }
@@ -286,7 +302,7 @@ fn count(text: &[u8]) -> u64 {
 
 // Every row of the file.
 pub fn own() {
-    let mut text = [0u8; 306000];
-    test_support::read(b"filters", 18000, &mut text);
+    let mut text = [0u8; 326400];
+    test_support::read(b"filters", 19200, &mut text);
     test_support::right(b"own filters ", 240, count(&text));
 }

@@ -1,6 +1,5 @@
 // Two statistics joined.
 ghost use mathlib.Core.Path.{_≡_};
-ghost use Prim.Native.Nat.{_≤_};
 ghost use lib.ListN.{length};
 use crate::rows::are;
 use crate::rows::statistics;

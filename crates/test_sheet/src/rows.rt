@@ -1,14 +1,8 @@
 // Statistics out of rows of numbers.
 use reference::ConvertStats;
 use test_support::at;
-
-// A number of 64 bits, with its sign.
-fn signed(n: u64) -> i64 {
-    if n < 0x8000_0000_0000_0000 {
-        return n as i64;
-    }
-    -1 - (0xffff_ffff_ffff_ffff - n) as i64
-}
+use test_support::is_signed;
+use test_support::signed;
 
 // Six clip counts, six lowest, six highest and six marks.
 pub fn statistics(row: &[u64]) -> ConvertStats {
@@ -34,11 +28,6 @@ pub fn statistics(row: &[u64]) -> ConvertStats {
 
 fn flag(yes: bool) -> u64 {
     if yes { 1 } else { 0 }
-}
-
-// Whether a number with its sign is the one of a row.
-fn is_signed(z: i64, n: u64) -> bool {
-    z == signed(n)
 }
 
 // Whether the statistics are those of a row.

@@ -234,3 +234,16 @@ pub fn right(name: &[u8], all: u64, yes: u64) {
 pub fn equal(name: &[u8], all: u64, yes: u64) {
     line(name, all, b" equal ", yes);
 }
+
+// A number of 64 bits, with its sign.
+pub fn signed(n: u64) -> i64 {
+    if n < 0x8000_0000_0000_0000 {
+        return n as i64;
+    }
+    -1 - (0xffff_ffff_ffff_ffff - n) as i64
+}
+
+// Whether a number with its sign is the one of a row.
+pub fn is_signed(z: i64, n: u64) -> bool {
+    z == signed(n)
+}

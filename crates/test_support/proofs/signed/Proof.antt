@@ -8,8 +8,8 @@ use mir.Syntax.{w64}
 use mir.Val.{SFits, toZ}
 use mir.Facts.{toZ-pos}
 use borrow.Author.Needs.{needs}
-use Rattle.test_sheet.proofs.rows.signed.Statement.{statement}
-use Rattle.test_sheet.proofs.rows.signed.Tie as tie
+use Rattle.test_support.proofs.signed.Statement.{statement}
+use Rattle.test_support.proofs.signed.Tie as tie
 
 minus : (p : ℕ) → negsuc 0 -ℤ pos p ≡ negsuc p
 minus zero = refl
