@@ -41,7 +41,7 @@ fn scalings(random: &mut Random) -> Vec<(i32, f64)> {
     // Halves, and both ends of the clamp, at 0 dB.
     let at_zero = [0, 4, -4, 12, -12, 20, -20, 3, 5, -3, -5, 67108856, 67108857, 67108858, 67108859, 67108860, 67108864, -67108864, -67108867, -67108868, -67108869, -67108872];
     let mut all: Vec<(i32, f64)> = at_zero.iter().map(|y| (*y, 0.0)).collect();
-    all.extend([i32::MAX, i32::MIN].iter().flat_map(|y| [(*y, 24.0), (*y, -120.0)]));
+    all.extend([i32::MAX, -i32::MAX].iter().flat_map(|y| [(*y, 24.0), (*y, -120.0)]));
     all.extend((0..40).map(|_| (random.next() as i32 >> 4, random.within(-120.0, 24.0))));
     all.extend((0..30).map(|_| (random.next() as i32 >> 4, random.within(-30.0, 6.0))));
     all
