@@ -1,7 +1,9 @@
 // The level report over descriptors: it reads the line and the frames, and writes the lines.
+ghost use mathlib.Core.Path.{_≡_};
 ghost use Prim.Native.Nat.{_≤_};
 ghost use lib.ListN.{length};
-ghost use Rattle.level_stream.specs.Usable.{Usable};
+ghost use Rattle.reference.specs.Refusals.{accepted, decide, held-places};
+ghost use Rattle.level_stream.specs.Usable.{Opens, Usable};
 use level_settings::FirstLine;
 use level_settings::LineSettings;
 use reference::Converter;
@@ -13,9 +15,9 @@ pub use frames::refused;
 pub use frames::write_first;
 use frames::written;
 
-// What the first line leads to: a converter to go on with, or an end, of which all is written.
+// What the first line leads to: settings that opening accepts, or an end, of which all is written.
 pub enum Begun {
-    Open(Converter),
+    Open(LineSettings),
     Ended,
 }
 
@@ -24,12 +26,21 @@ pub enum Begun {
 pub fn report(line_from: i32, frames_from: i32, to: i32) {
     let begun = start(line_from, to);
     match begun {
-        Begun::Open(conv) => frames::report_frames(conv, frames_from, to),
+        Begun::Open(s) => frames::report_frames(converter(s), frames_from, to),
         Begun::Ended => {}
     }
 }
 
-// Reads the line and opens its converter. Where there is none it says why.
+// The converter of a line's settings.
+pub fn converter(s: LineSettings) -> Converter
+    requires { ⌜ Opens s ⌝ }
+    ensures { λ r. ⌜ (decide (held-places r) ≡ accepted) × (r .channels ≤ 2) ⌝ }
+{
+    let o = levels::opened(s);
+    o.converter
+}
+
+// Reads the line and tries its settings. Where they are not accepted it says why.
 pub fn start(from: i32, to: i32) -> Begun
     ensures { λ r. ⌜ Usable r ⌝ }
 {
@@ -69,9 +80,8 @@ fn opened(s: LineSettings, to: i32) -> Begun
 {
     let o = levels::opened(s);
     let verdict = o.verdict;
-    let conv = o.converter;
     match verdict {
-        Verdict::Accepted => Begun::Open(conv),
+        Verdict::Accepted => Begun::Open(s),
         Verdict::Refused(e) => {
             refused(levels::refusal_number(e), to);
             Begun::Ended

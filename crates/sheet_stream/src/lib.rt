@@ -8,7 +8,7 @@ mod frames;
 pub fn sheet(line_from: i32, frames_from: i32, to: i32) {
     let begun = level_stream::start(line_from, to);
     match begun {
-        Begun::Open(conv) => frames::sheet_frames(conv, frames_from, to),
+        Begun::Open(s) => frames::sheet_frames(level_stream::converter(s), frames_from, to),
         Begun::Ended => {}
     }
 }
