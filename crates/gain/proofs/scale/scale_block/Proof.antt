@@ -2,7 +2,7 @@
 use mathlib.Core.Path.{_≡_, refl, sym, ap, _∙_}
 use mathlib.Core.Bool.{Bool, cond}
 use mathlib.Core.List.{List}
-use Prim.Native.Nat.{ℕ, suc, _+_, _-_, _^_, _<_, _≤_, zero-le}
+use Prim.Native.Nat.{ℕ, suc, _+_, _-_, _^_, _<_, _≤_}
 use native.Mathlib.Nat.{ne-of-lt, le-antisymm, not-suc-le-zero, zero-add}
 use native.Mathlib.Omega.{arith}
 use borrow.Author.Needs.{needs, scaled-fits}
@@ -77,7 +77,7 @@ gave c = rw (y-back (c .before .before)) at (c .scale .ensures)
 
 loop-holds : tie.Need-loop-holds Inv-loop μ-loop
 unfolding total picked
-loop-holds c = record { same = refl; reached = zero-le; done = λ k h. absurd (not-suc-le-zero h); counted = refl; low = refl; high = refl }
+loop-holds c = record { same = refl; reached = omega (arith, c .pre .0 .0); done = λ k h. absurd (not-suc-le-zero h); counted = refl; low = refl; high = refl }
 
 mul-y : tie.Need-mul-y Inv-loop μ-loop
 mul-y c = scaled-fits (c .before .loop .i) (length (now (c .before .before .args .ys))) 8 (c .loop-test .taken) (c .before .before .good .0 .1)
