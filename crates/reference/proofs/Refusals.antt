@@ -101,6 +101,7 @@ error-refuses error.Desk = refl
 error-refuses error.Taps = refl
 error-refuses error.TapSums = refl
 error-refuses error.Sheet = refl
+error-refuses error.Stored = refl
 
 -- ---- a number from 1 to k: none, more, or so many
 
@@ -126,11 +127,11 @@ and-right false b e = let z : _≡_ {A = ℕ} 0 1 = cc in absurd (omega arith)
 
 module _ (conv : Converter) (opens : decide (held-places conv) ≡ accepted) where
   pub some-channel : 0 < conv .channels
-  unfolding opening-places
+  unfolding held-places opening-places
   some-channel = leb-true 1 (conv .channels) (and-left (leb 1 (conv .channels)) (leb (conv .channels) 6) (not-false _ (pass _ _ opens .0)))
 
   pub few-channels : conv .channels ≤ 6
-  unfolding opening-places
+  unfolding held-places opening-places
   few-channels = leb-true (conv .channels) 6 (and-right (leb 1 (conv .channels)) (leb (conv .channels) 6) (not-false _ (pass _ _ opens .0)))
 
 neighbour-length : (n : ℕ) (d : List Datum) (ch : ℕ) (there : Bool) (bytes : List ℕ) (ps : List Place) → decide (if-present there (one-long n d ch bytes) ++ ps) ≡ accepted
