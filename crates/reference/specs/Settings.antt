@@ -47,7 +47,8 @@ reach-of conv = reach (conv .rate) (conv .cutoff) (taps-of (conv .filter))
 -- whether the stored numbers are those of the settings
 unfoldable pub true-numbers : Converter → Bool
 true-numbers conv =
-    eqb (conv .«samples_per_frame») (samples-per-frame (conv .rate)) && eqb (conv .reach) (reach-of conv) && eqb (conv .«frame_length») (frame-length (conv .channels))
+    eqb (conv .«samples_per_frame») (samples-per-frame (conv .rate))
+    && (eqb (conv .reach) (reach-of conv) && eqb (conv .«frame_length») (frame-length (conv .channels)))
 
 -- a converter with another filter
 abbrev pub with-filter : Filter → Converter → Converter
