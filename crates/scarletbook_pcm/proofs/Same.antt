@@ -19,7 +19,7 @@ use Rattle.reference.specs.Output.{samples-per-frame, unclamped, sample, clippe
 use Rattle.reference.specs.Refusals.{rack, accepted, decide, Datum, Place, if-present, one-long, run-length, filter-places, opening-places, input-places, unsupported}
 use Rattle.reference.specs.declared.Converter.{Converter}
 use Rattle.reference.specs.declared.ConvertStats.{ConvertStats}
-use Rattle.reference.proofs.Refusals.{pass, some-channel, few-channels, whole-frames, few-frames}
+use Rattle.reference.proofs.Refusals.{pass, some-channel, few-channels, supported, right, filtered, whole-frames, few-frames}
 use Rattle.channel_bytes.specs.Lent.{Lent, lent-run}
 use Rattle.gain.proofs.Records.{right-bounded}
 use Rattle.runs.specs.Loops.{Ran}

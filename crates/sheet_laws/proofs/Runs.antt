@@ -20,7 +20,7 @@ use Rattle.reference.specs.Stages.{taps-of, y}
 use Rattle.reference.specs.Scaling.{right-gain, scaled}
 use Rattle.reference.specs.declared.Converter.{Converter}
 use Rattle.reference.proofs.Frames.{frame-samples}
-use Rattle.reference.proofs.Refusals.{pass, few-frames}
+use Rattle.reference.proofs.Refusals.{supported, right, filtered, few-frames}
 use Rattle.routes.proofs.Routes.{low-pass, last-filter, y-of-is, y-of-size}
 use Rattle.gain.proofs.Records.{right-bounded}
 use Rattle.gain.proofs.Scaling.{scaled-small}
