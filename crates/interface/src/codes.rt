@@ -3,10 +3,9 @@ ghost use mathlib.Core.Path.{_≡_};
 ghost use mathlib.Core.Bool.{_&&_};
 ghost use lib.ListN.{length};
 ghost use Rattle.reference.specs.Stages as stages;
-ghost use Rattle.reference.specs.Settings.{converter-of};
 ghost use Rattle.interface.specs.Codes as codes;
 ghost use Rattle.interface.specs.Settings as spelled;
-ghost use Rattle.interface.specs.Settings.{c-settings, known-settings, settings-of};
+ghost use Rattle.interface.specs.Settings.{c-settings, known-settings, settings-of, c-converter, held-converter};
 use reference::Converter;
 use reference::Cutoff;
 use reference::Filter;
@@ -46,7 +45,7 @@ pub fn cutoff_number(cutoff: Cutoff) -> u64
     }
 }
 
-fn cutoff_of(n: u8) -> Cutoff
+pub fn cutoff_of(n: u8) -> Cutoff
     ensures { λ r. ⌜ r ≡ codes.cutoff-of n ⌝ }
 {
     if n == 0 {
@@ -108,6 +107,17 @@ fn listed(taps: &[i32]) -> Filter
     }
 }
 
+// A gain record from decibels and factor.
+pub fn gain_of(gain: &[f64]) -> Gain
+    requires { ⌜ length (now gain) ≡ 2 ⌝ }
+    ensures { λ r. ⌜ r ≡ spelled.gain-of (now (gain .entry)) ⌝ }
+{
+    Gain {
+        db: gain[0],
+        linear: gain[1],
+    }
+}
+
 // The settings that the numbers of known ones stand for.
 pub fn settings(
     rate: u32,
@@ -122,10 +132,7 @@ pub fn settings(
 {
     let rate = rate_of(rate);
     let cutoff = cutoff_of(cutoff);
-    let gain = Gain {
-        db: gain[0],
-        linear: gain[1],
-    };
+    let gain = gain_of(gain);
     let filter = listed(taps);
     Settings {
         rate,
@@ -137,7 +144,7 @@ pub fn settings(
     }
 }
 
-// The converter whose settings known numbers stand for.
+// The converter that known numbers stand for, its stored numbers as they are given.
 pub fn converter(
     rate: u32,
     cutoff: u8,
@@ -145,10 +152,24 @@ pub fn converter(
     gain: &[f64],
     own: u8,
     taps: &[i32],
+    numbers: &[u64],
 ) -> Converter
-    requires { ⌜ length (now gain) ≡ 2 ⌝ }
-    ensures { λ r. ⌜ r ≡ converter-of (settings-of (c-settings rate cutoff channels (now (gain .entry)) own (now (taps .entry)))) ⌝ }
+    requires { ⌜ (length (now gain) ≡ 2) × (length (now numbers) ≡ 3) ⌝ }
+    ensures { λ r. ⌜ r ≡ held-converter (c-converter (c-settings rate cutoff channels (now (gain .entry)) own (now (taps .entry))) (now (numbers .entry))) ⌝ }
 {
     let s = settings(rate, cutoff, channels, gain, own, taps);
-    reference::converter_of(s)
+    let rate = s.rate;
+    let cutoff = s.cutoff;
+    let gain = s.gain;
+    let filter = reference::filter_of(s);
+    Converter {
+        rate,
+        cutoff,
+        channels,
+        gain,
+        filter,
+        samples_per_frame: numbers[0] as usize,
+        reach: numbers[1] as usize,
+        frame_length: numbers[2] as usize,
+    }
 }

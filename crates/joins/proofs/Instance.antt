@@ -13,12 +13,14 @@ use lib.IntN.{ℤ, pos}
 use lib.ListN.{length, take, replicate, length-append, length-replicate}
 use lib.Seq.{take-at, drop-at}
 use Rattle.numbers.specs.Lists.{Each}
+use Rattle.reference.specs.Taps.{F40}
+use Rattle.reference.specs.Stages.{taps-of, reach}
 use Rattle.reference.specs.Frames.{Run, run, idle, frame-length, frame-count, frame, neighbour, sequence, channel-byte}
 use Rattle.reference.specs.Scaling.{LN-10, magnitude, exponent, series, squared, db-to-linear, allowed, right-gain}
-use Rattle.reference.specs.Settings.{filter-of}
+use Rattle.reference.specs.Settings.{built-in, filter-of, converter-of, true-numbers}
 use Rattle.reference.specs.Figures.{mono}
 use Rattle.reference.specs.Output.{samples-per-frame, channel-samples, all-samples, samples, stats, s24le}
-use Rattle.reference.specs.Refusals.{rack, number, accepted, refused, Place, decide, is-accepted, unsupported, opening-places, held-places, input-places, run-length, one-long, if-present, lent-length, byte-lengths, run-lengths, convert-places, convert-run-places}
+use Rattle.reference.specs.Refusals.{rack, number, accepted, refused, Place, decide, is-accepted, unsupported, filter-places, opening-places, held-places, input-places, run-length, one-long, if-present, lent-length, byte-lengths, run-lengths, convert-places, convert-run-places}
 use Rattle.reference.specs.Promises.{if-lent}
 use Rattle.reference.specs.Statistics.{no-stats}
 use Rattle.reference.specs.declared.Converter.{Converter}
@@ -219,15 +221,15 @@ module _ (conv : Converter) (opens : decide (held-places conv) ≡ accepted) (so
 -- ---- and there is such a converter: Standard 88,200, mono, 0 dB; with a frame of zeros and a frame of ones
 
 pub mono-opens : decide (held-places mono) ≡ accepted
-unfolding decide opening-places filter-of mono unsupported right-gain allowed db-to-linear exponent magnitude series squared LN-10 ofInt ofBits toBits mul div add lt le
-mono-opens = built-in-passes
+unfolding decide held-places opening-places filter-of mono converter-of true-numbers samples-per-frame reach taps-of built-in F40 unsupported right-gain allowed db-to-linear exponent magnitude series squared LN-10 ofInt ofBits toBits mul div add lt le
+mono-opens = decide-skip (filter-places built-in) _ built-in-passes
 
 pub some-mono : 0 < mono .channels
-unfolding mono
+unfolding mono converter-of
 some-mono = lit< tt
 
 pub byte-frame : (b : ℕ) → length (replicate 4704 b) ≡ frame-length (mono .channels)
-unfolding mono
+unfolding mono converter-of
 byte-frame b = length-replicate 4704 b
 
 pub cut-exists : JoinTo (both mono mono-opens some-mono (replicate 4704 0x00) (replicate 4704 0xff) (byte-frame 0x00) (byte-frame 0xff)) (calls mono mono-opens some-mono (replicate 4704 0x00) (replicate 4704 0xff) (byte-frame 0x00) (byte-frame 0xff))

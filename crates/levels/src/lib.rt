@@ -78,6 +78,7 @@ pub fn refusal_number(e: PcmError) -> u64
         PcmError::Taps => 17,
         PcmError::TapSums => 18,
         PcmError::Sheet => 20,
+        PcmError::Stored => 15,
     }
 }
 

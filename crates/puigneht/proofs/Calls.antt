@@ -8,7 +8,7 @@ use lib.Dec.{eqb}
 use lib.Ieee.{Float}
 use lib.ListN.{length}
 use Rattle.interface.specs.Codes.{known-rate, known-cutoff, known-flag}
-use Rattle.interface.specs.Settings.{CSettings, known-settings}
+use Rattle.interface.specs.Settings.{CSettings, known-settings, CConverter}
 use Rattle.interface.specs.Told.{room, StatLists}
 use Rattle.puigneht.specs.Calls.{Input, Results, Call, open-understood, has-room, conversion-understood}
 
@@ -38,11 +38,11 @@ pub record Lengths (gain : List Float) (numbers : List ℕ) (decibels : List Flo
   pub floats : length gain ≡ 2
   pub told : (length numbers ≡ 2) × (length decibels ≡ 1)
 
-pub open-lengths : (s : CSettings) (opened numbers : List ℕ) (decibels : List Float) → open-understood s opened numbers decibels ≡ true
-    → Lengths (s .gain) numbers decibels × (length opened ≡ 2)
-open-lengths s opened numbers decibels h =
+pub open-lengths : (s : CSettings) (stored₀ numbers : List ℕ) (decibels : List Float) → open-understood s stored₀ numbers decibels ≡ true
+    → Lengths (s .gain) numbers decibels × (length stored₀ ≡ 3)
+open-lengths s stored₀ numbers decibels h =
     let settings = both-true (known-settings (s .rate) (s .cutoff) (length (s .gain)) (s .own)) _ h in
-    let lists = both-true (eqb (length opened) 2) _ (settings .1) in
+    let lists = both-true (eqb (length stored₀) 3) _ (settings .1) in
     (record { floats = two-floats (s .rate) (s .cutoff) (length (s .gain)) (s .own) (settings .0); told = room-is _ _ (lists .1) }, eqb-true _ _ (lists .0))
 
 -- six items for each statistic
@@ -53,9 +53,12 @@ six-each s h =
     let third = both-true (eqb (length (s .highest)) 6) _ (second .1) in
     (eqb-true _ _ (first .0), eqb-true _ _ (second .0), eqb-true _ _ (third .0), eqb-true _ _ (third .1))
 
-pub lengths : (s : CSettings) (i : Input) (old : Results) → conversion-understood s i old ≡ true → Lengths (s .gain) (old .numbers) (old .decibels) × (has-room (old .stats) ≡ true)
-lengths s i old h =
+pub lengths : (c : CConverter) (i : Input) (old : Results) → conversion-understood c i old ≡ true
+    → Lengths (c .settings .gain) (old .numbers) (old .decibels) × (length (c .numbers) ≡ 3) × (has-room (old .stats) ≡ true)
+lengths c i old h =
+    let s = c .settings in
     let settings = both-true (known-settings (s .rate) (s .cutoff) (length (s .gain)) (s .own)) _ h in
-    let flags = both-true (known-flag (i .has-after)) _ (both-true (known-flag (i .has-before)) _ (settings .1) .1) in
+    let stored = both-true (eqb (length (c .numbers)) 3) _ (settings .1) in
+    let flags = both-true (known-flag (i .has-after)) _ (both-true (known-flag (i .has-before)) _ (stored .1) .1) in
     let lists = both-true (has-room (old .stats)) _ (flags .1) in
-    (record { floats = two-floats (s .rate) (s .cutoff) (length (s .gain)) (s .own) (settings .0); told = room-is _ _ (lists .1) }, lists .0)
+    (record { floats = two-floats (s .rate) (s .cutoff) (length (s .gain)) (s .own) (settings .0); told = room-is _ _ (lists .1) }, eqb-true _ _ (stored .0), lists .0)

@@ -4,14 +4,14 @@ use mathlib.Core.List.{List}
 use Prim.Native.Nat.{ℕ}
 use Rattle.reference.specs.Refusals.{decision}
 use Rattle.reference.proofs.Promises.{decision-exact}
-use Rattle.interface.specs.Settings.{CSettings}
+use Rattle.interface.specs.Settings.{CConverter}
 use Rattle.wav_format.proofs.Theorems.{read-exact}
 use Rattle.wav.proofs.Theorems.{wav-exact}
 use Rattle.puigneht.specs.Calls.{Input, Results}
 use Rattle.puigneht.specs.Wav.{WavConvertCall, WavReadCall, WavWriteCall}
 use Rattle.puigneht.proofs.Exact.{call-exact, conversion-exact}
 
-module _ (s : CSettings) (i : Input) (lent : ℕ) (out o o' counts c c' : List ℕ) (old n n' : Results) (a a' : ℕ) where
+module _ (s : CConverter) (i : Input) (lent : ℕ) (out o o' counts c c' : List ℕ) (old n n' : Results) (a a' : ℕ) where
   pub wav-convert-call : WavConvertCall s i lent out o counts c old n a → WavConvertCall s i lent out o' counts c' old n' a' → (a ≡ a') × ((o ≡ o') × (c ≡ c') × (n ≡ n'))
   wav-convert-call p q =
       call-exact _ p q (λ k l. (k .0 ∙ sym (l .0), k .1 ∙ sym (l .1), k .2 ∙ sym (l .2)))

@@ -8,18 +8,16 @@ use lib.IntN.{ℤ}
 use lib.Ieee.{Float}
 use lib.ListN.{length}
 use Rattle.reference.specs.Frames.{Run, run}
-use Rattle.reference.specs.Settings.{converter-of, reach-of}
-use Rattle.reference.specs.Output.{samples-per-frame}
 use Rattle.reference.specs.Refusals.{rack, desk, decision, gain-decision}
 use Rattle.reference.specs.Promises.{by-decision, GainPromise, OpeningPromise, ConvertRunPromise, ConvertFramePromise, BytesPromise}
-use Rattle.reference.specs.declared.Settings.{Settings}
+use Rattle.reference.specs.Changes.{Change, change, ChangePromise}
 use Rattle.reference.specs.declared.Converter.{Converter}
 use Rattle.reference.specs.declared.FromDb.{FromDb}
 use Rattle.reference.specs.declared.Opened.{Opened}
 use Rattle.reference.specs.declared.Converted.{Converted}
 use Rattle.reference.specs.declared.Limit.{Limit}
-use Rattle.interface.specs.Codes.{known-flag, flag}
-use Rattle.interface.specs.Settings.{CSettings, known-settings, settings-of}
+use Rattle.interface.specs.Codes.{rate-of, cutoff-of, known-flag, flag}
+use Rattle.interface.specs.Settings.{CSettings, known-settings, gain-of, settings-of, CConverter, stored, held-converter}
 use Rattle.interface.specs.Told.{room, room-for-stats, StatLists, told-stats, Told, ToldWhole, gain-floats}
 
 -- ---- arguments
@@ -72,26 +70,44 @@ GainCall db gain gain' decibels decibels' answer =
     ((gain' ≡ gain) × (decibels' ≡ decibels))
     (GainDone db gain gain' decibels' answer)
 
--- samples of one channel in a frame, and the reach
-unfoldable pub opened-numbers : Converter → List ℕ
-opened-numbers conv = samples-per-frame (conv .rate) ∷ reach-of conv ∷ []
-
--- so for opening
-pub record OpenDone (settings : Settings) (opened opened' numbers' : List ℕ) (decibels' : List Float) (answer : ℕ) : Type 0 where
+-- so for opening, and for a change: the numbers that the new converter stores are written if it was accepted
+pub record OpenDone (Promise : Opened → Type 0) (stored₀ stored' numbers' : List ℕ) (decibels' : List Float) (answer : ℕ) : Type 0 where
   pub made : Opened
-  pub promise : OpeningPromise settings made
+  pub promise : Promise made
   pub told : ToldWhole (decision (made .verdict)) answer numbers' decibels'
-  pub written : opened' ≡ by-decision (decision (made .verdict)) (opened-numbers (converter-of settings)) opened
+  pub written : stored' ≡ by-decision (decision (made .verdict)) (stored (made .converter)) stored₀
 
 abbrev pub open-understood : CSettings → List ℕ → List ℕ → List Float → Bool
-open-understood s opened numbers decibels =
-    known-settings (s .rate) (s .cutoff) (length (s .gain)) (s .own) && (eqb (length opened) 2 && room (length numbers) (length decibels))
+open-understood s stored₀ numbers decibels =
+    known-settings (s .rate) (s .cutoff) (length (s .gain)) (s .own) && (eqb (length stored₀) 3 && room (length numbers) (length decibels))
 
 abbrev pub OpenCall : CSettings → List ℕ → List ℕ → List ℕ → List ℕ → List Float → List Float → ℕ → Type 0
-OpenCall s opened opened' numbers numbers' decibels decibels' answer =
-    Call (open-understood s opened numbers decibels) answer
-    ((opened' ≡ opened) × (numbers' ≡ numbers) × (decibels' ≡ decibels))
-    (OpenDone (settings-of s) opened opened' numbers' decibels' answer)
+OpenCall s stored₀ stored' numbers numbers' decibels decibels' answer =
+    Call (open-understood s stored₀ numbers decibels) answer
+    ((stored' ≡ stored₀) × (numbers' ≡ numbers) × (decibels' ≡ decibels))
+    (OpenDone (OpeningPromise (settings-of s)) stored₀ stored' numbers' decibels' answer)
+
+-- what a change wants, as numbers
+pub record CChange : Type 0 where
+  pub rate : ℕ
+  pub cutoff : ℕ
+  pub gain : List Float
+
+abbrev pub c-change : ℕ → ℕ → List Float → CChange
+c-change r c g = record { rate = r; cutoff = c; gain = g }
+
+-- a change has no filter of its own: its flag is 0
+abbrev pub known-change : CChange → Bool
+known-change w = known-settings (w .rate) (w .cutoff) (length (w .gain)) 0
+
+abbrev pub change-of : CChange → Change
+change-of w = change (rate-of (w .rate)) (cutoff-of (w .cutoff)) (gain-of (w .gain))
+
+abbrev pub ChangeCall : CConverter → CChange → List ℕ → List ℕ → List ℕ → List Float → List Float → ℕ → Type 0
+ChangeCall c w stored' numbers numbers' decibels decibels' answer =
+    Call (known-change w && open-understood (c .settings) (c .numbers) numbers decibels) answer
+    ((stored' ≡ c .numbers) × (numbers' ≡ numbers) × (decibels' ≡ decibels))
+    (OpenDone (ChangePromise (held-converter c) (change-of w)) (c .numbers) stored' numbers' decibels' answer)
 
 -- and for a conversion, whose statistics are written besides if it was accepted
 pub record ConversionDone (Promise : Converted → Type 0) (old new : Results) (answer : ℕ) : Type 0 where
@@ -103,33 +119,35 @@ pub record ConversionDone (Promise : Converted → Type 0) (old new : Results) (
 abbrev pub has-room : StatLists → Bool
 has-room s = room-for-stats (length (s .clipped)) (length (s .lowest)) (length (s .highest)) (length (s .empty))
 
-abbrev pub conversion-understood : CSettings → Input → Results → Bool
-conversion-understood s i old =
+abbrev pub conversion-understood : CConverter → Input → Results → Bool
+conversion-understood c i old =
+    let s = c .settings in
     known-settings (s .rate) (s .cutoff) (length (s .gain)) (s .own)
-    && (known-flag (i .has-before) && (known-flag (i .has-after) && (has-room (old .stats) && room (length (old .numbers)) (length (old .decibels)))))
+    && (eqb (length (c .numbers)) 3
+    && (known-flag (i .has-before) && (known-flag (i .has-after) && (has-room (old .stats) && room (length (old .numbers)) (length (old .decibels))))))
 
 -- a call for 32-bit samples
-abbrev pub SamplesCall : (Converter → Run → List ℤ → List ℤ → Converted → Type 0) → CSettings → Input → List ℤ → List ℤ → Results → Results → ℕ → Type 0
-SamplesCall Promise s i out out' old new answer =
-    Call (conversion-understood s i old) answer
+abbrev pub SamplesCall : (Converter → Run → List ℤ → List ℤ → Converted → Type 0) → CConverter → Input → List ℤ → List ℤ → Results → Results → ℕ → Type 0
+SamplesCall Promise c i out out' old new answer =
+    Call (conversion-understood c i old) answer
     ((out' ≡ out) × (new ≡ old))
-    (ConversionDone (Promise (converter-of (settings-of s)) (run-of i) out out') old new answer)
+    (ConversionDone (Promise (held-converter c) (run-of i) out out') old new answer)
 
-abbrev pub ConvertRunCall : CSettings → Input → List ℤ → List ℤ → Results → Results → ℕ → Type 0
+abbrev pub ConvertRunCall : CConverter → Input → List ℤ → List ℤ → Results → Results → ℕ → Type 0
 ConvertRunCall = SamplesCall ConvertRunPromise
 
-abbrev pub ConvertFrameCall : CSettings → Input → List ℤ → List ℤ → Results → Results → ℕ → Type 0
+abbrev pub ConvertFrameCall : CConverter → Input → List ℤ → List ℤ → Results → Results → ℕ → Type 0
 ConvertFrameCall = SamplesCall ConvertFramePromise
 
 -- a call for bytes, under a limit of frames
-abbrev pub BytesCall : Limit → CSettings → Input → ℕ → List ℕ → List ℕ → List ℕ → List ℕ → Results → Results → ℕ → Type 0
-BytesCall whose s i lent out out' counts counts' old new answer =
-    Call (known-flag lent && conversion-understood s i old) answer
+abbrev pub BytesCall : Limit → CConverter → Input → ℕ → List ℕ → List ℕ → List ℕ → List ℕ → Results → Results → ℕ → Type 0
+BytesCall whose c i lent out out' counts counts' old new answer =
+    Call (known-flag lent && conversion-understood c i old) answer
     ((out' ≡ out) × (counts' ≡ counts) × (new ≡ old))
-    (ConversionDone (BytesPromise whose (converter-of (settings-of s)) (run-of i) (flag lent) out counts out' counts') old new answer)
+    (ConversionDone (BytesPromise whose (held-converter c) (run-of i) (flag lent) out counts out' counts') old new answer)
 
-abbrev pub ConvertCall : CSettings → Input → ℕ → List ℕ → List ℕ → List ℕ → List ℕ → Results → Results → ℕ → Type 0
+abbrev pub ConvertCall : CConverter → Input → ℕ → List ℕ → List ℕ → List ℕ → List ℕ → Results → Results → ℕ → Type 0
 ConvertCall = BytesCall rack
 
-abbrev pub DeskCall : CSettings → Input → ℕ → List ℕ → List ℕ → List ℕ → List ℕ → Results → Results → ℕ → Type 0
+abbrev pub DeskCall : CConverter → Input → ℕ → List ℕ → List ℕ → List ℕ → List ℕ → Results → Results → ℕ → Type 0
 DeskCall = BytesCall desk

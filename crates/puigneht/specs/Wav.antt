@@ -9,8 +9,7 @@ use Rattle.reference.specs.Refusals.{Place, place, decision, decide, refusal-nu
 use Rattle.reference.specs.Promises.{by-decision}
 use Rattle.reference.specs.declared.Verdict.{Verdict}
 use Rattle.interface.specs.Codes.{hertz, rate-of, known-rate, known-flag, flag, data-numbers}
-use Rattle.reference.specs.Settings.{converter-of}
-use Rattle.interface.specs.Settings.{CSettings, settings-of}
+use Rattle.interface.specs.Settings.{CConverter, held-converter}
 use Rattle.wav_format.specs.Wav.{wav-file}
 use Rattle.wav_format.specs.Places.{read-decision, write-places}
 use Rattle.wav_format.specs.Promises.{ReadPromise, file-samples}
@@ -21,11 +20,11 @@ use Rattle.puigneht.specs.Calls.{Input, run-of, Results, Call, Conversio
 
 -- ---- a file from a run
 
-abbrev pub WavConvertCall : CSettings → Input → ℕ → List ℕ → List ℕ → List ℕ → List ℕ → Results → Results → ℕ → Type 0
-WavConvertCall s i lent out out' counts counts' old new answer =
-    Call (known-flag lent && conversion-understood s i old) answer
+abbrev pub WavConvertCall : CConverter → Input → ℕ → List ℕ → List ℕ → List ℕ → List ℕ → Results → Results → ℕ → Type 0
+WavConvertCall c i lent out out' counts counts' old new answer =
+    Call (known-flag lent && conversion-understood c i old) answer
     ((out' ≡ out) × (counts' ≡ counts) × (new ≡ old))
-    (ConversionDone (WavPromise (converter-of (settings-of s)) (run-of i) (flag lent) out counts out' counts') old new answer)
+    (ConversionDone (WavPromise (held-converter c) (run-of i) (flag lent) out counts out' counts') old new answer)
 
 -- ---- the reader
 

@@ -1,11 +1,8 @@
 // The converter's calls for C and Rust. None asks anything of its arguments: where they are not understood, a call answers 255 and writes nothing.
-ghost use mathlib.Core.Path.{_≡_};
-ghost use lib.ListN.{length};
-ghost use Rattle.reference.specs.Refusals.{decision};
-ghost use Rattle.reference.specs.Promises.{by-decision, PackPromise};
-ghost use Rattle.interface.specs.Settings.{c-settings};
-ghost use Rattle.interface.specs.Told.{stat-lists, ToldWhole};
-ghost use Rattle.puigneht.specs.Calls.{input, results, opened-numbers, GainCall, OpenCall, ConvertRunCall, ConvertFrameCall, ConvertCall};
+ghost use Rattle.reference.specs.Promises.{PackPromise};
+ghost use Rattle.interface.specs.Settings.{c-settings, c-converter};
+ghost use Rattle.interface.specs.Told.{stat-lists};
+ghost use Rattle.puigneht.specs.Calls.{input, results, GainCall, OpenCall, ConvertRunCall, ConvertFrameCall, ConvertCall};
 
 mod files;
 
@@ -22,23 +19,22 @@ use interface::both;
 use interface::converter;
 use interface::known_flag;
 use interface::known_settings;
-use interface::put_two;
 use interface::room;
 use interface::room_for_stats;
 use interface::settings;
-use interface::tell;
 use interface::tell_conversion;
 use interface::tell_gain;
+use interface::tell_opening;
 use interface::understood;
-use reference::Opened;
-use reference::Verdict;
 
+mod change;
 mod desk;
 mod sheets;
 mod studio;
 mod turns;
 mod wav_files;
 
+pub use change::puigneht_change;
 pub use desk::puigneht_convert_desk;
 pub use sheets::puigneht_join_stats;
 pub use sheets::puigneht_level_sheet;
@@ -60,28 +56,7 @@ pub extern "C" fn puigneht_gain(db: f64, gain: &mut [f64], decibels: &mut [f64])
     255
 }
 
-// An opening's decision is told, and its numbers are written if it was accepted.
-fn tell_opening(made: Opened, opened: &mut [u64], data: &mut [u64], decibels: &mut [f64]) -> u8
-    requires { ⌜ length (now opened) ≡ 2 ⌝ }
-    requires { ⌜ (length (now «data») ≡ 2) × (length (now decibels) ≡ 1) ⌝ }
-    ensures { λ r. ⌜ ToldWhole (decision (made .verdict)) r (now («data» .exit)) (now (decibels .exit)) ⌝ }
-    ensures { λ _. ⌜ now (opened .exit) ≡ by-decision (decision (made .verdict)) (opened-numbers (made .converter)) (now (opened .entry)) ⌝ }
-{
-    let verdict = made.verdict;
-    match verdict {
-        Verdict::Accepted => {
-            let conv = made.converter;
-            let rate = conv.rate;
-            let per_frame = scarletbook_pcm::samples_per_frame(rate);
-            let reach = scarletbook_pcm::context_bytes(conv);
-            put_two(opened, per_frame as u64, reach as u64);
-            tell(verdict, data, decibels)
-        }
-        Verdict::Refused(_) => tell(verdict, data, decibels),
-    }
-}
-
-// Samples per frame and reach of an accepted converter.
+// The numbers that an accepted converter stores: samples per frame, reach, frame length.
 #[no_mangle]
 pub extern "C" fn puigneht_open(
     rate: u32,
@@ -90,17 +65,20 @@ pub extern "C" fn puigneht_open(
     gain: &[f64],
     own: u8,
     taps: &[i32],
-    opened: &mut [u64],
+    numbers: &mut [u64],
     data: &mut [u64],
     decibels: &mut [f64],
 ) -> u8
-    ensures { λ r. ⌜ OpenCall (c-settings rate cutoff channels (now (gain .entry)) own (now (taps .entry))) (now (opened .entry)) (now (opened .exit)) (now («data» .entry)) (now («data» .exit)) (now (decibels .entry)) (now (decibels .exit)) r ⌝ }
+    ensures { λ r. ⌜ OpenCall (c-settings rate cutoff channels (now (gain .entry)) own (now (taps .entry))) (now (numbers .entry)) (now (numbers .exit)) (now («data» .entry)) (now («data» .exit)) (now (decibels .entry)) (now (decibels .exit)) r ⌝ }
 {
     let known = known_settings(rate, cutoff, gain.len(), own);
-    let fits = both(opened.len() == 2, room(data.len(), decibels.len()));
+    let fits = both(
+        numbers.len() == 3,
+        room(data.len(), decibels.len()),
+    );
     if both(known, fits) {
         let made = scarletbook_pcm::open(settings(rate, cutoff, channels, gain, own, taps));
-        return tell_opening(made, opened, data, decibels);
+        return tell_opening(made, numbers, data, decibels);
     }
     255
 }
@@ -114,6 +92,7 @@ pub extern "C" fn puigneht_convert_run<'a>(
     gain: &[f64],
     own: u8,
     taps: &[i32],
+    numbers: &[u64],
     has_before: u8,
     before: &'a [u8],
     frames: &'a [u8],
@@ -127,7 +106,7 @@ pub extern "C" fn puigneht_convert_run<'a>(
     data: &mut [u64],
     decibels: &mut [f64],
 ) -> u8
-    ensures { λ r. ⌜ ConvertRunCall (c-settings rate cutoff channels (now (gain .entry)) own (now (taps .entry))) (input «has_before» (now (before .entry)) (now (frames .entry)) «has_after» (now (after .entry))) (now (out .entry)) (now (out .exit)) (results (stat-lists (now (clipped .entry)) (now (lowest .entry)) (now (highest .entry)) (now (empty .entry))) (now («data» .entry)) (now (decibels .entry))) (results (stat-lists (now (clipped .exit)) (now (lowest .exit)) (now (highest .exit)) (now (empty .exit))) (now («data» .exit)) (now (decibels .exit))) r ⌝ }
+    ensures { λ r. ⌜ ConvertRunCall (c-converter (c-settings rate cutoff channels (now (gain .entry)) own (now (taps .entry))) (now (numbers .entry))) (input «has_before» (now (before .entry)) (now (frames .entry)) «has_after» (now (after .entry))) (now (out .entry)) (now (out .exit)) (results (stat-lists (now (clipped .entry)) (now (lowest .entry)) (now (highest .entry)) (now (empty .entry))) (now («data» .entry)) (now (decibels .entry))) (results (stat-lists (now (clipped .exit)) (now (lowest .exit)) (now (highest .exit)) (now (empty .exit))) (now («data» .exit)) (now (decibels .exit))) r ⌝ }
 {
     let fits = room_for_stats(clipped.len(), lowest.len(), highest.len(), empty.len());
     if understood(
@@ -135,13 +114,14 @@ pub extern "C" fn puigneht_convert_run<'a>(
         cutoff,
         gain.len(),
         own,
+        numbers.len(),
         has_before,
         has_after,
         fits,
         data.len(),
         decibels.len(),
     ) {
-        let conv = converter(rate, cutoff, channels, gain, own, taps);
+        let conv = converter(rate, cutoff, channels, gain, own, taps, numbers);
         let made = scarletbook_pcm::convert_run_parts(
             conv,
             has_before == 1,
@@ -165,6 +145,7 @@ pub extern "C" fn puigneht_convert_frame<'a>(
     gain: &[f64],
     own: u8,
     taps: &[i32],
+    numbers: &[u64],
     has_before: u8,
     before: &'a [u8],
     frames: &'a [u8],
@@ -178,7 +159,7 @@ pub extern "C" fn puigneht_convert_frame<'a>(
     data: &mut [u64],
     decibels: &mut [f64],
 ) -> u8
-    ensures { λ r. ⌜ ConvertFrameCall (c-settings rate cutoff channels (now (gain .entry)) own (now (taps .entry))) (input «has_before» (now (before .entry)) (now (frames .entry)) «has_after» (now (after .entry))) (now (out .entry)) (now (out .exit)) (results (stat-lists (now (clipped .entry)) (now (lowest .entry)) (now (highest .entry)) (now (empty .entry))) (now («data» .entry)) (now (decibels .entry))) (results (stat-lists (now (clipped .exit)) (now (lowest .exit)) (now (highest .exit)) (now (empty .exit))) (now («data» .exit)) (now (decibels .exit))) r ⌝ }
+    ensures { λ r. ⌜ ConvertFrameCall (c-converter (c-settings rate cutoff channels (now (gain .entry)) own (now (taps .entry))) (now (numbers .entry))) (input «has_before» (now (before .entry)) (now (frames .entry)) «has_after» (now (after .entry))) (now (out .entry)) (now (out .exit)) (results (stat-lists (now (clipped .entry)) (now (lowest .entry)) (now (highest .entry)) (now (empty .entry))) (now («data» .entry)) (now (decibels .entry))) (results (stat-lists (now (clipped .exit)) (now (lowest .exit)) (now (highest .exit)) (now (empty .exit))) (now («data» .exit)) (now (decibels .exit))) r ⌝ }
 {
     let fits = room_for_stats(clipped.len(), lowest.len(), highest.len(), empty.len());
     if understood(
@@ -186,13 +167,14 @@ pub extern "C" fn puigneht_convert_frame<'a>(
         cutoff,
         gain.len(),
         own,
+        numbers.len(),
         has_before,
         has_after,
         fits,
         data.len(),
         decibels.len(),
     ) {
-        let conv = converter(rate, cutoff, channels, gain, own, taps);
+        let conv = converter(rate, cutoff, channels, gain, own, taps, numbers);
         let made = scarletbook_pcm::convert_frame_parts(
             conv,
             has_before == 1,
@@ -216,6 +198,7 @@ pub extern "C" fn puigneht_convert<'a>(
     gain: &[f64],
     own: u8,
     taps: &[i32],
+    numbers: &[u64],
     has_before: u8,
     before: &'a [u8],
     frames: &'a [u8],
@@ -231,7 +214,7 @@ pub extern "C" fn puigneht_convert<'a>(
     data: &mut [u64],
     decibels: &mut [f64],
 ) -> u8
-    ensures { λ r. ⌜ ConvertCall (c-settings rate cutoff channels (now (gain .entry)) own (now (taps .entry))) (input «has_before» (now (before .entry)) (now (frames .entry)) «has_after» (now (after .entry))) lent (now (out .entry)) (now (out .exit)) (now (counts .entry)) (now (counts .exit)) (results (stat-lists (now (clipped .entry)) (now (lowest .entry)) (now (highest .entry)) (now (empty .entry))) (now («data» .entry)) (now (decibels .entry))) (results (stat-lists (now (clipped .exit)) (now (lowest .exit)) (now (highest .exit)) (now (empty .exit))) (now («data» .exit)) (now (decibels .exit))) r ⌝ }
+    ensures { λ r. ⌜ ConvertCall (c-converter (c-settings rate cutoff channels (now (gain .entry)) own (now (taps .entry))) (now (numbers .entry))) (input «has_before» (now (before .entry)) (now (frames .entry)) «has_after» (now (after .entry))) lent (now (out .entry)) (now (out .exit)) (now (counts .entry)) (now (counts .exit)) (results (stat-lists (now (clipped .entry)) (now (lowest .entry)) (now (highest .entry)) (now (empty .entry))) (now («data» .entry)) (now (decibels .entry))) (results (stat-lists (now (clipped .exit)) (now (lowest .exit)) (now (highest .exit)) (now (empty .exit))) (now («data» .exit)) (now (decibels .exit))) r ⌝ }
 {
     let fits = room_for_stats(clipped.len(), lowest.len(), highest.len(), empty.len());
     let known = understood(
@@ -239,6 +222,7 @@ pub extern "C" fn puigneht_convert<'a>(
         cutoff,
         gain.len(),
         own,
+        numbers.len(),
         has_before,
         has_after,
         fits,
@@ -246,7 +230,7 @@ pub extern "C" fn puigneht_convert<'a>(
         decibels.len(),
     );
     if both(known_flag(lent), known) {
-        let conv = converter(rate, cutoff, channels, gain, own, taps);
+        let conv = converter(rate, cutoff, channels, gain, own, taps, numbers);
         let made = scarletbook_pcm::convert_parts(
             conv,
             has_before == 1,

@@ -2,7 +2,7 @@
 ghost use mathlib.Core.Path.{_≡_};
 ghost use lib.ListN.{length};
 ghost use Rattle.reference.specs.Refusals.{refusal-number};
-ghost use Rattle.interface.specs.Settings.{c-settings};
+ghost use Rattle.interface.specs.Settings.{c-settings, c-converter};
 ghost use Rattle.interface.specs.Told.{stat-lists};
 ghost use Rattle.puigneht.specs.Calls.{input, results};
 ghost use Rattle.puigneht.specs.Wav.{WavConvertCall, WavReadCall, read-numbers, WavWritten, WavWriteCall};
@@ -31,6 +31,7 @@ pub extern "C" fn puigneht_wav_convert<'a>(
     gain: &[f64],
     own: u8,
     taps: &[i32],
+    numbers: &[u64],
     has_before: u8,
     before: &'a [u8],
     frames: &'a [u8],
@@ -46,7 +47,7 @@ pub extern "C" fn puigneht_wav_convert<'a>(
     data: &mut [u64],
     decibels: &mut [f64],
 ) -> u8
-    ensures { λ r. ⌜ WavConvertCall (c-settings rate cutoff channels (now (gain .entry)) own (now (taps .entry))) (input «has_before» (now (before .entry)) (now (frames .entry)) «has_after» (now (after .entry))) lent (now (out .entry)) (now (out .exit)) (now (counts .entry)) (now (counts .exit)) (results (stat-lists (now (clipped .entry)) (now (lowest .entry)) (now (highest .entry)) (now (empty .entry))) (now («data» .entry)) (now (decibels .entry))) (results (stat-lists (now (clipped .exit)) (now (lowest .exit)) (now (highest .exit)) (now (empty .exit))) (now («data» .exit)) (now (decibels .exit))) r ⌝ }
+    ensures { λ r. ⌜ WavConvertCall (c-converter (c-settings rate cutoff channels (now (gain .entry)) own (now (taps .entry))) (now (numbers .entry))) (input «has_before» (now (before .entry)) (now (frames .entry)) «has_after» (now (after .entry))) lent (now (out .entry)) (now (out .exit)) (now (counts .entry)) (now (counts .exit)) (results (stat-lists (now (clipped .entry)) (now (lowest .entry)) (now (highest .entry)) (now (empty .entry))) (now («data» .entry)) (now (decibels .entry))) (results (stat-lists (now (clipped .exit)) (now (lowest .exit)) (now (highest .exit)) (now (empty .exit))) (now («data» .exit)) (now (decibels .exit))) r ⌝ }
 {
     let fits = room_for_stats(clipped.len(), lowest.len(), highest.len(), empty.len());
     let known = understood(
@@ -54,6 +55,7 @@ pub extern "C" fn puigneht_wav_convert<'a>(
         cutoff,
         gain.len(),
         own,
+        numbers.len(),
         has_before,
         has_after,
         fits,
@@ -61,7 +63,7 @@ pub extern "C" fn puigneht_wav_convert<'a>(
         decibels.len(),
     );
     if both(known_flag(lent), known) {
-        let conv = converter(rate, cutoff, channels, gain, own, taps);
+        let conv = converter(rate, cutoff, channels, gain, own, taps, numbers);
         let made = wav::convert_parts(
             conv,
             has_before == 1,

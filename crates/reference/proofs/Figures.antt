@@ -18,6 +18,7 @@ use Rattle.reference.specs.Taps.{S1, HB, F40}
 use Rattle.reference.specs.Frames.{Run, frame-count, neighbour, sequence, channel-byte}
 use Rattle.reference.specs.Stages.{fir, bit, sign, entry, x, u, w, y-narrow, y, reach}
 use Rattle.reference.specs.Scaling.{whole, LN-10, magnitude, exponent, series, squared, db-to-linear, eighth, scaled, clamp, clips}
+use Rattle.reference.specs.Settings.{filter-of, converter-of}
 use Rattle.reference.specs.Output.{samples-per-frame, unclamped, sample, clipped, item, channel-samples, all-samples, samples, channel-clips, stats}
 use Rattle.reference.specs.declared.PcmRate.the-variants.{Hz88200}
 use Rattle.reference.specs.declared.Cutoff.the-variants.{Standard}
@@ -42,22 +43,22 @@ module _ (b : ℕ) (r : Run) (bytes : (p : ℕ) → p < 14112 → channel-byte 1
       ∙ w-constant b F40 (2282 + 2 * k)
 
   unclamped-is : (k : ℕ) → k < 1176 → unclamped mono r 0 k ≡ z
-  unfolding unclamped mono samples-per-frame
+  unfolding unclamped mono converter-of filter-of samples-per-frame
   unclamped-is k l =
       ap (λ F. scaled (mono .gain .linear) (y Hz88200 Standard F (channel-byte 1 (sequence 1 r) 0) (1176 + k))) built-in-taps
       ∙ ap (scaled _) (y-is k l)
       ∙ unchanged
 
   channel-is : channel-samples mono r ≡ 1176
-  unfolding channel-samples mono samples-per-frame
+  unfolding channel-samples mono converter-of filter-of samples-per-frame
   channel-is = omega (arith, one)
 
   all-is : all-samples mono r ≡ 1176
-  unfolding all-samples mono
+  unfolding all-samples mono converter-of filter-of
   all-is = omega (arith, channel-is)
 
   samples-are : samples mono r ≡ replicate 1176 z
-  unfolding samples item sample mono
+  unfolding samples item sample mono converter-of filter-of
   samples-are =
       rw all-is
       (tabulate-constant (item mono r) 0 1176 z (λ k l.
@@ -66,7 +67,7 @@ module _ (b : ℕ) (r : Run) (bytes : (p : ℕ) → p < 14112 → channel-byte 1
       rw (d, m, unclamped-is k l) inside))
 
   clips-are : (c : ℕ) → channel-clips mono r c ≡ 0
-  unfolding channel-clips clipped mono
+  unfolding channel-clips clipped mono converter-of filter-of
   clips-are zero = rw channel-is (total-none (λ k. cond (clipped mono r 0 k) 1 0) 0 1176 (λ k l. rw zero-add (rw (unclamped-is k l, no-clip))))
   clips-are (suc c) = rw (le-ltb (suc c) 1 (omega arith))
 
@@ -88,7 +89,7 @@ one-frame-long n b e = rw (length-replicate n b, e)
 
 -- 0 dB is the factor 1
 unity : mono .gain .linear ≡ whole 1
-unfolding mono db-to-linear exponent magnitude series squared LN-10 ofInt ofBits mul div add lt
+unfolding mono converter-of filter-of db-to-linear exponent magnitude series squared LN-10 ofInt ofBits mul div add lt
 unity = refl
 
 -- a level that every filter after the first keeps

@@ -11,7 +11,7 @@ use Rattle.numbers.specs.Sums.{sumTo}
 use Rattle.reference.specs.Taps.{F40}
 use Rattle.reference.specs.Stages.{taps-of, whole-sum, whole-size, y, reach}
 use Rattle.reference.specs.Scaling.{scaled}
-use Rattle.reference.specs.Settings.{built-in, filter-of, with-filter}
+use Rattle.reference.specs.Settings.{built-in, filter-of, true-numbers, with-filter}
 use Rattle.reference.specs.Output.{samples-per-frame, unclamped}
 use Rattle.reference.specs.Refusals.{accepted, Place, place, decide, right-sums, filter-places, opening-places, held-places}
 use Rattle.reference.specs.Promises.{FilterPlacesFree}
@@ -31,9 +31,9 @@ module _ (conv : Converter) (f : Filter) where
   unfolding filter-places
   filter-alike = ap₂ (λ (n : ℕ) (h : List ℤ). place (not (leb 1 n && leb n 117)) 17 [] ∷ place (not (right-sums h)) 18 [] ∷ [])
 
-  decides-alike : filter-places f ≡ filter-places (conv .filter) → decide (held-places (with-filter f conv)) ≡ decide (held-places conv)
-  unfolding opening-places filter-of
-  decides-alike e = rw e
+  decides-alike : filter-places f ≡ filter-places (conv .filter) → taps-of f ≡ taps-of (conv .filter) → decide (held-places (with-filter f conv)) ≡ decide (held-places conv)
+  unfolding held-places opening-places filter-of true-numbers
+  decides-alike e t = rw (e, t)
 
   unclamped-alike : taps-of f ≡ taps-of (conv .filter) → (r : Run) → unclamped (with-filter f conv) r ≡ unclamped conv r
   unfolding unclamped
@@ -43,4 +43,4 @@ module _ (conv : Converter) (f : Filter) where
 
 pub filter-places-free : FilterPlacesFree
 filter-places-free conv f n e r =
-    (decides-alike conv f (filter-alike conv f n e), ap (reach (conv .rate) (conv .cutoff)) e, unclamped-alike conv f e r)
+    (decides-alike conv f (filter-alike conv f n e) e, ap (reach (conv .rate) (conv .cutoff)) e, unclamped-alike conv f e r)

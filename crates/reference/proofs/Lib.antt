@@ -9,3 +9,4 @@ pub mod Limits
 pub mod Figures
 pub mod Filters
 pub mod Opening
+pub mod Changes

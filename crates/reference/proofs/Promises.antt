@@ -89,7 +89,8 @@ case-of n a b =
     (cond (eqb n 16) error.Desk
     (cond (eqb n 17) error.Taps
     (cond (eqb n 18) error.TapSums
-    (cond (eqb n 20) error.Sheet error.Schedule)))))))))))))))))
+    (cond (eqb n 20) error.Sheet
+    (cond (eqb n 15) error.Stored error.Schedule))))))))))))))))))
 
 error-of : Decision → PcmError
 error-of accepted = error.Frames 0
@@ -116,6 +117,7 @@ error-back error.Desk = refl
 error-back error.Taps = refl
 error-back error.TapSums = refl
 error-back error.Sheet = refl
+error-back error.Stored = refl
 
 error-exact : (a b : PcmError) → error-decision a ≡ error-decision b → a ≡ b
 error-exact a b e = sym (error-back a) ∙ ap error-of e ∙ error-back b

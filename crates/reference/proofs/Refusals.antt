@@ -1,15 +1,18 @@
 -- What it takes to pass the table's places, and what a refusal says.
-use mathlib.Core.Path.{_≡_, refl}
+use mathlib.Core.Path.{_≡_, refl, ap, sym, _∙_}
 use mathlib.Core.List.{List, [], _∷_, _++_}
 use mathlib.Core.Bool.{Bool, true, false, cond, not, _&&_}
-use Prim.Native.Nat.{ℕ, _*_, _%_, _<_, _≤_}
+use Prim.Native.Nat.{ℕ, _*_, _/_, _%_, _<_, _≤_}
 use native.Mathlib.Nat.{div-add-mod'}
 use native.Mathlib.Omega.{arith}
 use borrow.Author.Tests.{le-leb, lt-leb, ltb-false, lt-ltb, le-ltb, leb-true, eqb-true, not-false}
-use lib.Dec.{leb, lit≤}
+use lib.Dec.{eqb, leb, lit≤}
 use lib.ListN.{length, length-replicate}
 use Rattle.reference.specs.Frames.{Run, idle, frame-length, frame-count, neighbour, before-frame}
-use Rattle.reference.specs.Refusals.{Datum, accepted, refused, error-decision, is-accepted, Place, decide, opening-places, held-places, run-length, most, too-many, one-long, if-present, input-places}
+use Rattle.reference.specs.Scaling.{right-gain}
+use Rattle.reference.specs.Output.{samples-per-frame}
+use Rattle.reference.specs.Settings.{filter-of, held-settings, reach-of, true-numbers}
+use Rattle.reference.specs.Refusals.{Datum, accepted, refused, error-decision, is-accepted, Place, decide, unsupported, filter-places, opening-places, held-places, run-length, most, too-many, one-long, if-present, input-places}
 use Rattle.reference.specs.declared.Converter.{Converter}
 use Rattle.reference.specs.declared.Limit.{Limit}
 use Rattle.reference.specs.declared.Limit.the-variants as limit
@@ -101,6 +104,7 @@ error-refuses error.Desk = refl
 error-refuses error.Taps = refl
 error-refuses error.TapSums = refl
 error-refuses error.Sheet = refl
+error-refuses error.Stored = refl
 
 -- ---- a number from 1 to k: none, more, or so many
 
@@ -125,13 +129,51 @@ and-right true b e = e
 and-right false b e = let z : _≡_ {A = ℕ} 0 1 = cc in absurd (omega arith)
 
 module _ (conv : Converter) (opens : decide (held-places conv) ≡ accepted) where
+  settings-open : decide (opening-places (held-settings conv)) ≡ accepted
+  unfolding held-places
+  settings-open = decide-first (opening-places (held-settings conv)) _ opens
+
   pub some-channel : 0 < conv .channels
   unfolding opening-places
-  some-channel = leb-true 1 (conv .channels) (and-left (leb 1 (conv .channels)) (leb (conv .channels) 6) (not-false _ (pass _ _ opens .0)))
+  some-channel = leb-true 1 (conv .channels) (and-left (leb 1 (conv .channels)) (leb (conv .channels) 6) (not-false _ (pass _ _ settings-open .0)))
 
   pub few-channels : conv .channels ≤ 6
   unfolding opening-places
-  few-channels = leb-true (conv .channels) 6 (and-right (leb 1 (conv .channels)) (leb (conv .channels) 6) (not-false _ (pass _ _ opens .0)))
+  few-channels = leb-true (conv .channels) 6 (and-right (leb 1 (conv .channels)) (leb (conv .channels) 6) (not-false _ (pass _ _ settings-open .0)))
+
+  pub supported : unsupported (conv .rate) (conv .cutoff) ≡ false
+  unfolding opening-places
+  supported = pass _ _ (pass _ _ settings-open .1) .0
+
+  pub right : right-gain (conv .gain) ≡ true
+  unfolding opening-places
+  right = not-false _ (pass _ _ (pass _ _ (pass _ _ settings-open .1) .1) .0)
+
+  pub filtered : decide (filter-places (conv .filter)) ≡ accepted
+  unfolding opening-places filter-of
+  filtered = pass _ _ (pass _ _ (pass _ _ settings-open .1) .1) .1
+
+  numbers-true : true-numbers conv ≡ true
+  unfolding held-places
+  numbers-true = not-false _ (pass _ _ (sym (decide-skip (opening-places (held-settings conv)) _ settings-open) ∙ opens) .0)
+
+  pub stored-samples : conv .«samples_per_frame» ≡ samples-per-frame (conv .rate)
+  unfolding true-numbers
+  stored-samples = eqb-true _ _ (and-left _ _ numbers-true)
+
+  later-true : eqb (conv .reach) (reach-of conv) && eqb (conv .«frame_length») (frame-length (conv .channels)) ≡ true
+  unfolding true-numbers
+  later-true = and-right (eqb (conv .«samples_per_frame») (samples-per-frame (conv .rate))) _ numbers-true
+
+  pub stored-reach : conv .reach ≡ reach-of conv
+  stored-reach = eqb-true _ _ (and-left _ _ later-true)
+
+  pub stored-frame : conv .«frame_length» ≡ frame-length (conv .channels)
+  stored-frame = eqb-true _ _ (and-right (eqb (conv .reach) (reach-of conv)) _ later-true)
+
+  pub stored-count : (frames : List ℕ) → length frames / conv .«frame_length» ≡ frame-count (conv .channels) frames
+  unfolding frame-count
+  stored-count frames = ap (λ (k : ℕ). length frames / k) stored-frame
 
 neighbour-length : (n : ℕ) (d : List Datum) (ch : ℕ) (there : Bool) (bytes : List ℕ) (ps : List Place) → decide (if-present there (one-long n d ch bytes) ++ ps) ≡ accepted
     → length (neighbour ch there bytes) ≡ frame-length ch

@@ -10,7 +10,7 @@ use Rattle.reference.specs.Taps.{S1}
 use Rattle.reference.specs.Frames.{Run, run}
 use Rattle.reference.specs.Stages.{entry}
 use Rattle.reference.specs.Scaling.{whole, db-to-linear}
-use Rattle.reference.specs.Settings.{built-in}
+use Rattle.reference.specs.Settings.{built-in, converter-of}
 use Rattle.reference.specs.Output.{samples, stats}
 use Rattle.reference.specs.declared.PcmRate.the-variants.{Hz88200}
 use Rattle.reference.specs.declared.Cutoff.the-variants.{Standard}
@@ -18,7 +18,9 @@ use Rattle.reference.specs.declared.Converter.{Converter}
 
 -- Standard 88,200, mono, 0 dB
 unfoldable pub mono : Converter
-mono = record { rate = Hz88200; cutoff = Standard; channels = 1; gain = record { db = whole 0; linear = db-to-linear (whole 0) }; filter = built-in }
+mono =
+    converter-of
+    (record { rate = Hz88200; cutoff = Standard; channels = 1; gain = record { db = whole 0; linear = db-to-linear (whole 0) }; own = false; filter = built-in })
 
 -- one frame of a byte, with neighbours of the same, or with none
 unfoldable pub one-byte : ℕ → Bool → Run

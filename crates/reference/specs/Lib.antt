@@ -3,9 +3,10 @@ pub mod Taps
 pub mod Frames
 pub mod Stages
 pub mod Scaling
-pub mod Settings
 pub mod Output
+pub mod Settings
 pub mod Statistics
 pub mod Refusals
 pub mod Promises
+pub mod Changes
 pub mod Figures

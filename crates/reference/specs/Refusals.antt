@@ -10,12 +10,13 @@ use lib.Signed.{leZ}
 use Rattle.reference.specs.Frames.{Run, frame-length, frame-count}
 use Rattle.reference.specs.Stages.{taps-of, whole-sum, whole-size}
 use Rattle.reference.specs.Scaling.{allowed, right-gain}
-use Rattle.reference.specs.Settings.{filter-of, held-settings}
+use Rattle.reference.specs.Settings.{filter-of, held-settings, true-numbers}
 use Rattle.reference.specs.Output.{all-samples}
 use Rattle.reference.specs.declared.PcmRate.{PcmRate}
 use Rattle.reference.specs.declared.PcmRate.the-variants.{Hz88200, Hz176400, Hz352800}
 use Rattle.reference.specs.declared.Cutoff.{Cutoff}
 use Rattle.reference.specs.declared.Cutoff.the-variants.{Standard, Low, Wide}
+use Rattle.reference.specs.declared.Gain.{Gain}
 use Rattle.reference.specs.declared.Filter.{Filter}
 use Rattle.reference.specs.declared.Settings.{Settings}
 use Rattle.reference.specs.declared.Converter.{Converter}
@@ -72,6 +73,7 @@ error-decision error.Desk = refused 16 []
 error-decision error.Taps = refused 17 []
 error-decision error.TapSums = refused 18 []
 error-decision error.Sheet = refused 20 []
+error-decision error.Stored = refused 15 []
 
 abbrev pub decision : Verdict → Decision
 decision verdict.Accepted = accepted
@@ -126,17 +128,23 @@ filter-places f =
     ∷ place (not (right-sums (taps-of f))) 18 []
     ∷ []
 
--- opening
+-- rate with cutoff, and gain: what opening and a change are asked for
+abbrev pub wanted-places : PcmRate → Cutoff → Gain → List Place
+wanted-places r c g = place (unsupported r c) 2 (rate r ∷ cutoff c ∷ []) ∷ place (not (right-gain g)) 3 (decibels (g .db) ∷ []) ∷ []
+
+-- opening: what settings are tried by
 unfoldable pub opening-places : Settings → List Place
 opening-places s =
     place (not (leb 1 (s .channels) && leb (s .channels) 6)) 1 (number (s .channels) ∷ [])
-    ∷ place (unsupported (s .rate) (s .cutoff)) 2 (rate (s .rate) ∷ cutoff (s .cutoff) ∷ [])
-    ∷ place (not (right-gain (s .gain))) 3 (decibels (s .gain .db) ∷ [])
-    ∷ filter-places (filter-of s)
+    ∷ (wanted-places (s .rate) (s .cutoff) (s .gain) ++ filter-places (filter-of s))
 
--- and again in each conversion, on the converter as held
-abbrev pub held-places : Converter → List Place
-held-places conv = opening-places (held-settings conv)
+-- the stored numbers
+abbrev pub numbers-place : Converter → Place
+numbers-place conv = place (not (true-numbers conv)) 15 []
+
+-- each conversion, and a change: what a converter is tried by as it is held. Its settings again, then its stored numbers
+unfoldable pub held-places : Converter → List Place
+held-places conv = opening-places (held-settings conv) ++ (numbers-place conv ∷ [])
 
 -- a slice that is to be one frame; its refusal carries the length, and what is given here after it
 unfoldable pub one-long : ℕ → List Datum → ℕ → List ℕ → Place

@@ -2,6 +2,9 @@
 ghost use mathlib.Core.Path.{_≡_};
 ghost use Prim.Native.Nat.{_≤_};
 ghost use Rattle.numbers.specs.Extremes as extremes;
+ghost use Rattle.reference.specs.Frames.{frame-length};
+ghost use Rattle.reference.specs.Stages as stages;
+ghost use Rattle.reference.specs.Stages.{taps-of, M};
 ghost use Rattle.reference.specs.Output.{samples-per-frame};
 ghost use Rattle.reference.specs.Settings.{built-in, filter-of, converter-of};
 ghost use Rattle.reference.specs.Statistics.{no-stats};
@@ -67,13 +70,17 @@ pub struct Settings {
     pub filter: Filter,
 }
 
-// What opening gives, and each conversion is given.
+// What opening gives, and each conversion is given: the settings, and three numbers of theirs. These are samples of a channel in a frame, the reach in
+// bytes, and the bytes of a frame over all channels.
 pub struct Converter {
     pub rate: PcmRate,
     pub cutoff: Cutoff,
     pub channels: u8,
     pub gain: Gain,
     pub filter: Filter,
+    pub samples_per_frame: usize,
+    pub reach: usize,
+    pub frame_length: usize,
 }
 
 // The filter given, or F40.
@@ -86,6 +93,50 @@ pub fn filter_of(settings: Settings) -> Filter
     built_in()
 }
 
+// M of a filter record of any number of taps: those past 117 are not there.
+fn last_tap(filter: Filter) -> usize
+    ensures { λ r. ⌜ (r ≡ M (taps-of filter)) × (r ≤ 116) ⌝ }
+{
+    if filter.count > 117 {
+        return 116;
+    }
+    if filter.count == 0 {
+        return 0;
+    }
+    filter.count - 1
+}
+
+// Bytes of each channel before and after a stretch of frames that its samples may depend on.
+pub fn reach(rate: PcmRate, cutoff: Cutoff, filter: Filter) -> usize
+    ensures { λ r. ⌜ r ≡ stages.reach rate cutoff (taps-of filter) ⌝ }
+{
+    let m = last_tap(filter);
+    match cutoff {
+        Cutoff::Standard => match rate {
+            PcmRate::Hz88200 => 2 * m + 19,
+            PcmRate::Hz176400 => 2 * m + 19,
+            PcmRate::Hz352800 => 2 * m + 35,
+        },
+        Cutoff::Low => match rate {
+            PcmRate::Hz88200 => 179,
+            PcmRate::Hz176400 => 179,
+            PcmRate::Hz352800 => 195,
+        },
+        Cutoff::Wide => match rate {
+            PcmRate::Hz88200 => 0,
+            PcmRate::Hz176400 => 122,
+            PcmRate::Hz352800 => 66,
+        },
+    }
+}
+
+// Bytes of a frame, of all channels.
+pub fn frame_length(channels: u8) -> usize
+    ensures { λ r. ⌜ r ≡ frame-length channels ⌝ }
+{
+    FRAME_BYTES * (channels as usize)
+}
+
 pub fn converter_of(settings: Settings) -> Converter
     ensures { λ r. ⌜ r ≡ converter-of settings ⌝ }
 {
@@ -93,12 +144,17 @@ pub fn converter_of(settings: Settings) -> Converter
     let cutoff = settings.cutoff;
     let gain = settings.gain;
     let filter = filter_of(settings);
+    let samples_per_frame = samples_per_frame(rate);
+    let reach = reach(rate, cutoff, filter);
     Converter {
         rate,
         cutoff,
         channels: settings.channels,
         gain,
         filter,
+        samples_per_frame,
+        reach,
+        frame_length: frame_length(settings.channels),
     }
 }
 
@@ -197,6 +253,8 @@ pub enum PcmError {
     TapSums,
     // A number too wide for its column of the level sheet.
     Sheet,
+    // Stored numbers of a converter that are not those of its settings.
+    Stored,
 }
 
 pub enum Verdict {
@@ -210,7 +268,8 @@ pub enum FromDb {
     Refused(PcmError),
 }
 
-// What opening answers: the converter of the settings given, also where they are refused.
+// What opening answers: the converter of the settings given, also where they are refused. What a change answers: the new converter, or the one held
+// where it is refused.
 pub struct Opened {
     pub verdict: Verdict,
     pub converter: Converter,

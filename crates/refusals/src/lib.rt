@@ -1,14 +1,18 @@
-// Where a call is turned down: document 01's places, tried from top to bottom.
+// Where a call is turned down: document 01's places, tried from top to bottom. A function that asks for an accepted converter reads its stored numbers.
 ghost use mathlib.Core.Path.{_≡_};
 ghost use mathlib.Core.List.{[], _∷_};
-ghost use Prim.Native.Nat.{_*_, _<_, _≤_};
+ghost use Prim.Native.Nat.{_*_, _≤_};
 ghost use Rattle.reference.specs.Frames.{run, frame-count};
 ghost use Rattle.reference.specs.Output.{samples-per-frame};
+ghost use Rattle.reference.specs.Settings as stored;
 ghost use Rattle.reference.specs.Refusals as table;
-ghost use Rattle.reference.specs.Refusals.{decision, decide, is-accepted, opening-places, held-places, one-frame, too-many, input-places, run-lengths, byte-lengths, convert-run-places, convert-frame-places, convert-places};
+ghost use Rattle.reference.specs.Promises.{by-decision};
+ghost use Rattle.reference.specs.Changes as changes;
+ghost use Rattle.reference.specs.Changes.{change-places};
+ghost use Rattle.reference.specs.Refusals.{decision, decide, is-accepted, wanted-places, opening-places, numbers-place, held-places, one-frame, too-many, input-places, run-lengths, byte-lengths, convert-run-places, convert-frame-places, convert-places};
 use reference::Converter;
 use reference::Cutoff;
-use reference::FRAME_BYTES;
+use reference::Gain;
 use reference::Limit;
 use reference::MOST_FRAMES;
 use reference::PcmError;
@@ -39,6 +43,20 @@ fn unsupported(rate: PcmRate, cutoff: Cutoff) -> bool
     }
 }
 
+// Rate with cutoff, and gain: what opening and a change are asked for.
+fn wanted(rate: PcmRate, cutoff: Cutoff, gain: Gain) -> Verdict
+    ensures { λ r. ⌜ decision r ≡ decide (wanted-places rate cutoff gain) ⌝ }
+{
+    if unsupported(rate, cutoff) {
+        return Verdict::Refused(PcmError::Unsupported(rate, cutoff));
+    }
+    if gain::right_gain(gain) {
+        return Verdict::Accepted;
+    }
+    let db = gain.db;
+    Verdict::Refused(PcmError::Gain(db))
+}
+
 // All that opening tries.
 pub fn opening(settings: Settings) -> Verdict
     ensures { λ r. ⌜ decision r ≡ decide (opening-places settings) ⌝ }
@@ -52,19 +70,55 @@ pub fn opening(settings: Settings) -> Verdict
     }
     let rate = settings.rate;
     let cutoff = settings.cutoff;
-    if unsupported(rate, cutoff) {
-        return Verdict::Refused(PcmError::Unsupported(rate, cutoff));
-    }
     let gain = settings.gain;
-    if gain::right_gain(gain) {
+    let v = wanted(rate, cutoff, gain);
+    if accepted(v) {
         let filter = reference::filter_of(settings);
         return label_taps::filter(filter);
     }
-    let db = gain.db;
-    Verdict::Refused(PcmError::Gain(db))
+    v
 }
 
-// What each conversion tries first: the converter as it is held.
+// The first of two that is a refusal.
+fn first_of(a: Verdict, b: Verdict) -> Verdict
+    ensures { λ r. ⌜ decision r ≡ by-decision (decision a) (decision b) (decision a) ⌝ }
+{
+    match a {
+        Verdict::Accepted => b,
+        Verdict::Refused(_) => a,
+    }
+}
+
+// Whether the stored numbers are those of the settings.
+fn true_numbers(conv: Converter) -> bool
+    ensures { λ r. ⌜ r ≡ stored.true-numbers conv ⌝ }
+{
+    let rate = conv.rate;
+    let cutoff = conv.cutoff;
+    let filter = conv.filter;
+    let samples = reference::samples_per_frame(rate);
+    let reach = reference::reach(rate, cutoff, filter);
+    let frame = reference::frame_length(conv.channels);
+    if conv.samples_per_frame != samples {
+        return false;
+    }
+    if conv.reach != reach {
+        return false;
+    }
+    conv.frame_length == frame
+}
+
+// The stored numbers.
+fn numbers(conv: Converter) -> Verdict
+    ensures { λ r. ⌜ decision r ≡ decide (numbers-place conv ∷ []) ⌝ }
+{
+    if true_numbers(conv) {
+        return Verdict::Accepted;
+    }
+    Verdict::Refused(PcmError::Stored)
+}
+
+// What each conversion, and a change, tries first: the converter as it is held.
 pub fn held(conv: Converter) -> Verdict
     ensures { λ r. ⌜ decision r ≡ decide (held-places conv) ⌝ }
 {
@@ -72,23 +126,34 @@ pub fn held(conv: Converter) -> Verdict
     let cutoff = conv.cutoff;
     let gain = conv.gain;
     let filter = conv.filter;
-    opening(Settings {
+    let settled = opening(Settings {
         rate,
         cutoff,
         channels: conv.channels,
         gain,
         own: true,
         filter,
-    })
+    });
+    let counted = numbers(conv);
+    first_of(settled, counted)
+}
+
+// All that a change tries: the converter as it is held, then what is wanted.
+pub fn change(conv: Converter, rate: PcmRate, cutoff: Cutoff, gain: Gain) -> Verdict
+    ensures { λ r. ⌜ decision r ≡ decide (change-places conv (changes.change rate cutoff gain)) ⌝ }
+{
+    let as_held = held(conv);
+    let asked = wanted(rate, cutoff, gain);
+    first_of(as_held, asked)
 }
 
 // `convert_frame`'s run.
 fn one(conv: Converter, frames: &[u8]) -> Verdict
-    requires { ⌜ (0 < conv .channels) × (conv .channels ≤ 6) ⌝ }
+    requires { ⌜ decide (held-places conv) ≡ table.accepted ⌝ }
     ensures { λ r. ⌜ decision r ≡ decide (one-frame (conv .channels) (now (frames .entry)) ∷ []) ⌝ }
 {
     let n = frames.len();
-    if n != FRAME_BYTES * (conv.channels as usize) {
+    if n != conv.frame_length {
         return Verdict::Refused(PcmError::InputLength(n, 1));
     }
     Verdict::Accepted
@@ -127,10 +192,10 @@ pub fn input(
     has_after: bool,
     after: &[u8],
 ) -> Verdict
-    requires { ⌜ (0 < conv .channels) × (conv .channels ≤ 6) ⌝ }
+    requires { ⌜ decide (held-places conv) ≡ table.accepted ⌝ }
     ensures { λ r. ⌜ decision r ≡ decide (input-places whose conv (run «has_before» (now (before .entry)) (now (frames .entry)) «has_after» (now (after .entry)))) ⌝ }
 {
-    let size = FRAME_BYTES * (conv.channels as usize);
+    let size = conv.frame_length;
     let n = frames.len();
     if n % size != 0 {
         return Verdict::Refused(PcmError::InputLength(n, 0));
@@ -154,16 +219,21 @@ pub fn input(
     Verdict::Accepted
 }
 
+// Whole frames of a run.
+pub fn frame_count(conv: Converter, frames: &[u8]) -> usize
+    requires { ⌜ decide (held-places conv) ≡ table.accepted ⌝ }
+    ensures { λ r. ⌜ r ≡ frame-count (conv .channels) (now (frames .entry)) ⌝ }
+{
+    frames.len() / conv.frame_length
+}
+
 // Samples of the run over all channels.
 pub fn all_samples(conv: Converter, frames: &[u8]) -> usize
-    requires { ⌜ (0 < conv .channels) × (conv .channels ≤ 6) ⌝ }
+    requires { ⌜ decide (held-places conv) ≡ table.accepted ⌝ }
     requires { ⌜ frame-count (conv .channels) (now frames) ≤ 540000 ⌝ }
     ensures { λ r. ⌜ (r ≡ frame-count (conv .channels) (now (frames .entry)) * samples-per-frame (conv .rate) * conv .channels) × (r ≤ 15240960000) ⌝ }
 {
-    let ch = conv.channels as usize;
-    let rate = conv.rate;
-    let count = frames.len() / (FRAME_BYTES * ch);
-    count * reference::samples_per_frame(rate) * ch
+    frame_count(conv, frames) * conv.samples_per_frame * (conv.channels as usize)
 }
 
 // From the run length on, with 32-bit output.
@@ -176,7 +246,7 @@ fn item_lengths(
     after: &[u8],
     out: &[i32],
 ) -> Verdict
-    requires { ⌜ (0 < conv .channels) × (conv .channels ≤ 6) ⌝ }
+    requires { ⌜ decide (held-places conv) ≡ table.accepted ⌝ }
     ensures { λ r. ⌜ decision r ≡ decide (run-lengths conv (run «has_before» (now (before .entry)) (now (frames .entry)) «has_after» (now (after .entry))) (now (out .entry))) ⌝ }
 {
     let v = input(
@@ -211,7 +281,7 @@ fn byte_lengths(
     lent: bool,
     counts: &[u64],
 ) -> Verdict
-    requires { ⌜ (0 < conv .channels) × (conv .channels ≤ 6) ⌝ }
+    requires { ⌜ decide (held-places conv) ≡ table.accepted ⌝ }
     ensures { λ r. ⌜ decision r ≡ decide (byte-lengths whose conv (run «has_before» (now (before .entry)) (now (frames .entry)) «has_after» (now (after .entry))) (now (out .entry)) lent (now (counts .entry))) ⌝ }
 {
     let v = input(whose, conv, has_before, before, frames, has_after, after);
@@ -225,7 +295,7 @@ fn byte_lengths(
     }
     if lent {
         let m = counts.len();
-        let count = frames.len() / (FRAME_BYTES * (conv.channels as usize));
+        let count = frame_count(conv, frames);
         if m != count {
             return Verdict::Refused(PcmError::FrameCounts(m, count));
         }

@@ -19,7 +19,7 @@ use Rattle.reference.specs.Output.{samples-per-frame, unclamped, sample, clippe
 use Rattle.reference.specs.Refusals.{rack, accepted, decide, Datum, Place, if-present, one-long, run-length, filter-places, opening-places, input-places, unsupported}
 use Rattle.reference.specs.declared.Converter.{Converter}
 use Rattle.reference.specs.declared.ConvertStats.{ConvertStats}
-use Rattle.reference.proofs.Refusals.{pass, some-channel, few-channels, whole-frames, few-frames}
+use Rattle.reference.proofs.Refusals.{pass, some-channel, few-channels, supported, right, filtered, whole-frames, few-frames}
 use Rattle.channel_bytes.specs.Lent.{Lent, lent-run}
 use Rattle.gain.proofs.Records.{right-bounded}
 use Rattle.runs.specs.Loops.{Ran}
@@ -100,27 +100,14 @@ module _ (conv : Converter) (hb : Bool) (b f : List ℕ) (ha : Bool) (a : List �
   unfolding sequence lent-run
   sequence-same = rw (neighbour-same 13 [] (conv .channels) hb b _ (some-channel conv (ok .opens)) neighbours, neighbour-same 14 [] (conv .channels) ha a _ (some-channel conv (ok .opens)) last-place)
 
-  -- what an accepted converter has
-  supported : unsupported (conv .rate) (conv .cutoff) ≡ false
-  unfolding opening-places
-  supported = pass _ _ (pass _ _ (ok .opens) .1) .0
-
-  right : right-gain (conv .gain) ≡ true
-  unfolding opening-places
-  right = not-false _ (pass _ _ (pass _ _ (pass _ _ (ok .opens) .1) .1) .0)
-
-  filtered : decide (filter-places (conv .filter)) ≡ accepted
-  unfolding opening-places filter-of
-  filtered = pass _ _ (pass _ _ (pass _ _ (ok .opens) .1) .1) .1
-
   -- its record's array has 117 places
   pub slices-accepted : T (fits binary64 (conv .gain .linear)) → length (conv .filter .taps) ≡ 117 → Accepted conv (frame-count (conv .channels) f) (present hb b) f (present ha a)
   slices-accepted h long =
       record {
         slices = lent;
-        few-taps = few-taps (conv .filter) filtered;
-        last = last-filter (conv .rate) (conv .cutoff) (taps-of (conv .filter)) (low-pass (conv .filter) filtered long) supported;
-        factor = right-bounded (conv .gain) h right;
+        few-taps = few-taps (conv .filter) (filtered conv (ok .opens));
+        last = last-filter (conv .rate) (conv .cutoff) (taps-of (conv .filter)) (low-pass (conv .filter) (filtered conv (ok .opens)) long) (supported conv (ok .opens));
+        factor = right-bounded (conv .gain) h (right conv (ok .opens));
       }
 
   module _ {packed : Bool} {told : ConvertStats} {out out' : List ℤ} {raw raw' counts counts' : List ℕ} (ran : Ran packed conv (lent-run (present hb b) f (present ha a)) told out out' raw raw' counts counts') where

@@ -1,15 +1,14 @@
 // The converter's calls. None asks anything: a call that document 01's table turns down is refused, and all lent memory keeps its contents.
 ghost use mathlib.Core.Path.{_≡_};
-ghost use Prim.Native.Nat.{_≤_};
 ghost use Rattle.reference.specs.Frames.{run};
 ghost use Rattle.reference.specs.Output as output;
-ghost use Rattle.reference.specs.Stages.{taps-of, M};
-ghost use Rattle.reference.specs.Settings.{reach-of};
+ghost use Rattle.reference.specs.Changes as changes;
+ghost use Rattle.reference.specs.Changes.{ChangePromise};
 ghost use Rattle.reference.specs.Promises.{OpeningPromise, ConvertRunPromise, ConvertFramePromise, BytesPromise, ConvertPromise, DeskPromise, PackPromise};
 use reference::Converted;
 use reference::Converter;
 use reference::Cutoff;
-use reference::Filter;
+use reference::Gain;
 use reference::Limit;
 use reference::Opened;
 use reference::PcmRate;
@@ -36,44 +35,11 @@ pub fn samples_per_frame(rate: PcmRate) -> usize
     reference::samples_per_frame(rate)
 }
 
-// M of a filter record of any number of taps: those past 117 are not there.
-fn last_tap(filter: Filter) -> usize
-    ensures { λ r. ⌜ (r ≡ M (taps-of filter)) × (r ≤ 116) ⌝ }
-{
-    if filter.count > 117 {
-        return 116;
-    }
-    if filter.count == 0 {
-        return 0;
-    }
-    filter.count - 1
-}
-
-// Bytes of each channel before and after a stretch of frames that its samples may depend on.
+// Bytes of each channel before and after a stretch of frames that its samples may depend on: the number that the converter stores.
 pub fn context_bytes(conv: Converter) -> usize
-    ensures { λ r. ⌜ r ≡ reach-of conv ⌝ }
+    ensures { λ r. ⌜ r ≡ conv .reach ⌝ }
 {
-    let rate = conv.rate;
-    let cutoff = conv.cutoff;
-    let filter = conv.filter;
-    let m = last_tap(filter);
-    match cutoff {
-        Cutoff::Standard => match rate {
-            PcmRate::Hz88200 => 2 * m + 19,
-            PcmRate::Hz176400 => 2 * m + 19,
-            PcmRate::Hz352800 => 2 * m + 35,
-        },
-        Cutoff::Low => match rate {
-            PcmRate::Hz88200 => 179,
-            PcmRate::Hz176400 => 179,
-            PcmRate::Hz352800 => 195,
-        },
-        Cutoff::Wide => match rate {
-            PcmRate::Hz88200 => 0,
-            PcmRate::Hz176400 => 122,
-            PcmRate::Hz352800 => 66,
-        },
-    }
+    conv.reach
 }
 
 pub fn open(settings: Settings) -> Opened
@@ -82,6 +48,13 @@ pub fn open(settings: Settings) -> Opened
     let verdict = refusals::opening(settings);
     let converter = reference::converter_of(settings);
     Opened { verdict, converter }
+}
+
+// Other rate, cutoff and gain for an open converter. A refused change gives the record as held.
+pub fn change(conv: Converter, rate: PcmRate, cutoff: Cutoff, gain: Gain) -> Opened
+    ensures { λ r. ⌜ ChangePromise conv (changes.change rate cutoff gain) r ⌝ }
+{
+    changes::change(conv, rate, cutoff, gain)
 }
 
 // 32-bit samples of a run. An absent neighbour's slice is neither read nor measured.

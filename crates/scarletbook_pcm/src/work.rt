@@ -8,7 +8,6 @@ ghost use Rattle.scarletbook_pcm.specs.Calls as calls;
 ghost use Rattle.scarletbook_pcm.specs.Calls.{AcceptedCall};
 use reference::ConvertStats;
 use reference::Converter;
-use reference::FRAME_BYTES;
 
 // A neighbour's slice, or an empty part of it where the neighbour is absent.
 fn present<'a>(there: bool, bytes: &'a [u8]) -> &'a [u8]
@@ -35,7 +34,7 @@ pub fn items<'a>(
     ensures { λ r. ⌜ now (out .exit) ≡ samples conv (run «has_before» (now (before .entry)) (now (frames .entry)) «has_after» (now (after .entry))) ⌝ }
     ensures { λ r. ⌜ r ≡ stats conv (run «has_before» (now (before .entry)) (now (frames .entry)) «has_after» (now (after .entry))) ⌝ }
 {
-    let count = frames.len() / (FRAME_BYTES * (conv.channels as usize));
+    let count = frames.len() / conv.frame_length;
     let b = present(has_before, before);
     let a = present(has_after, after);
     let mut raw = [0u8; 1];
@@ -70,7 +69,7 @@ pub fn bytes_and_counts<'a>(
     ensures { λ r. ⌜ r ≡ stats conv (run «has_before» (now (before .entry)) (now (frames .entry)) «has_after» (now (after .entry))) ⌝ }
     ensures { λ r. ⌜ now (counts .exit) ≡ per-frame-clips conv (run «has_before» (now (before .entry)) (now (frames .entry)) «has_after» (now (after .entry))) ⌝ }
 {
-    let count = frames.len() / (FRAME_BYTES * (conv.channels as usize));
+    let count = frames.len() / conv.frame_length;
     let b = present(has_before, before);
     let a = present(has_after, after);
     let mut items = [0i32; 1];
@@ -102,7 +101,7 @@ pub fn bytes<'a>(
     ensures { λ r. ⌜ now (out .exit) ≡ s24le (samples conv (run «has_before» (now (before .entry)) (now (frames .entry)) «has_after» (now (after .entry)))) ⌝ }
     ensures { λ r. ⌜ r ≡ stats conv (run «has_before» (now (before .entry)) (now (frames .entry)) «has_after» (now (after .entry))) ⌝ }
 {
-    let count = frames.len() / (FRAME_BYTES * (conv.channels as usize));
+    let count = frames.len() / conv.frame_length;
     let b = present(has_before, before);
     let a = present(has_after, after);
     let mut items = [0i32; 1];

@@ -20,7 +20,7 @@ use Rattle.reference.specs.Stages.{taps-of, y}
 use Rattle.reference.specs.Scaling.{right-gain, scaled}
 use Rattle.reference.specs.declared.Converter.{Converter}
 use Rattle.reference.proofs.Frames.{frame-samples}
-use Rattle.reference.proofs.Refusals.{pass, few-frames}
+use Rattle.reference.proofs.Refusals.{supported, right, filtered, few-frames}
 use Rattle.routes.proofs.Routes.{low-pass, last-filter, y-of-is, y-of-size}
 use Rattle.gain.proofs.Records.{right-bounded}
 use Rattle.gain.proofs.Scaling.{scaled-small}
@@ -33,26 +33,14 @@ use Rattle.sheet_laws.specs.Runs.{Held, NumbersFit, NeverTooWide, CutShe
 use Rattle.sheet_laws.proofs.Fitting.{Small, sheet-fits}
 
 module _ (conv : Converter) (r : Run) (held : Held conv) (ok : AcceptedConverter conv) (fits : AcceptedRun conv r) where
-  right : right-gain (conv .gain) ≡ true
-  unfolding opening-places
-  right = not-false _ (pass _ _ (pass _ _ (pass _ _ (ok .opens) .1) .1) .0)
-
-  supported : unsupported (conv .rate) (conv .cutoff) ≡ false
-  unfolding opening-places
-  supported = pass _ _ (pass _ _ (ok .opens) .1) .0
-
-  filtered : decide (filter-places (conv .filter)) ≡ accepted
-  unfolding opening-places filter-of
-  filtered = pass _ _ (pass _ _ (pass _ _ (ok .opens) .1) .1) .1
-
   y-small : (β : ℕ → ℕ) (n : ℕ) → natAbs (y (conv .rate) (conv .cutoff) (taps-of (conv .filter)) β n) < 2 ^ 30
   y-small β n =
       rw (← y-of-is (conv .rate) (conv .cutoff) (taps-of (conv .filter)) β n)
-      (y-of-size (conv .rate) (conv .cutoff) _ (last-filter (conv .rate) (conv .cutoff) (taps-of (conv .filter)) (low-pass (conv .filter) filtered (held .1)) supported) β n)
+      (y-of-size (conv .rate) (conv .cutoff) _ (last-filter (conv .rate) (conv .cutoff) (taps-of (conv .filter)) (low-pass (conv .filter) (filtered conv (ok .opens)) (held .1)) (supported conv (ok .opens))) β n)
 
   -- ---- sizes
   scaled-within : (y : ℤ) → natAbs y < 2 ^ 30 → natAbs (scaled (conv .gain .linear) y) < 10 ^ 11
-  scaled-within y h = omega (arith, scaled-small y (conv .gain .linear) (omega arith) (right-bounded (conv .gain) (held .0) right))
+  scaled-within y h = omega (arith, scaled-small y (conv .gain .linear) (omega arith) (right-bounded (conv .gain) (held .0) (right conv (ok .opens))))
 
   unclamped-small : (c n : ℕ) → natAbs (unclamped conv r c n) < 10 ^ 11
   unfolding unclamped

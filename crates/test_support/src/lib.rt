@@ -100,6 +100,7 @@ pub fn error(e: PcmError) -> Told
         PcmError::Taps => refusal(17, 0, 0),
         PcmError::TapSums => refusal(18, 0, 0),
         PcmError::Sheet => refusal(20, 0, 0),
+        PcmError::Stored => refusal(15, 0, 0),
     }
 }
 

@@ -5,7 +5,6 @@ ghost use Rattle.reference.specs.Frames.{run};
 ghost use Rattle.reference.specs.Refusals.{decision, decide};
 ghost use Rattle.wav_checks.specs.Places.{too-large, wav-places};
 use reference::Converter;
-use reference::FRAME_BYTES;
 use reference::Limit;
 use reference::PcmError;
 use reference::Verdict;
@@ -62,7 +61,7 @@ pub fn call(
     }
     if lent {
         let m = counts.len();
-        let count = frames.len() / (FRAME_BYTES * (channels as usize));
+        let count = refusals::frame_count(conv, frames);
         if m != count {
             return Verdict::Refused(PcmError::FrameCounts(m, count));
         }

@@ -6,12 +6,14 @@ use Rattle.interface.proofs.understood.Tie as tie
 
 returns : tie.Need-returns
 returns c =
-    let fits = c .before .before .before in
+    let flags = c .before .before .before in
+    let fits = flags .before in
     let tests = fits .before in
     rw (
-      c .both4 .ensures,
-      c .before .both3 .ensures,
-      c .before .before .both2 .ensures,
+      c .both5 .ensures,
+      c .before .both4 .ensures,
+      c .before .before .both3 .ensures,
+      flags .both2 .ensures,
       fits .both .ensures,
       tests .room .ensures,
       tests .before .known-flag2 .ensures,
@@ -24,6 +26,7 @@ pub understood-spec : {M : Type 1} → statement M
 understood-spec =
     tie.close
     (tie.spec
+    (λ c κs. search needs)
     (λ c κs. search needs)
     (λ c κs. search needs)
     (λ c κs. search needs)

@@ -15,7 +15,7 @@ abbrev the-settings : tie.Start → CSettings
 the-settings s = c-settings (s .args .rate) (s .args .cutoff) (s .args .channels) (now (s .args .gain)) (s .args .own) (now (s .args .taps))
 
 abbrev asked : tie.Start → Bool
-asked s = open-understood (the-settings s) (now (s .args .opened)) (now (s .args .«data»)) (now (s .args .decibels))
+asked s = open-understood (the-settings s) (now (s .args .numbers)) (now (s .args .«data»)) (now (s .args .decibels))
 
 -- the entry, from the place of the test
 abbrev start : tie.After-both2 → tie.Start
@@ -26,16 +26,16 @@ start c =
 -- what the test finds
 found : (c : tie.After-both2) → c .both2 .result ≡ asked (start c)
 found c =
-    let fits = c .before .both .ensures ∙ ap (λ r. eqb (length (now (start c .args .opened))) 2 && r) (c .before .before .room .ensures) in
+    let fits = c .before .both .ensures ∙ ap (λ r. eqb (length (now (start c .args .numbers))) 3 && r) (c .before .before .room .ensures) in
     c .both2 .ensures ∙ ap₂ _&&_ (c .before .before .before .known-settings .ensures) fits
 
 known : (c : tie.Then1) → asked (start (c .before)) ≡ true
 known c = sym (found (c .before)) ∙ c .if1 .taken
 
-fit : (c : tie.Then1) → let s = start (c .before) in Lengths (now (s .args .gain)) (now (s .args .«data»)) (now (s .args .decibels)) × (length (now (s .args .opened)) ≡ 2)
+fit : (c : tie.Then1) → let s = start (c .before) in Lengths (now (s .args .gain)) (now (s .args .«data»)) (now (s .args .decibels)) × (length (now (s .args .numbers)) ≡ 3)
 fit c =
     let s = start (c .before) in
-    open-lengths (the-settings s) (now (s .args .opened)) (now (s .args .«data»)) (now (s .args .decibels)) (known c)
+    open-lengths (the-settings s) (now (s .args .numbers)) (now (s .args .«data»)) (now (s .args .decibels)) (known c)
 
 settings-requires : tie.Need-settings-requires
 settings-requires c κs = fit c .0 .floats
@@ -53,7 +53,7 @@ returns c =
     let told = at-tell-opening .tell-opening .ensures in
     let made = at-tell-opening .before .before .before .before .«open» in
     let promise = rw (at-settings .settings .ensures) at (made .ensures) in
-    worked (known (at-settings .before)) (record { made = made .result; promise = promise; told = told .0; written = rw (promise .converter) at (told .1) })
+    worked (known (at-settings .before)) (record { made = made .result; promise = promise; told = told .0; written = told .1 })
 
 returns-2 : tie.Need-returns-2
 returns-2 c =

@@ -2,7 +2,6 @@
 use mathlib.Core.Path.{_∙_, sym}
 use borrow.Author.Needs.{needs}
 use Rattle.reference.specs.Refusals.{held-places, convert-places}
-use Rattle.reference.proofs.Refusals.{some-channel, few-channels}
 use Rattle.refusals.proofs.Steps.{passed, stands, goes-on}
 use Rattle.refusals.proofs.byte_call.Statement.{statement}
 use Rattle.refusals.proofs.byte_call.Tie as tie
@@ -12,8 +11,7 @@ byte-lengths-requires c κs =
     let at-held = c .before .before in
     let past-at-held = at-held .before .before .before .before .before in
     let s = past-at-held .before in
-    let e = passed (held-places (s .args .conv)) (at-held .held .ensures) (c .before .accepted .ensures) (c .if1 .taken) in
-    (some-channel (s .args .conv) e, few-channels (s .args .conv) e)
+    passed (held-places (s .args .conv)) (at-held .held .ensures) (c .before .accepted .ensures) (c .if1 .taken)
 
 returns : tie.Need-returns
 unfolding convert-places

@@ -61,15 +61,20 @@ so-far c =
     ∙ ap decide (sym (append-nil _))
 
 returns-3 : tie.Need-returns-3
-unfolding lent-length frame-count
-returns-3 c = sym (so-far (c .before .before .before) ∙ present-holds _ _ _ (c .before .before .if3 .taken) (ap not (ne-eqb _ _ (c .if4 .taken))))
+unfolding lent-length
+returns-3 c =
+    let n = c .before in
+    let e = n .before .before in
+    rw (n .frame-count .ensures) (sym (so-far e ∙ present-holds _ _ _ (n .before .if3 .taken) (ap not (ne-eqb _ _ (λ q. c .if4 .taken (q ∙ sym (n .frame-count .ensures)))))))
 
 returns-4 : tie.Need-returns-4
-unfolding lent-length frame-count
+unfolding lent-length
 returns-4 c =
-    let e = fitting (c .before .before .before) in
+    let n = c .before in
+    let l = n .before .before in
+    let e = fitting l in
     tested e .input .ensures ∙ fits e
-    ∙ sym (so-far (c .before .before .before) ∙ present-passes _ _ _ (c .before .before .if3 .taken) (ap not (eq-eqb _ _ (c .if4 .left))) ∙ at-end)
+    ∙ sym (so-far l ∙ present-passes _ _ _ (n .before .if3 .taken) (ap not (eq-eqb _ _ (c .if4 .left ∙ n .frame-count .ensures))) ∙ at-end)
 
 returns-5 : tie.Need-returns-5
 returns-5 c =
@@ -86,9 +91,7 @@ byte-lengths-spec =
     all-samples-requires
     (λ c. search needs)
     returns-2
-    (λ c. search needs)
-    (λ c. search needs)
-    (λ c. search needs)
+    (λ c κs. search needs)
     returns-3
     returns-4
     returns-5)

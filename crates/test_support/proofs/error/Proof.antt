@@ -60,6 +60,9 @@ returns-18 c = rw (c .before .enum-told8 .given .1) (c .refusal18 .ensures)
 returns-19 : tie.Need-returns-19
 returns-19 c = rw (c .before .enum-told9 .given .1) (c .refusal19 .ensures)
 
+returns-20 : tie.Need-returns-20
+returns-20 c = rw (c .before .enum-told10 .given .1) (c .refusal20 .ensures)
+
 pub error-spec : {M : Type 1} → statement M
 error-spec =
     tie.close
@@ -75,6 +78,8 @@ error-spec =
     (λ c κs. search needs)
     (λ c κs. search needs)
     (λ c. search needs)
+    (λ c. search needs)
+    (λ c κs. search needs)
     (λ c. search needs)
     (λ c κs. search needs)
     (λ c. search needs)
@@ -125,4 +130,5 @@ error-spec =
     returns-16
     returns-17
     returns-18
-    returns-19)
+    returns-19
+    returns-20)

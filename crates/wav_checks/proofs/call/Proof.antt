@@ -1,12 +1,11 @@
 -- `call` meets its contract.
 use denote.Ref.{now}
 use mathlib.Core.Path.{_≡_, sym, _∙_}
-use native.Mathlib.Omega.{arith}
 use borrow.Author.Tests.{not-true, not-false}
 use borrow.Author.Needs.{needs}
-use Rattle.reference.specs.Frames.{Run, run, frame-count}
+use Rattle.reference.specs.Frames.{Run, run}
 use Rattle.reference.specs.Refusals.{rack, accepted, decide, held-places, input-places}
-use Rattle.reference.proofs.Refusals.{some-channel, few-channels, few-frames, decide-skip}
+use Rattle.reference.proofs.Refusals.{few-frames, decide-skip}
 use Rattle.refusals.proofs.Steps.{passed, stands}
 use Rattle.wav_checks.specs.Places.{wav-places}
 use Rattle.wav_checks.proofs.Accepted.{wrong-length, wrong-counts, past-counts, not-lent}
@@ -43,7 +42,7 @@ unfolding wav-places
 returns c = stands (held-places (start (c .before .before) .args .conv)) (c .before .before .held .ensures) (c .before .accepted .ensures) _ (not-true _ (c .if1 .taken))
 
 input-requires : tie.Need-input-requires
-input-requires c κs = let conv = from-opened c .args .conv in (some-channel conv (opens c), few-channels conv (opens c))
+input-requires c κs = opens c
 
 returns-2 : tie.Need-returns-2
 unfolding wav-places
@@ -56,8 +55,7 @@ returns-2 c =
 all-samples-requires : tie.Need-all-samples-requires
 all-samples-requires c κs =
     let s = from-fitting c in
-    let o = opens (opened c) in
-    ((some-channel (s .args .conv) o, few-channels (s .args .conv) o), few-frames rack (s .args .conv) (run-of s) (fits c))
+    (opens (opened c), few-frames rack (s .args .conv) (run-of s) (fits c))
 
 returns-3 : tie.Need-returns-3
 returns-3 c =
@@ -65,25 +63,26 @@ returns-3 c =
     let s = from-fitting e in
     wrong-length (s .args .conv) (run-of s) (now (s .args .out)) (s .args .lent) (now (s .args .counts)) (opens (opened e)) (fits e) (c .before .all-samples .result) (c .before .all-samples .ensures .0) (c .if3 .taken)
 
-div-count : tie.Need-div-count
-div-count c = let e = opened (fitting (c .before)) in omega (arith, some-channel (from-opened e .args .conv) (opens e))
+frame-count-requires : tie.Need-frame-count-requires
+frame-count-requires c κs = opens (opened (fitting (c .before)))
 
 returns-4 : tie.Need-returns-4
-unfolding frame-count
 returns-4 c =
-    let l = c .before .before in
+    let n = c .before in
+    let l = n .before .before in
     let e = fitting l in
     let s = from-fitting e in
-    wrong-counts (s .args .conv) (run-of s) (now (s .args .out)) (s .args .lent) (now (s .args .counts)) (opens (opened e)) (fits e) (l .before .all-samples .result) (l .before .all-samples .ensures .0) (l .if3 .left) (c .before .if4 .taken) (c .if5 .taken)
+    rw (n .frame-count .ensures)
+    (wrong-counts (s .args .conv) (run-of s) (now (s .args .out)) (s .args .lent) (now (s .args .counts)) (opens (opened e)) (fits e) (l .before .all-samples .result) (l .before .all-samples .ensures .0) (l .if3 .left) (n .before .if4 .taken) (rw (← n .frame-count .ensures) (c .if5 .taken)))
 
 returns-5 : tie.Need-returns-5
-unfolding frame-count
 returns-5 c =
-    let l = c .before .before .before in
+    let n = c .before .before in
+    let l = n .before .before in
     let e = fitting l in
     let s = from-fitting e in
     c .told .ensures
-    ∙ past-counts (s .args .conv) (run-of s) (now (s .args .out)) (s .args .lent) (now (s .args .counts)) (opens (opened e)) (fits e) (l .before .all-samples .result) (l .before .all-samples .ensures .0) (l .if3 .left) (c .before .before .if4 .taken) (c .before .if5 .left)
+    ∙ past-counts (s .args .conv) (run-of s) (now (s .args .out)) (s .args .lent) (now (s .args .counts)) (opens (opened e)) (fits e) (l .before .all-samples .result) (l .before .all-samples .ensures .0) (l .if3 .left) (n .before .if4 .taken) (c .before .if5 .left ∙ n .frame-count .ensures)
 
 returns-6 : tie.Need-returns-6
 returns-6 c =
@@ -107,9 +106,7 @@ call-spec =
     (λ c. search needs)
     (λ c. search needs)
     returns-3
-    (λ c. search needs)
-    (λ c. search needs)
-    div-count
+    frame-count-requires
     returns-4
     (λ c κs. search needs)
     returns-5

@@ -7,8 +7,9 @@ use Rattle.interface.proofs.codes.settings.Tie as tie
 returns : tie.Need-returns
 unfolding settings-of
 returns c =
-    let numbers = c .before .before .before in
-    rw (c .listed .ensures, numbers .before .rate-of .ensures, numbers .cutoff-of .ensures)
+    let g = c .before in
+    let n = g .before in
+    rw (c .listed .ensures, g .gain-of .ensures, n .cutoff-of .ensures, n .before .rate-of .ensures)
 
 pub settings-spec : {M : Type 1} → statement M
 settings-spec =
@@ -16,7 +17,6 @@ settings-spec =
     (tie.spec
     (λ c κs. search needs)
     (λ c κs. search needs)
-    (λ c. search needs)
-    (λ c. search needs)
+    (λ c κs. search needs)
     (λ c κs. search needs)
     returns)

@@ -61,6 +61,9 @@ returns-18 c = rw (c .before .enum-told8 .given .1) (c .numbers17 .ensures)
 returns-19 : tie.Need-returns-19
 returns-19 c = rw (c .before .enum-told9 .given .1) (c .numbers18 .ensures)
 
+returns-20 : tie.Need-returns-20
+returns-20 c = rw (c .before .enum-told10 .given .1) (c .numbers19 .ensures)
+
 pub of-error-spec : {M : Type 1} → statement M
 of-error-spec =
     tie.close
@@ -74,6 +77,8 @@ of-error-spec =
     (λ c κs. search needs)
     (λ c. search needs)
     (λ c. search needs)
+    (λ c. search needs)
+    (λ c κs. search needs)
     (λ c. search needs)
     (λ c κs. search needs)
     (λ c. search needs)
@@ -124,4 +129,5 @@ of-error-spec =
     returns-16
     returns-17
     returns-18
-    returns-19)
+    returns-19
+    returns-20)

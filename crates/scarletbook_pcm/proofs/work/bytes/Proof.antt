@@ -7,13 +7,15 @@ use denote.Ref.{now}
 use lib.ListN.{length}
 use Rattle.reference.specs.Output.{channel-samples, all-samples}
 use Rattle.reference.specs.Frames.{frame-count}
-use Rattle.reference.proofs.Refusals.{some-channel}
+use Rattle.reference.proofs.Refusals.{some-channel, stored-frame, stored-count}
 use Rattle.scarletbook_pcm.proofs.Same.{slices-accepted, ran-bytes, ran-stats}
 use Rattle.scarletbook_pcm.proofs.work.bytes.Statement.{statement}
 use Rattle.scarletbook_pcm.proofs.work.bytes.Tie as tie
 
 div-count : tie.Need-div-count
-div-count c = omega (arith, some-channel (c .before .before .before .before .before .args .conv) (c .before .before .before .before .before .pre .0 .opens))
+div-count c =
+    let s = c .before .before .before .before .before in
+    omega (arith, some-channel (s .args .conv) (s .pre .0 .opens), stored-frame (s .args .conv) (s .pre .0 .opens))
 
 taps-long : (u : tie.After-struct-known) → length (u .before .before .before .before .before .args .conv .filter .taps) ≡ 117
 taps-long u = search needs
@@ -24,7 +26,7 @@ convert-slices-requires c κs =
     let at-struct-known = c .before .before .before .before .before in
     let s = at-struct-known .before .before .before .before .before in
     let a = s .args in
-    rw (c .before .before .before .before .present .ensures, c .before .before .before .present2 .ensures) (slices-accepted (a .conv) (a .has-before) (now (a .before)) (now (a .frames)) (a .has-after) (now (a .after)) (s .pre .0) (at-struct-known .struct-known .given .1 .1 .1 .0 .1 .0) (taps-long at-struct-known), (record { items = λ e. absurd (true≢false e); bytes = λ e. s .pre .1 }, omega arith))
+    rw (stored-count (a .conv) (s .pre .0 .opens) (now (a .frames)), c .before .before .before .before .present .ensures, c .before .before .before .present2 .ensures) (slices-accepted (a .conv) (a .has-before) (now (a .before)) (now (a .frames)) (a .has-after) (now (a .after)) (s .pre .0) (at-struct-known .struct-known .given .1 .1 .1 .0 .1 .0) (taps-long at-struct-known), (record { items = λ e. absurd (true≢false e); bytes = λ e. s .pre .1 }, omega arith))
 
 returns : tie.Need-returns
 unfolding frame-count
@@ -42,8 +44,6 @@ pub bytes-spec : {M : Type 1} → statement M
 bytes-spec =
     tie.close
     (tie.spec
-    (λ c. search needs)
-    (λ c. search needs)
     div-count
     (λ c κs. search needs)
     (λ c κs. search needs)

@@ -7,7 +7,7 @@ use denote.Ref.{now}
 use lib.ListN.{length}
 use Rattle.reference.specs.Output.{channel-samples, all-samples}
 use Rattle.reference.specs.Frames.{frame-count}
-use Rattle.reference.proofs.Refusals.{some-channel}
+use Rattle.reference.proofs.Refusals.{some-channel, stored-frame, stored-count}
 use Rattle.scarletbook_pcm.proofs.Same.{slices-accepted, ran-bytes, ran-stats, ran-counts}
 use Rattle.scarletbook_pcm.proofs.work.bytes_and_counts.Statement.{statement}
 use Rattle.scarletbook_pcm.proofs.work.bytes_and_counts.Tie as tie
@@ -16,7 +16,7 @@ div-count : tie.Need-div-count
 div-count c =
     let past = c .before .before .before .before .before in
     let entry = past .before in
-    omega (arith, some-channel (entry .args .conv) (entry .pre .0 .opens))
+    omega (arith, some-channel (entry .args .conv) (entry .pre .0 .opens), stored-frame (entry .args .conv) (entry .pre .0 .opens))
 
 -- the function's start, from where the converter is known
 abbrev entry : tie.After-struct-known → tie.Start
@@ -32,7 +32,7 @@ convert-slices-requires c κs =
     let past-at-struct-known = at-struct-known .before .before .before .before .before in
     let s = past-at-struct-known .before in
     let a = s .args in
-    rw (c .before .before .before .before .present .ensures, c .before .before .before .present2 .ensures) (slices-accepted (a .conv) (a .has-before) (now (a .before)) (now (a .frames)) (a .has-after) (now (a .after)) (s .pre .0) (at-struct-known .struct-known .given .1 .1 .1 .0 .1 .0) (taps-long at-struct-known), (record { items = λ e. absurd (true≢false e); bytes = λ e. s .pre .1 .0 }, omega (arith, s .pre .1 .1)))
+    rw (stored-count (a .conv) (s .pre .0 .opens) (now (a .frames)), c .before .before .before .before .present .ensures, c .before .before .before .present2 .ensures) (slices-accepted (a .conv) (a .has-before) (now (a .before)) (now (a .frames)) (a .has-after) (now (a .after)) (s .pre .0) (at-struct-known .struct-known .given .1 .1 .1 .0 .1 .0) (taps-long at-struct-known), (record { items = λ e. absurd (true≢false e); bytes = λ e. s .pre .1 .0 }, omega (arith, s .pre .1 .1)))
 
 returns : tie.Need-returns
 unfolding frame-count
@@ -50,8 +50,6 @@ pub bytes-and-counts-spec : {M : Type 1} → statement M
 bytes-and-counts-spec =
     tie.close
     (tie.spec
-    (λ c. search needs)
-    (λ c. search needs)
     div-count
     (λ c κs. search needs)
     (λ c κs. search needs)

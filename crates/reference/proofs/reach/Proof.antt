@@ -1,10 +1,10 @@
--- `context_bytes` meets its contract.
+-- `reach` meets its contract.
 use mathlib.Core.Path.{refl, ap}
 use Prim.Native.Nat.{ℕ, _+_, _*_}
 use borrow.Author.Needs.{needs}
 use Rattle.reference.specs.Stages.{reach}
-use Rattle.scarletbook_pcm.proofs.context_bytes.Statement.{statement}
-use Rattle.scarletbook_pcm.proofs.context_bytes.Tie as tie
+use Rattle.reference.proofs.reach.Statement.{statement}
+use Rattle.reference.proofs.reach.Tie as tie
 
 returns : tie.Need-returns
 unfolding reach
@@ -42,8 +42,8 @@ returns-9 : tie.Need-returns-9
 unfolding reach
 returns-9 c = rw (c .before .before .enum-told9 .given .1, c .enum-told12 .given .1) refl
 
-pub context-bytes-spec : {M : Type 1} → statement M
-context-bytes-spec =
+pub reach-spec : {M : Type 1} → statement M
+reach-spec =
     tie.close
     (tie.spec
     (λ c κs. search needs)

@@ -3,9 +3,9 @@ use mathlib.Core.Path.{_≡_}
 use native.Mathlib.Omega.{arith}
 use borrow.Author.Needs.{needs}
 use lib.ListN.{length, take, length-take}
 use Rattle.reference.specs.Stages.{taps-of}
-use Rattle.scarletbook_pcm.proofs.last_tap.Statement.{statement}
-use Rattle.scarletbook_pcm.proofs.last_tap.Tie as tie
+use Rattle.reference.proofs.last_tap.Statement.{statement}
+use Rattle.reference.proofs.last_tap.Tie as tie
 
 long : (c : tie.After-struct-known) → length (c .before .args .filter .taps) ≡ 117
 long c = search needs

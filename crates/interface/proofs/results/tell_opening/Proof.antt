@@ -3,22 +3,15 @@ use mathlib.Core.Path.{refl}
 use Rattle.reference.specs.Promises.{by-decision}
 use Rattle.reference.proofs.Refusals.{error-refuses}
 use Rattle.reference.proofs.Promises.{exit-refused}
-use Rattle.puigneht.specs.Calls.{opened-numbers}
 use borrow.Author.Needs.{needs}
-use Rattle.puigneht.proofs.tell_opening.Statement.{statement}
-use Rattle.puigneht.proofs.tell_opening.Tie as tie
+use Rattle.interface.proofs.results.tell_opening.Statement.{statement}
+use Rattle.interface.proofs.results.tell_opening.Tie as tie
 
 enum-told : tie.Need-enum-told
 enum-told c = search needs
 
-samples-per-frame-requires : tie.Need-samples-per-frame-requires
-samples-per-frame-requires c κs = search needs
-
-context-bytes-requires : tie.Need-context-bytes-requires
-context-bytes-requires c κs = search needs
-
-put-two-requires : tie.Need-put-two-requires
-put-two-requires c κs = search needs
+put-stored-requires : tie.Need-put-stored-requires
+put-stored-requires c κs = search needs
 
 tell-requires : tie.Need-tell-requires
 tell-requires c κs = search needs
@@ -39,14 +32,12 @@ same-length-3 : tie.Need-same-length-3
 same-length-3 c = search needs
 
 returns : tie.Need-returns
-unfolding by-decision opened-numbers
+unfolding by-decision
 returns c =
     let at-tell = c .before .before .before .before in
-    let at-put-two = at-tell .before .before .before .before .before in
-    let at-context-bytes = at-put-two .before .before in
-    let at-samples-per-frame = at-context-bytes .before in
-    let at-enum-told = at-samples-per-frame .before .before in
-    (at-tell .tell .ensures, rw (at-enum-told .enum-told .given .1, ← at-samples-per-frame .samples-per-frame .ensures, ← at-context-bytes .context-bytes .ensures) (at-put-two .put-two .ensures))
+    let at-put = at-tell .before .before .before .before .before in
+    let at-enum-told = at-put .before .before .before in
+    (at-tell .tell .ensures, rw (at-enum-told .enum-told .given .1) (at-put .put-stored .ensures))
 
 same-length-4 : tie.Need-same-length-4
 same-length-4 c = search needs
@@ -66,9 +57,7 @@ tell-opening-spec =
     tie.close
     (tie.spec
     enum-told
-    samples-per-frame-requires
-    context-bytes-requires
-    put-two-requires
+    put-stored-requires
     tell-requires
     enum-told-2
     tell-requires-2
