@@ -5,6 +5,7 @@ use reference::Cutoff;
 use reference::FromDb;
 use reference::Gain;
 use reference::PcmRate;
+use reference::Settings;
 
 // The record of +6 dB, or of 0 dB where it is refused.
 fn louder() -> Gain {
@@ -23,13 +24,14 @@ pub fn standard() -> Converter {
     let rate = PcmRate::Hz88200;
     let cutoff = Cutoff::Standard;
     let filter = reference::built_in();
-    Converter {
+    reference::converter_of(Settings {
         rate,
         cutoff,
         channels: 2,
         gain,
+        own: false,
         filter,
-    }
+    })
 }
 
 // Bytes of each channel that the samples of a piece reach into a neighbour.

@@ -4,6 +4,7 @@ use reference::Converter;
 use reference::Cutoff;
 use reference::Gain;
 use reference::PcmRate;
+use reference::Settings;
 use test_files::Tally;
 
 // Standard at 88,200 Hz, two channels, 0 dB.
@@ -15,13 +16,14 @@ fn converter() -> Converter {
     let rate = PcmRate::Hz88200;
     let cutoff = Cutoff::Standard;
     let filter = reference::built_in();
-    Converter {
+    reference::converter_of(Settings {
         rate,
         cutoff,
         channels: 2,
         gain,
+        own: false,
         filter,
-    }
+    })
 }
 
 // Frame k of the file; where there is none, the buffer is left.
