@@ -31,7 +31,7 @@ abbrev start : tie.After-both → tie.Start
 start c =
     let lists = c .before .before .before .before .before in
     let more = lists .before .before .before .before .before in
-    more .before .before .before .before
+    more .before .before .before .before .before
 
 -- what the test finds
 found : (c : tie.After-both) → c .both .result ≡ asked (start c)
