@@ -4,8 +4,8 @@
  * overlap another list of the call. A list may start at any address: no alignment is needed, of doubles and 64-bit
  * numbers neither. No call keeps a pointer, allocates memory or has a state: calls may run in several threads at once.
  *
- * A conversion needs 48 kB of stack, puigneht_open 3 kB, another call less than 1 kB (bench/header measures most of them
- * and tries the addresses).
+ * A conversion needs 48 kB of stack, puigneht_open and puigneht_change 3 kB, another call less than 1 kB (bench/header
+ * measures most of them and tries the addresses).
  * The rounding mode of floating point must be to nearest, as a program starts with: under another one the factors and
  * samples are others, and a gain made before is refused.
  *

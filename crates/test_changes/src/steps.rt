@@ -74,12 +74,12 @@ fn changed(conv: Converter, part: &[u64]) -> Opened {
 }
 
 // The record after a row's changes, and how many of them were answered right.
-struct After {
+struct Held {
     converter: Converter,
     right: u64,
 }
 
-fn after(row: &[u64]) -> After
+fn after(row: &[u64]) -> Held
     requires { ⌜ length (now row) ≡ 86 ⌝ }
     ensures { λ r. ⌜ r .right ≤ 6 ⌝ }
 {
@@ -94,7 +94,7 @@ fn after(row: &[u64]) -> After
         converter = o.converter;
         k += 1;
     }
-    After { converter, right }
+    Held { converter, right }
 }
 
 fn converted(conv: Converter, frame: &[u8], out: &mut [i32]) -> Converted {
