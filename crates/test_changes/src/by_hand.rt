@@ -36,6 +36,7 @@ fn record(row: &[u64]) -> Converter {
 fn change_right(row: &[u64]) -> bool
     requires { ⌜ length (now row) ≡ 27 ⌝ }
 {
+    let six = &row[16..22];
     let rate = rate(at(row, 10));
     let cutoff = cutoff(at(row, 10));
     let gain = gain(at(row, 11), at(row, 12));
@@ -48,7 +49,7 @@ fn change_right(row: &[u64]) -> bool
         at(row, 14),
         at(row, 15),
     )
-        && has(conv, &row[16..22])
+        && has(conv, six)
         && keeps(conv, at(row, 1), filter(at(row, 4), at(row, 5), at(row, 6)))
 }
 
@@ -174,15 +175,21 @@ fn count(question: u64, text: &[u8], frame: &[u8]) -> u64
     yes
 }
 
+fn tell(text: &[u8], frame: &[u8])
+    requires { ⌜ length (now text) ≡ 143208 ⌝ }
+{
+    test_support::right(b"records changed ", 312, count(0, text, frame));
+    test_support::right(b"records in convert_run ", 312, count(1, text, frame));
+    test_support::right(b"records in convert_frame ", 312, count(2, text, frame));
+    test_support::right(b"records in convert ", 312, count(3, text, frame));
+    test_support::right(b"records in convert_desk ", 312, count(4, text, frame));
+    test_support::right(b"records in files ", 312, count(5, text, frame));
+}
+
 pub fn all() {
     let mut text = [0u8; 143208];
     test_support::read(b"records", ROWS * 27, &mut text);
     let mut frame = [0u8; 9408];
     test_files::noise(70, 0, &mut frame);
-    test_support::right(b"records changed ", 312, count(0, &text, &frame));
-    test_support::right(b"records in convert_run ", 312, count(1, &text, &frame));
-    test_support::right(b"records in convert_frame ", 312, count(2, &text, &frame));
-    test_support::right(b"records in convert ", 312, count(3, &text, &frame));
-    test_support::right(b"records in convert_desk ", 312, count(4, &text, &frame));
-    test_support::right(b"records in files ", 312, count(5, &text, &frame));
+    tell(&text, &frame);
 }

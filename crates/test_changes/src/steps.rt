@@ -132,6 +132,15 @@ fn as_fresh(conv: Converter, row: &[u64], frame: &[u8], x: &mut [i32], y: &mut [
     told_right(b, row) && same_clips(a, b) && same(x, y)
 }
 
+// Samples of the row's frame over all channels.
+fn samples(row: &[u64]) -> u64 {
+    match at(row, 80) % 3 {
+        0 => at(row, 85) / 4,
+        1 => at(row, 85) / 2,
+        _ => at(row, 85),
+    }
+}
+
 // With room for the row's frame.
 fn as_fresh_parts(
     conv: Converter,
@@ -140,10 +149,9 @@ fn as_fresh_parts(
     x: &mut [i32],
     y: &mut [i32],
 ) -> bool {
-    let items = at(row, 83) % 65536 * (at(row, 1) % 256);
     let f = test_support::of_bytes(at(row, 85), frame);
-    let n = test_support::of_samples(items, x);
-    let m = test_support::of_samples(items, y);
+    let n = test_support::of_samples(samples(row), x);
+    let m = test_support::of_samples(samples(row), y);
     as_fresh(conv, row, &frame[..f], &mut x[..n], &mut y[..m])
 }
 
