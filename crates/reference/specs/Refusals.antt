@@ -138,9 +138,13 @@ opening-places s =
     place (not (leb 1 (s .channels) && leb (s .channels) 6)) 1 (number (s .channels) ∷ [])
     ∷ (turned-places (s .rate) (s .cutoff) (s .gain) ++ filter-places (filter-of s))
 
+-- the stored numbers
+abbrev pub numbers-place : Converter → Place
+numbers-place conv = place (not (true-numbers conv)) 15 []
+
 -- each conversion, and a change: what a converter is tried by as it is held. Its settings again, then its stored numbers
 unfoldable pub held-places : Converter → List Place
-held-places conv = opening-places (held-settings conv) ++ (place (not (true-numbers conv)) 15 [] ∷ [])
+held-places conv = opening-places (held-settings conv) ++ (numbers-place conv ∷ [])
 
 -- a slice that is to be one frame; its refusal carries the length, and what is given here after it
 unfoldable pub one-long : ℕ → List Datum → ℕ → List ℕ → Place

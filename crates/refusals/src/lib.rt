@@ -6,9 +6,10 @@ ghost use Rattle.reference.specs.Frames.{run, frame-count};
 ghost use Rattle.reference.specs.Output.{samples-per-frame};
 ghost use Rattle.reference.specs.Settings as stored;
 ghost use Rattle.reference.specs.Refusals as table;
+ghost use Rattle.reference.specs.Promises.{by-decision};
 ghost use Rattle.reference.specs.Changes as changes;
 ghost use Rattle.reference.specs.Changes.{change-places};
-ghost use Rattle.reference.specs.Refusals.{decision, decide, is-accepted, turned-places, opening-places, held-places, one-frame, too-many, input-places, run-lengths, byte-lengths, convert-run-places, convert-frame-places, convert-places};
+ghost use Rattle.reference.specs.Refusals.{decision, decide, is-accepted, turned-places, opening-places, numbers-place, held-places, one-frame, too-many, input-places, run-lengths, byte-lengths, convert-run-places, convert-frame-places, convert-places};
 use reference::Converter;
 use reference::Cutoff;
 use reference::Gain;
@@ -78,6 +79,16 @@ pub fn opening(settings: Settings) -> Verdict
     v
 }
 
+// The first of two that is a refusal.
+fn first_of(a: Verdict, b: Verdict) -> Verdict
+    ensures { λ r. ⌜ decision r ≡ by-decision (decision a) (decision b) (decision a) ⌝ }
+{
+    match a {
+        Verdict::Accepted => b,
+        Verdict::Refused(_) => a,
+    }
+}
+
 // Whether the stored numbers are those of the settings.
 fn true_numbers(conv: Converter) -> bool
     ensures { λ r. ⌜ r ≡ stored.true-numbers conv ⌝ }
@@ -97,6 +108,16 @@ fn true_numbers(conv: Converter) -> bool
     conv.frame_length == frame
 }
 
+// The stored numbers.
+fn numbers(conv: Converter) -> Verdict
+    ensures { λ r. ⌜ decision r ≡ decide (numbers-place conv ∷ []) ⌝ }
+{
+    if true_numbers(conv) {
+        return Verdict::Accepted;
+    }
+    Verdict::Refused(PcmError::Stored)
+}
+
 // What each conversion, and a change, tries first: the converter as it is held.
 pub fn held(conv: Converter) -> Verdict
     ensures { λ r. ⌜ decision r ≡ decide (held-places conv) ⌝ }
@@ -105,7 +126,7 @@ pub fn held(conv: Converter) -> Verdict
     let cutoff = conv.cutoff;
     let gain = conv.gain;
     let filter = conv.filter;
-    let v = opening(Settings {
+    let settled = opening(Settings {
         rate,
         cutoff,
         channels: conv.channels,
@@ -113,24 +134,17 @@ pub fn held(conv: Converter) -> Verdict
         own: true,
         filter,
     });
-    if accepted(v) {
-        if true_numbers(conv) {
-            return v;
-        }
-        return Verdict::Refused(PcmError::Stored);
-    }
-    v
+    let counted = numbers(conv);
+    first_of(settled, counted)
 }
 
 // All that a change tries: the converter as it is held, then what is wanted.
 pub fn change(conv: Converter, rate: PcmRate, cutoff: Cutoff, gain: Gain) -> Verdict
     ensures { λ r. ⌜ decision r ≡ decide (change-places conv (changes.change rate cutoff gain)) ⌝ }
 {
-    let v = held(conv);
-    if accepted(v) {
-        return turned(rate, cutoff, gain);
-    }
-    v
+    let as_held = held(conv);
+    let wanted = turned(rate, cutoff, gain);
+    first_of(as_held, wanted)
 }
 
 // `convert_frame`'s run.
