@@ -49,17 +49,18 @@ static double now(void) {
 static void *convert(void *argument) {
     struct album *a = argument;
     double gain[2], decibels[1];
-    uint64_t clipped[6], data[2];
+    uint64_t numbers[3], clipped[6], data[2];
     int64_t lowest[6], highest[6];
     uint8_t empty[6];
     if (puigneht_gain(0.0, gain, 2, decibels, 1) != PUIGNEHT_ACCEPTED) exit(1);
+    if (puigneht_open(a->rate, a->cutoff, a->channels, gain, 2, a->taps > 0, own, a->taps, numbers, 3, data, 2, decibels, 1) != PUIGNEHT_ACCEPTED) exit(1);
     double start = now();
     for (size_t at = 0; at < a->frames;) {
         size_t n = a->piece && a->piece < a->frames - at ? a->piece : a->frames - at;
         uint8_t before = at > 0, after = at + n < a->frames;
         uint8_t answer = puigneht_convert(
-            a->rate, a->cutoff, a->channels, gain, 2, a->taps > 0, own, a->taps, before, before ? a->in + (at - 1) * a->size : NULL, before ? a->size : 0,
-            a->in + at * a->size, n * a->size, after, after ? a->in + (at + n) * a->size : NULL, after ? a->size : 0, 0,
+            a->rate, a->cutoff, a->channels, gain, 2, a->taps > 0, own, a->taps, numbers, 3, before, before ? a->in + (at - 1) * a->size : NULL,
+            before ? a->size : 0, a->in + at * a->size, n * a->size, after, after ? a->in + (at + n) * a->size : NULL, after ? a->size : 0, 0,
             a->out + at * a->out_size, n * a->out_size, NULL, 0, clipped, 6, lowest, 6, highest, 6, empty, 6, data, 2, decibels, 1);
         if (answer != PUIGNEHT_ACCEPTED) exit(1);
         for (int c = 0; c < 6; c++) a->clips += clipped[c];

@@ -94,12 +94,14 @@ static double writing(const struct file *f, const uint8_t *frames, uint8_t *agai
 
 static double converting(const uint8_t *frames, size_t n, int32_t *out, size_t items) {
     double gain[2], decibels[1];
-    uint64_t clipped[6], data[2];
+    uint64_t numbers[3], clipped[6], data[2];
     int64_t lowest[6], highest[6];
     uint8_t empty[6];
     must(puigneht_gain(0.0, gain, 2, decibels, 1));
+    must(puigneht_open(88200, PUIGNEHT_STANDARD, 2, gain, 2, 0, NULL, 0, numbers, 3, data, 2, decibels, 1));
     double start = now();
-    must(puigneht_convert_run(88200, PUIGNEHT_STANDARD, 2, gain, 2, 0, NULL, 0, 0, NULL, 0, frames, n, 0, NULL, 0, out, items, clipped, 6, lowest, 6, highest, 6, empty, 6, data, 2, decibels, 1));
+    must(puigneht_convert_run(88200, PUIGNEHT_STANDARD, 2, gain, 2, 0, NULL, 0, numbers, 3, 0, NULL, 0, frames, n, 0, NULL, 0, out, items, clipped, 6, lowest, 6, highest, 6,
+                              empty, 6, data, 2, decibels, 1));
     return now() - start;
 }
 

@@ -122,4 +122,5 @@ def main():
     print(sheet(rows), end="")
 
 
-main()
+if __name__ == "__main__":
+    main()

@@ -25,6 +25,7 @@ struct settings {
     uint32_t rate;
     uint8_t cutoff, channels;
     double gain[2];
+    uint64_t numbers[3];
     size_t frame_in, frame_out; /* bytes of a frame, and of its packed samples */
 };
 
@@ -70,6 +71,7 @@ static void expect(uint8_t answer) {
     case PUIGNEHT_FRAME_COUNTS: stop("room for the counts of %llu frames, where there are %llu", a, b);
     case PUIGNEHT_BEFORE: stop("the %llu bytes before are not one frame", a);
     case PUIGNEHT_AFTER: stop("the %llu bytes after are not one frame", a);
+    case PUIGNEHT_STORED: stop("the numbers given with the converter are not those of its settings");
     case PUIGNEHT_TAPS: stop("a filter may have 1 to %d taps", PUIGNEHT_MOST_TAPS);
     case PUIGNEHT_TAP_SUMS: stop("a filter's centre and twice its other taps are to sum to 16777216, and their sizes to at most 40000000");
     case PUIGNEHT_DESK: stop("too many frames for the listening desk: there may be %d", PUIGNEHT_DESK_FRAMES);
@@ -96,10 +98,9 @@ static struct settings understood(char **argv) {
     s.rate = (uint32_t)rate;
     s.channels = (uint8_t)channels;
     expect(puigneht_gain(db, s.gain, 2, decibels, 1));
-    uint64_t opened[2];
-    expect(puigneht_open(s.rate, s.cutoff, s.channels, s.gain, 2, 0, NULL, 0, opened, 2, data, 2, decibels, 1));
-    s.frame_in = (size_t)PUIGNEHT_FRAME_BYTES * s.channels;
-    s.frame_out = (size_t)opened[0] * s.channels * 3;
+    expect(puigneht_open(s.rate, s.cutoff, s.channels, s.gain, 2, 0, NULL, 0, s.numbers, 3, data, 2, decibels, 1));
+    s.frame_in = (size_t)s.numbers[2];
+    s.frame_out = (size_t)s.numbers[0] * s.channels * 3;
     return s;
 }
 
@@ -157,9 +158,9 @@ static uint64_t convert(const struct settings *s, FILE *in, const char *in_path,
         uint64_t clipped[6];
         int64_t lowest[6], highest[6];
         uint8_t empty[6];
-        expect(puigneht_convert(s->rate, s->cutoff, s->channels, s->gain, 2, 0, NULL, 0, has_before, buffer, size, buffer + size, n * size,
-                                has_after, buffer + (1 + n) * size, size, 0, out, n * s->frame_out, NULL, 0, clipped, 6, lowest, 6, highest, 6, empty, 6, data, 2,
-                                decibels, 1));
+        expect(puigneht_convert(s->rate, s->cutoff, s->channels, s->gain, 2, 0, NULL, 0, s->numbers, 3, has_before, buffer, size, buffer + size,
+                                n * size, has_after, buffer + (1 + n) * size, size, 0, out, n * s->frame_out, NULL, 0, clipped, 6, lowest, 6, highest,
+                                6, empty, 6, data, 2, decibels, 1));
         for (int c = 0; c < 6; c++) clips += clipped[c];
         if (fwrite(out, s->frame_out, n, to) != n) stop("cannot write %s: %s", out_path, strerror(errno));
         /* The last frame of this piece is the next one's frame before, and its frame after the next one's first. */

@@ -4,8 +4,8 @@
  * overlap another list of the call. A list may start at any address: no alignment is needed, of doubles and 64-bit
  * numbers neither. No call keeps a pointer, allocates memory or has a state: calls may run in several threads at once.
  *
- * A conversion needs 48 kB of stack, puigneht_open 3 kB, another call less than 1 kB (bench/header measures most of them
- * and tries the addresses).
+ * A conversion needs 48 kB of stack, puigneht_open and puigneht_change 3 kB, another call less than 1 kB (bench/header
+ * measures most of them and tries the addresses).
  * The rounding mode of floating point must be to nearest, as a program starts with: under another one the factors and
  * samples are others, and a gain made before is refused.
  *
@@ -15,6 +15,7 @@
  * `own` says whether a low-pass of the caller's own is given, for Standard in place of the built-in one: `taps` are then 1 to
  * PUIGNEHT_MOST_TAPS taps from the centre outwards, as from a filter whose taps sum to 2^24. Where it is 0, `taps` is not
  * read. A filter that is given is checked under every cutoff; Low and Wide do not use it.
+ * `numbers` has 3 items, as puigneht_open or puigneht_change wrote them for these settings.
  *
  * A call answers PUIGNEHT_ACCEPTED, the number of a refusal, or PUIGNEHT_NOT_UNDERSTOOD where a rate, cutoff or
  * flag is unknown or a list of fixed length has another length: then nothing is written. A refused call writes `data`
@@ -48,6 +49,7 @@ enum {
     PUIGNEHT_NOT_WAV = 12,      /* not a file that puigneht_wav_read takes, or none that it would */
     PUIGNEHT_BEFORE = 13,       /* data: bytes of `before`, which are not one frame */
     PUIGNEHT_AFTER = 14,        /* data: bytes of `after`, which are not one frame */
+    PUIGNEHT_STORED = 15,       /* `numbers` that are not those of the settings */
     PUIGNEHT_DESK = 16,         /* more than PUIGNEHT_DESK_FRAMES frames, in puigneht_convert_desk */
     PUIGNEHT_TAPS = 17,         /* no tap, or more than PUIGNEHT_MOST_TAPS */
     PUIGNEHT_TAP_SUMS = 18,     /* centre plus twice the rest is not 16777216, or the absolute sum so is over 40000000 */
@@ -70,54 +72,67 @@ enum { PUIGNEHT_DESK_FRAMES = 8 };
 /* The gain of `db` decibels, -120 to 24. Writes `gain` (2 items) if accepted. */
 uint8_t puigneht_gain(double db, double *gain, size_t gain_len, double *decibels, size_t decibels_len);
 
-/* Whether a converter has these settings. Writes `opened` (2 items) if accepted: samples of a channel in a frame, and
- * how many bytes of each channel before and after a run its samples may depend on. */
-uint8_t puigneht_open(uint32_t rate, uint8_t cutoff, uint8_t channels, const double *gain, size_t gain_len,
-                      uint8_t own, const int32_t *taps, size_t taps_len, uint64_t *opened, size_t opened_len,
-                      uint64_t *data, size_t data_len, double *decibels, size_t decibels_len);
+/* Whether a converter has these settings. Writes `numbers` (3 items), which every call with the converter takes, if accepted:
+ * samples of a channel in a frame; the reach, how many bytes of each channel before and after a run its samples may depend
+ * on; bytes of a frame over all channels. */
+uint8_t puigneht_open(uint32_t rate, uint8_t cutoff, uint8_t channels, const double *gain, size_t gain_len, uint8_t own,
+                      const int32_t *taps, size_t taps_len, uint64_t *numbers, size_t numbers_len, uint64_t *data,
+                      size_t data_len, double *decibels, size_t decibels_len);
+
+/* Other rate, cutoff and gain for an open converter; its channels and filter stay. The converter as held is tried first, as in
+ * a conversion, then the wanted settings by PUIGNEHT_UNSUPPORTED and PUIGNEHT_GAIN, whose data are the wanted ones. Accepted,
+ * `numbers` are those of the wanted settings, and the caller passes the wanted rate, cutoff and gain with them from then on.
+ * Refused, the converter is as it was. `wanted_gain` has 2 items, as puigneht_gain wrote them. */
+uint8_t puigneht_change(uint32_t rate, uint8_t cutoff, uint8_t channels, const double *gain, size_t gain_len,
+                        uint8_t own, const int32_t *taps, size_t taps_len, uint64_t *numbers, size_t numbers_len,
+                        uint32_t wanted_rate, uint8_t wanted_cutoff, const double *wanted_gain, size_t wanted_gain_len,
+                        uint64_t *data, size_t data_len, double *decibels, size_t decibels_len);
 
 /* 32-bit samples of a run of whole frames, the channels in turn. `before` and `after` are the frames next to the run;
  * where the flag is 0 there is none, and the list is not read. `out` has a sample for each sample of the run.
  * Writes the statistics of each channel (6 items each) if accepted: `clipped`, its clipped samples; `lowest` and
- * `highest`, its lowest and highest sample before it was clipped; `empty`, 1 where it has no samples, and else 0. */
+ * `highest`, its lowest and highest sample before it was clipped; `empty`, 1 where it has no samples, and else 0.
+ * A conversion tries the converter first, by 1, 2, 3, 17, 18, 15, and then the lengths. */
 uint8_t puigneht_convert_run(uint32_t rate, uint8_t cutoff, uint8_t channels, const double *gain, size_t gain_len,
-                             uint8_t own, const int32_t *taps, size_t taps_len, uint8_t has_before,
-                             const uint8_t *before, size_t before_len, const uint8_t *frames, size_t frames_len,
-                             uint8_t has_after, const uint8_t *after, size_t after_len, int32_t *out, size_t out_len,
-                             uint64_t *clipped, size_t clipped_len, int64_t *lowest, size_t lowest_len,
-                             int64_t *highest, size_t highest_len, uint8_t *empty, size_t empty_len, uint64_t *data,
-                             size_t data_len, double *decibels, size_t decibels_len);
+                             uint8_t own, const int32_t *taps, size_t taps_len, const uint64_t *numbers,
+                             size_t numbers_len, uint8_t has_before, const uint8_t *before, size_t before_len,
+                             const uint8_t *frames, size_t frames_len, uint8_t has_after, const uint8_t *after,
+                             size_t after_len, int32_t *out, size_t out_len, uint64_t *clipped, size_t clipped_len,
+                             int64_t *lowest, size_t lowest_len, int64_t *highest, size_t highest_len, uint8_t *empty,
+                             size_t empty_len, uint64_t *data, size_t data_len, double *decibels, size_t decibels_len);
 
 /* 32-bit samples of exactly one frame, with the arguments of puigneht_convert_run. */
 uint8_t puigneht_convert_frame(uint32_t rate, uint8_t cutoff, uint8_t channels, const double *gain, size_t gain_len,
-                               uint8_t own, const int32_t *taps, size_t taps_len, uint8_t has_before,
-                               const uint8_t *before, size_t before_len, const uint8_t *frames, size_t frames_len,
-                               uint8_t has_after, const uint8_t *after, size_t after_len, int32_t *out, size_t out_len,
-                               uint64_t *clipped, size_t clipped_len, int64_t *lowest, size_t lowest_len,
-                               int64_t *highest, size_t highest_len, uint8_t *empty, size_t empty_len, uint64_t *data,
-                               size_t data_len, double *decibels, size_t decibels_len);
+                               uint8_t own, const int32_t *taps, size_t taps_len, const uint64_t *numbers,
+                               size_t numbers_len, uint8_t has_before, const uint8_t *before, size_t before_len,
+                               const uint8_t *frames, size_t frames_len, uint8_t has_after, const uint8_t *after,
+                               size_t after_len, int32_t *out, size_t out_len, uint64_t *clipped, size_t clipped_len,
+                               int64_t *lowest, size_t lowest_len, int64_t *highest, size_t highest_len, uint8_t *empty,
+                               size_t empty_len, uint64_t *data, size_t data_len, double *decibels,
+                               size_t decibels_len);
 
 /* Samples of a run of whole frames, packed in three bytes each, least first: `out` has three bytes for each sample of
  * the run. If `lent` is 1, `counts` has an item for each frame, its clipped samples over all channels; if 0 it is not
  * read or written. The other arguments are those of puigneht_convert_run. */
 uint8_t puigneht_convert(uint32_t rate, uint8_t cutoff, uint8_t channels, const double *gain, size_t gain_len,
-                         uint8_t own, const int32_t *taps, size_t taps_len, uint8_t has_before, const uint8_t *before,
-                         size_t before_len, const uint8_t *frames, size_t frames_len, uint8_t has_after,
-                         const uint8_t *after, size_t after_len, uint8_t lent, uint8_t *out, size_t out_len,
-                         uint64_t *counts, size_t counts_len, uint64_t *clipped, size_t clipped_len, int64_t *lowest,
-                         size_t lowest_len, int64_t *highest, size_t highest_len, uint8_t *empty, size_t empty_len,
-                         uint64_t *data, size_t data_len, double *decibels, size_t decibels_len);
+                         uint8_t own, const int32_t *taps, size_t taps_len, const uint64_t *numbers, size_t numbers_len,
+                         uint8_t has_before, const uint8_t *before, size_t before_len, const uint8_t *frames,
+                         size_t frames_len, uint8_t has_after, const uint8_t *after, size_t after_len, uint8_t lent,
+                         uint8_t *out, size_t out_len, uint64_t *counts, size_t counts_len, uint64_t *clipped,
+                         size_t clipped_len, int64_t *lowest, size_t lowest_len, int64_t *highest, size_t highest_len,
+                         uint8_t *empty, size_t empty_len, uint64_t *data, size_t data_len, double *decibels,
+                         size_t decibels_len);
 
 /* For the listening desk: puigneht_convert of at most PUIGNEHT_DESK_FRAMES frames, with its arguments and answers. More
  * frames are refused PUIGNEHT_DESK. */
 uint8_t puigneht_convert_desk(uint32_t rate, uint8_t cutoff, uint8_t channels, const double *gain, size_t gain_len,
-                              uint8_t own, const int32_t *taps, size_t taps_len, uint8_t has_before,
-                              const uint8_t *before, size_t before_len, const uint8_t *frames, size_t frames_len,
-                              uint8_t has_after, const uint8_t *after, size_t after_len, uint8_t lent, uint8_t *out,
-                              size_t out_len, uint64_t *counts, size_t counts_len, uint64_t *clipped,
-                              size_t clipped_len, int64_t *lowest, size_t lowest_len, int64_t *highest,
-                              size_t highest_len, uint8_t *empty, size_t empty_len, uint64_t *data, size_t data_len,
-                              double *decibels, size_t decibels_len);
+                              uint8_t own, const int32_t *taps, size_t taps_len, const uint64_t *numbers,
+                              size_t numbers_len, uint8_t has_before, const uint8_t *before, size_t before_len,
+                              const uint8_t *frames, size_t frames_len, uint8_t has_after, const uint8_t *after,
+                              size_t after_len, uint8_t lent, uint8_t *out, size_t out_len, uint64_t *counts,
+                              size_t counts_len, uint64_t *clipped, size_t clipped_len, int64_t *lowest,
+                              size_t lowest_len, int64_t *highest, size_t highest_len, uint8_t *empty, size_t empty_len,
+                              uint64_t *data, size_t data_len, double *decibels, size_t decibels_len);
 
 /* 32-bit samples as three bytes each, their low 24 bits, least first: as many as there are bytes for. Later bytes are
  * kept. */
@@ -157,13 +172,13 @@ enum { PUIGNEHT_WAV_HEADER = 44 };
 /* A run as a file: puigneht_convert with the header in front, so `out` has PUIGNEHT_WAV_HEADER bytes more.
  * PUIGNEHT_NOT_WAV, after all other refusals, for more than two channels or for more data. */
 uint8_t puigneht_wav_convert(uint32_t rate, uint8_t cutoff, uint8_t channels, const double *gain, size_t gain_len,
-                             uint8_t own, const int32_t *taps, size_t taps_len, uint8_t has_before,
-                             const uint8_t *before, size_t before_len, const uint8_t *frames, size_t frames_len,
-                             uint8_t has_after, const uint8_t *after, size_t after_len, uint8_t lent, uint8_t *out,
-                             size_t out_len, uint64_t *counts, size_t counts_len, uint64_t *clipped,
-                             size_t clipped_len, int64_t *lowest, size_t lowest_len, int64_t *highest,
-                             size_t highest_len, uint8_t *empty, size_t empty_len, uint64_t *data, size_t data_len,
-                             double *decibels, size_t decibels_len);
+                             uint8_t own, const int32_t *taps, size_t taps_len, const uint64_t *numbers,
+                             size_t numbers_len, uint8_t has_before, const uint8_t *before, size_t before_len,
+                             const uint8_t *frames, size_t frames_len, uint8_t has_after, const uint8_t *after,
+                             size_t after_len, uint8_t lent, uint8_t *out, size_t out_len, uint64_t *counts,
+                             size_t counts_len, uint64_t *clipped, size_t clipped_len, int64_t *lowest,
+                             size_t lowest_len, int64_t *highest, size_t highest_len, uint8_t *empty, size_t empty_len,
+                             uint64_t *data, size_t data_len, double *decibels, size_t decibels_len);
 
 /* Reads a whole file. Writes `told` (4 items) if accepted: rate, channels, and where in `file` the sample bytes begin
  * and how many there are. PUIGNEHT_NOT_WAV for any other file; it has no data. */

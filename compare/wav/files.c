@@ -18,7 +18,7 @@ int main(int argc, char **argv) {
     if (argc != 2) return 2;
     static uint8_t in[3 * 2 * PUIGNEHT_FRAME_BYTES], raw[84672], wav[84672 + PUIGNEHT_WAV_HEADER];
     double gain[2], decibels[1];
-    uint64_t clipped[6], data[2];
+    uint64_t numbers[3], clipped[6], data[2];
     int64_t lowest[6], highest[6];
     uint8_t empty[6];
     uint32_t x = 1;
@@ -28,11 +28,12 @@ int main(int argc, char **argv) {
         for (int channels = 1; channels <= 2; channels++)
             for (int k = 0; k < 3; k++) {
                 size_t length = counts[k] * PUIGNEHT_FRAME_BYTES * (size_t)channels, n = counts[k] * rates[r] / 75 * 3 * (size_t)channels;
-                if (puigneht_convert(rates[r], 0, (uint8_t)channels, gain, 2, 0, NULL, 0, 0, NULL, 0, in, length, 0, NULL, 0, 0, raw, n, NULL, 0, clipped, 6, lowest, 6, highest, 6, empty, 6, data, 2,
-                                     decibels, 1))
+                if (puigneht_open(rates[r], 0, (uint8_t)channels, gain, 2, 0, NULL, 0, numbers, 3, data, 2, decibels, 1)) return 1;
+                if (puigneht_convert(rates[r], 0, (uint8_t)channels, gain, 2, 0, NULL, 0, numbers, 3, 0, NULL, 0, in, length, 0, NULL, 0, 0, raw, n, NULL, 0, clipped, 6, lowest, 6,
+                                     highest, 6, empty, 6, data, 2, decibels, 1))
                     return 1;
-                if (puigneht_wav_convert(rates[r], 0, (uint8_t)channels, gain, 2, 0, NULL, 0, 0, NULL, 0, in, length, 0, NULL, 0, 0, wav, n + PUIGNEHT_WAV_HEADER, NULL, 0,
-                                         clipped, 6, lowest, 6, highest, 6, empty, 6, data, 2, decibels, 1))
+                if (puigneht_wav_convert(rates[r], 0, (uint8_t)channels, gain, 2, 0, NULL, 0, numbers, 3, 0, NULL, 0, in, length, 0, NULL, 0, 0, wav, n + PUIGNEHT_WAV_HEADER,
+                                         NULL, 0, clipped, 6, lowest, 6, highest, 6, empty, 6, data, 2, decibels, 1))
                     return 1;
                 put(argv[1], rates[r], channels, counts[k], "raw", raw, n);
                 put(argv[1], rates[r], channels, counts[k], "wav", wav, n + PUIGNEHT_WAV_HEADER);

@@ -1,7 +1,7 @@
 //! Prints the clipped samples of each frame of a file of raw stereo frames, at a gain.
 //!
 //!     cargo run --release --example clips album.dsd 6
-use puigneht::{gain, Converter, Cutoff, PcmRate, Run, FRAME_BYTES};
+use puigneht::{gain, Cutoff, PcmRate, Run, Settings};
 use std::{env, error::Error, fs, process};
 
 fn main() {
@@ -20,15 +20,16 @@ fn clips() -> Result<(), Box<dyn Error>> {
         .parse()
         .map_err(|_| format!("DB is a number from -120 to 24, and not '{db}'"))?;
     let frames = fs::read(&path).map_err(|e| format!("cannot read {path}: {e}"))?;
-    let conv = Converter {
+    let conv = Settings {
         rate: PcmRate::Hz88200,
         cutoff: Cutoff::Standard,
         channels: 2,
         gain: gain(db)?,
         taps: None,
-    };
-    let count = frames.len() / (2 * FRAME_BYTES);
-    let mut out = vec![0; count * conv.open()?.samples_per_frame * 2 * 3];
+    }
+    .open()?;
+    let count = frames.len() / conv.frame_length;
+    let mut out = vec![0; count * conv.samples_per_frame * 2 * 3];
     let mut counts = vec![0; count];
     let run = Run {
         before: None,

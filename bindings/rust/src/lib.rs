@@ -96,6 +96,8 @@ pub enum Error {
     Before(usize),
     /// The bytes of the frame after, which are not one frame.
     After(usize),
+    /// Numbers of a converter that are not those of its settings.
+    Stored,
     /// More than 8 frames at the listening desk.
     Desk,
     /// A filter of no tap, or of more than 117.
@@ -175,6 +177,7 @@ impl std::fmt::Display for Error {
                 f,
                 "the {n} bytes after are not one frame: a frame has {FRAME_BYTES} bytes of each channel"
             ),
+            Error::Stored => write!(f, "the converter's numbers are not those of its settings"),
             Error::Desk => write!(
                 f,
                 "too many frames for the listening desk: there may be {DESK_FRAMES}"
@@ -191,15 +194,6 @@ impl std::fmt::Display for Error {
 
 impl std::error::Error for Error {}
 
-/// What an accepted converter tells.
-#[derive(Clone, Copy, Debug, PartialEq, Eq)]
-pub struct Opened {
-    /// Samples of one channel in a frame.
-    pub samples_per_frame: usize,
-    /// Bytes of each channel before and after a run that its samples may depend on.
-    pub reach: usize,
-}
-
 /// Whole frames, and the frames next to them where there are such.
 #[derive(Clone, Copy, Debug)]
 pub struct Run<'a> {
@@ -208,14 +202,27 @@ pub struct Run<'a> {
     pub after: Option<&'a [u8]>,
 }
 
+/// What a converter is opened with.
 #[derive(Clone, Copy, Debug, PartialEq)]
-pub struct Converter<'a> {
+pub struct Settings<'a> {
     pub rate: PcmRate,
     pub cutoff: Cutoff,
     pub channels: u8,
     pub gain: Gain,
     /// A low-pass of one's own for Standard: 1 to [`MOST_TAPS`] taps from the centre outwards; `None` for the built-in one.
     pub taps: Option<&'a [i32]>,
+}
+
+/// Settings and three numbers of theirs, which each call tries: made by [`Settings::open`] and [`Converter::change`].
+#[derive(Clone, Copy, Debug, PartialEq)]
+pub struct Converter<'a> {
+    pub settings: Settings<'a>,
+    /// Samples of one channel in a frame.
+    pub samples_per_frame: usize,
+    /// Bytes of each channel before and after a run that its samples may depend on.
+    pub reach: usize,
+    /// Bytes of a frame, of all channels.
+    pub frame_length: usize,
 }
 
 /// What a conversion tells of each channel. Of a channel that has no samples all numbers are 0.
@@ -257,6 +264,7 @@ impl Told {
             12 => Error::NotWav,
             13 => Error::Before(a as usize),
             14 => Error::After(a as usize),
+            15 => Error::Stored,
             16 => Error::Desk,
             17 => Error::Taps,
             18 => Error::TapSums,
@@ -317,6 +325,8 @@ type ConvertSamples = unsafe extern "C" fn(
     u8,
     *const i32,
     usize,
+    *const u64,
+    usize,
     u8,
     *const u8,
     usize,
@@ -351,6 +361,8 @@ type ConvertBytes = unsafe extern "C" fn(
     u8,
     *const i32,
     usize,
+    *const u64,
+    usize,
     u8,
     *const u8,
     usize,
@@ -378,12 +390,12 @@ type ConvertBytes = unsafe extern "C" fn(
     usize,
 ) -> u8;
 
-impl Converter<'_> {
-    /// Whether the converter is accepted. Each conversion asks this again.
-    pub fn open(&self) -> Result<Opened, Error> {
+impl<'a> Settings<'a> {
+    /// The converter of these settings.
+    pub fn open(self) -> Result<Converter<'a>, Error> {
         let gain = [self.gain.db, self.gain.linear];
         let taps = self.taps.unwrap_or(&[]);
-        let mut opened = [0; 2];
+        let mut numbers = [0; 3];
         let mut told = Told::default();
         // SAFETY: each pointer and length is that of a live array, and the arrays are apart.
         let answer = unsafe {
@@ -396,7 +408,59 @@ impl Converter<'_> {
                 self.taps.is_some() as u8,
                 taps.as_ptr(),
                 taps.len(),
-                opened.as_mut_ptr(),
+                numbers.as_mut_ptr(),
+                3,
+                told.data.as_mut_ptr(),
+                2,
+                told.decibels.as_mut_ptr(),
+                1,
+            )
+        };
+        told.result(answer, self.with(numbers))
+    }
+
+    fn with(self, numbers: [u64; 3]) -> Converter<'a> {
+        let [samples_per_frame, reach, frame_length] = numbers.map(|n| n as usize);
+        Converter {
+            settings: self,
+            samples_per_frame,
+            reach,
+            frame_length,
+        }
+    }
+}
+
+impl Converter<'_> {
+    fn numbers(&self) -> [u64; 3] {
+        [self.samples_per_frame, self.reach, self.frame_length].map(|n| n as u64)
+    }
+
+    /// Other rate, cutoff and gain; channels and filter stay. A refused change leaves the converter as it was.
+    pub fn change(&mut self, rate: PcmRate, cutoff: Cutoff, gain: Gain) -> Result<(), Error> {
+        let held = self.settings;
+        let taps = held.taps.unwrap_or(&[]);
+        let (from, to) = (
+            [held.gain.db, held.gain.linear],
+            [gain.db, gain.linear],
+        );
+        let mut numbers = self.numbers();
+        let mut told = Told::default();
+        // SAFETY: each pointer and length is that of a live array, and the arrays are apart.
+        let answer = unsafe {
+            raw::puigneht_change(
+                held.rate.hertz(),
+                held.cutoff as u8,
+                held.channels,
+                from.as_ptr(),
+                2,
+                held.taps.is_some() as u8,
+                taps.as_ptr(),
+                taps.len(),
+                numbers.as_mut_ptr(),
+                3,
+                rate.hertz(),
+                cutoff as u8,
+                to.as_ptr(),
                 2,
                 told.data.as_mut_ptr(),
                 2,
@@ -404,14 +468,14 @@ impl Converter<'_> {
                 1,
             )
         };
-        let [samples_per_frame, reach] = opened.map(|n| n as usize);
-        told.result(
-            answer,
-            Opened {
-                samples_per_frame,
-                reach,
-            },
-        )
+        let wanted = Settings {
+            rate,
+            cutoff,
+            gain,
+            ..held
+        };
+        *self = told.result(answer, wanted.with(numbers))?;
+        Ok(())
     }
 
     /// 32-bit samples of a run, the channels in turn.
@@ -430,8 +494,10 @@ impl Converter<'_> {
         run: Run<'_>,
         out: &mut [i32],
     ) -> Result<Stats, Error> {
-        let gain = [self.gain.db, self.gain.linear];
-        let taps = self.taps.unwrap_or(&[]);
+        let s = self.settings;
+        let gain = [s.gain.db, s.gain.linear];
+        let taps = s.taps.unwrap_or(&[]);
+        let numbers = self.numbers();
         let before = run.before.unwrap_or(&[]);
         let after = run.after.unwrap_or(&[]);
         let (mut clipped, mut lowest, mut highest, mut empty) = ([0; 6], [0; 6], [0; 6], [0; 6]);
@@ -439,14 +505,16 @@ impl Converter<'_> {
         // SAFETY: each pointer and length is that of a live slice, and no written slice overlaps another.
         let answer = unsafe {
             call(
-                self.rate.hertz(),
-                self.cutoff as u8,
-                self.channels,
+                s.rate.hertz(),
+                s.cutoff as u8,
+                s.channels,
                 gain.as_ptr(),
                 2,
-                self.taps.is_some() as u8,
+                s.taps.is_some() as u8,
                 taps.as_ptr(),
                 taps.len(),
+                numbers.as_ptr(),
+                3,
                 run.before.is_some() as u8,
                 before.as_ptr(),
                 before.len(),
@@ -509,8 +577,10 @@ impl Converter<'_> {
         out: &mut [u8],
         counts: Option<&mut [u64]>,
     ) -> Result<Stats, Error> {
-        let gain = [self.gain.db, self.gain.linear];
-        let taps = self.taps.unwrap_or(&[]);
+        let s = self.settings;
+        let gain = [s.gain.db, s.gain.linear];
+        let taps = s.taps.unwrap_or(&[]);
+        let numbers = self.numbers();
         let before = run.before.unwrap_or(&[]);
         let after = run.after.unwrap_or(&[]);
         let lent = counts.is_some() as u8;
@@ -520,14 +590,16 @@ impl Converter<'_> {
         // SAFETY: each pointer and length is that of a live slice, and no written slice overlaps another.
         let answer = unsafe {
             call(
-                self.rate.hertz(),
-                self.cutoff as u8,
-                self.channels,
+                s.rate.hertz(),
+                s.cutoff as u8,
+                s.channels,
                 gain.as_ptr(),
                 2,
-                self.taps.is_some() as u8,
+                s.taps.is_some() as u8,
                 taps.as_ptr(),
                 taps.len(),
+                numbers.as_ptr(),
+                3,
                 run.before.is_some() as u8,
                 before.as_ptr(),
                 before.len(),

@@ -18,8 +18,29 @@ extern "C" {
         own: u8,
         taps: *const i32,
         taps_len: usize,
-        opened: *mut u64,
-        opened_len: usize,
+        numbers: *mut u64,
+        numbers_len: usize,
+        data: *mut u64,
+        data_len: usize,
+        decibels: *mut f64,
+        decibels_len: usize,
+    ) -> u8;
+
+    pub fn puigneht_change(
+        rate: u32,
+        cutoff: u8,
+        channels: u8,
+        gain: *const f64,
+        gain_len: usize,
+        own: u8,
+        taps: *const i32,
+        taps_len: usize,
+        numbers: *mut u64,
+        numbers_len: usize,
+        wanted_rate: u32,
+        wanted_cutoff: u8,
+        wanted_gain: *const f64,
+        wanted_gain_len: usize,
         data: *mut u64,
         data_len: usize,
         decibels: *mut f64,
@@ -35,6 +56,8 @@ extern "C" {
         own: u8,
         taps: *const i32,
         taps_len: usize,
+        numbers: *const u64,
+        numbers_len: usize,
         has_before: u8,
         before: *const u8,
         before_len: usize,
@@ -68,6 +91,8 @@ extern "C" {
         own: u8,
         taps: *const i32,
         taps_len: usize,
+        numbers: *const u64,
+        numbers_len: usize,
         has_before: u8,
         before: *const u8,
         before_len: usize,
@@ -101,6 +126,8 @@ extern "C" {
         own: u8,
         taps: *const i32,
         taps_len: usize,
+        numbers: *const u64,
+        numbers_len: usize,
         has_before: u8,
         before: *const u8,
         before_len: usize,
@@ -137,6 +164,8 @@ extern "C" {
         own: u8,
         taps: *const i32,
         taps_len: usize,
+        numbers: *const u64,
+        numbers_len: usize,
         has_before: u8,
         before: *const u8,
         before_len: usize,
@@ -321,6 +350,8 @@ extern "C" {
         own: u8,
         taps: *const i32,
         taps_len: usize,
+        numbers: *const u64,
+        numbers_len: usize,
         has_before: u8,
         before: *const u8,
         before_len: usize,
@@ -372,7 +403,7 @@ mod tests {
     // A refused conversion writes the refusal's data and no other list, the statistics neither.
     #[test]
     fn refused() {
-        let (gain, frames) = ([0.0, 1.0], [0x69; 4703]);
+        let (gain, numbers, frames) = ([0.0, 1.0], [1176, 139, 4704], [0x69; 4703]);
         let (mut out, mut counts, mut clipped) = ([7u8; 3528], [7u64; 1], [7u64; 6]);
         let (mut lowest, mut highest, mut empty) = ([7i64; 6], [7i64; 6], [7u8; 6]);
         let (mut data, mut decibels) = ([7u64; 2], [7.0]);
@@ -387,6 +418,8 @@ mod tests {
                 0,
                 std::ptr::null(),
                 0,
+                numbers.as_ptr(),
+                3,
                 0,
                 frames.as_ptr(),
                 0,

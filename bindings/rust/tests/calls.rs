@@ -1,17 +1,25 @@
 use puigneht::{
-    gain, pack_s24le, Converter, Cutoff, Error, Gain, Opened, PcmRate, Run, FRAME_BYTES,
+    gain, pack_s24le, Converter, Cutoff, Error, Gain, PcmRate, Run, Settings, FRAME_BYTES,
 };
 
 const RATES: [PcmRate; 3] = [PcmRate::Hz88200, PcmRate::Hz176400, PcmRate::Hz352800];
 const CUTOFFS: [Cutoff; 3] = [Cutoff::Standard, Cutoff::Low, Cutoff::Wide];
 
-fn mono() -> Converter<'static> {
-    Converter {
+fn mono() -> Settings<'static> {
+    Settings {
         rate: PcmRate::Hz88200,
         cutoff: Cutoff::Standard,
         channels: 1,
         gain: gain(0.0).unwrap(),
         taps: None,
+    }
+}
+
+// A converter made by hand: the numbers of `mono` with any settings.
+fn by_hand(settings: Settings<'_>) -> Converter<'_> {
+    Converter {
+        settings,
+        ..mono().open().unwrap()
     }
 }
 
@@ -65,11 +73,12 @@ fn nans_keep_their_bits() {
     ] {
         let db = f64::from_bits(nan);
         assert_eq!(bits(gain(db).unwrap_err()), nan);
-        let conv = Converter {
+        let settings = Settings {
             gain: Gain { db, linear: 1.0 },
             ..mono()
         };
-        assert_eq!(bits(conv.open().unwrap_err()), nan);
+        assert_eq!(bits(settings.open().unwrap_err()), nan);
+        let conv = by_hand(settings);
         assert_eq!(
             bits(
                 conv.convert_run(alone(&frames), &mut [0; 1176])
@@ -91,14 +100,14 @@ fn nans_keep_their_bits() {
             ),
             nan
         );
-        let conv = Converter {
+        let settings = Settings {
             gain: Gain {
                 db: -0.0,
                 linear: db,
             },
             ..mono()
         };
-        assert_eq!(bits(conv.open().unwrap_err()), (-0.0f64).to_bits());
+        assert_eq!(bits(settings.open().unwrap_err()), (-0.0f64).to_bits());
     }
 }
 
@@ -106,7 +115,7 @@ fn nans_keep_their_bits() {
 fn openings() {
     for (rate, samples_per_frame) in RATES.into_iter().zip([1176, 2352, 4704]) {
         for cutoff in CUTOFFS {
-            let opened = Converter {
+            let opened = Settings {
                 rate,
                 cutoff,
                 ..mono()
@@ -119,21 +128,24 @@ fn openings() {
             }
         }
     }
-    let conv = Converter {
+    let settings = Settings {
         rate: PcmRate::Hz352800,
         cutoff: Cutoff::Low,
+        channels: 6,
         ..mono()
     };
     assert_eq!(
-        conv.open(),
-        Ok(Opened {
+        settings.open(),
+        Ok(Converter {
+            settings,
             samples_per_frame: 4704,
-            reach: 195
+            reach: 195,
+            frame_length: 28224
         })
     );
     for channels in [0, 7, 255] {
         assert_eq!(
-            Converter { channels, ..mono() }.open(),
+            Settings { channels, ..mono() }.open(),
             Err(Error::Channels(channels))
         );
     }
@@ -141,13 +153,13 @@ fn openings() {
         db: 1.0,
         linear: 1.0,
     };
-    assert_eq!(Converter { gain, ..mono() }.open(), Err(Error::Gain(1.0)));
+    assert_eq!(Settings { gain, ..mono() }.open(), Err(Error::Gain(1.0)));
 }
 
 // A refused call tells its lengths and writes nothing.
 #[test]
 fn refusals() {
-    let conv = mono();
+    let conv = mono().open().unwrap();
     let three = noise(3 * FRAME_BYTES);
     let mut out = vec![-1; 3 * 1176];
     let mut bytes = vec![7; 9 * 1176];
@@ -188,13 +200,13 @@ fn refusals() {
 // Each refusal, as a call gives it, is a sentence with its numbers.
 #[test]
 fn sentences() {
-    let conv = mono();
+    let conv = mono().open().unwrap();
     let frame = noise(FRAME_BYTES);
     let said = |e: Result<puigneht::Stats, Error>| e.unwrap_err().to_string();
     assert_eq!(
-        Converter {
+        Settings {
             channels: 7,
-            ..conv
+            ..mono()
         }
         .open()
         .unwrap_err()
@@ -202,9 +214,9 @@ fn sentences() {
         "7 channels: there may be 1 to 6"
     );
     assert_eq!(
-        Converter {
+        Settings {
             cutoff: Cutoff::Wide,
-            ..conv
+            ..mono()
         }
         .open()
         .unwrap_err()
@@ -260,10 +272,12 @@ fn sentences() {
 // The listening desk: 0 to 8 frames as `convert` gives them, 9 refused after a wrong length and before a wrong neighbour.
 #[test]
 fn desk() {
-    let conv = Converter {
+    let conv = Settings {
         gain: gain(6.0).unwrap(),
         ..mono()
-    };
+    }
+    .open()
+    .unwrap();
     let nine = noise(9 * FRAME_BYTES);
     for n in 0..=puigneht::DESK_FRAMES {
         let run = Run {
@@ -299,7 +313,7 @@ fn desk() {
 fn too_many_frames() {
     let frames = vec![0; 540_001 * FRAME_BYTES];
     assert_eq!(
-        mono().convert_run(alone(&frames), &mut []),
+        mono().open().unwrap().convert_run(alone(&frames), &mut []),
         Err(Error::Frames(540_001))
     );
 }
@@ -311,15 +325,15 @@ fn pieces_join() {
     let size = 2 * FRAME_BYTES;
     for rate in RATES {
         for cutoff in CUTOFFS {
-            let conv = Converter {
+            let settings = Settings {
                 rate,
                 cutoff,
                 channels: 2,
                 gain: gain(6.0).unwrap(),
                 taps: None,
             };
-            let Ok(opened) = conv.open() else { continue };
-            let per = 2 * opened.samples_per_frame;
+            let Ok(conv) = settings.open() else { continue };
+            let per = 2 * conv.samples_per_frame;
             let mut whole = vec![0; 5 * per];
             let stats = conv.convert_run(alone(&frames), &mut whole).unwrap();
             let mut bytes = vec![0; 15 * per];
@@ -380,12 +394,13 @@ fn own_filters() {
     let frame: Vec<u8> = (0..FRAME_BYTES).map(|k| (k * 37 % 251) as u8).collect();
     let convert = |taps: Option<&[i32]>| {
         let mut out = vec![7; 1176];
-        let told = Converter { taps, ..mono() }.convert_run(alone(&frame), &mut out);
+        let conv = Settings { taps, ..mono() }.open();
+        let told = conv.and_then(|conv| conv.convert_run(alone(&frame), &mut out));
         (told, out)
     };
     let reach = |taps: &[i32], rate| {
         let taps = Some(taps);
-        Converter { rate, taps, ..mono() }.open().unwrap().reach
+        Settings { rate, taps, ..mono() }.open().unwrap().reach
     };
     assert_eq!(reach(&[1 << 24], PcmRate::Hz88200), 19);
     assert_eq!(reach(&[1 << 24, 0, 0], PcmRate::Hz352800), 39);
@@ -403,10 +418,12 @@ fn own_filters() {
         (&[i32::MIN; 117][..], Error::TapSums),
         (&[i32::MAX; 117][..], Error::TapSums),
     ] {
-        let wrong = Converter { taps: Some(taps), ..mono() };
+        let wrong = Settings { taps: Some(taps), ..mono() };
         assert_eq!(wrong.open(), Err(error));
-        assert_eq!(Converter { cutoff: Cutoff::Low, ..wrong }.open(), Err(error));
-        assert_eq!(Converter { channels: 7, ..wrong }.open(), Err(Error::Channels(7)));
-        assert_eq!(convert(Some(taps)), (Err(error), vec![7; 1176]));
+        assert_eq!(Settings { cutoff: Cutoff::Low, ..wrong }.open(), Err(error));
+        assert_eq!(Settings { channels: 7, ..wrong }.open(), Err(Error::Channels(7)));
+        let mut out = [7; 1176];
+        assert_eq!(by_hand(wrong).convert_run(alone(&frame), &mut out), Err(error));
+        assert_eq!(out, [7; 1176]);
     }
 }

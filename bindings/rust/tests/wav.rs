@@ -1,6 +1,6 @@
 // WAV files through C: beside `convert`, back again, refused, and data over the limits in mappings that are never touched.
 use puigneht::wav::{convert, read, write, Wav, HEADER, MOST_DATA};
-use puigneht::{gain, Converter, Cutoff, Error, PcmRate, Run, FRAME_BYTES};
+use puigneht::{gain, Converter, Cutoff, Error, PcmRate, Run, Settings, FRAME_BYTES};
 
 const RATES: [(PcmRate, u32, usize); 3] = [
     (PcmRate::Hz88200, 88200, 1176),
@@ -19,13 +19,15 @@ fn noise(n: usize) -> Vec<u8> {
 }
 
 fn converter(rate: PcmRate, channels: u8) -> Converter<'static> {
-    Converter {
+    Settings {
         rate,
         cutoff: Cutoff::Standard,
         channels,
         gain: gain(0.0).unwrap(),
         taps: None,
     }
+    .open()
+    .unwrap()
 }
 
 fn alone(frames: &[u8]) -> Run<'_> {
@@ -173,6 +175,8 @@ mod raw {
             own: u8,
             taps: *const i32,
             taps_len: usize,
+            numbers: *const u64,
+            numbers_len: usize,
             has_before: u8,
             before: *const u8,
             before_len: usize,
@@ -295,7 +299,7 @@ fn a_long_run() {
     let frames = 160_000;
     let data = frames * 2 * 4704 * 3;
     assert!(data > MOST_DATA);
-    let gain = [0.0, 1.0];
+    let (gain, numbers) = ([0.0, 1.0], [4704, 155, 9408]);
     let run = Untouched::new(frames * 2 * FRAME_BYTES);
     let out = Untouched::new(HEADER + data);
     let counts = Untouched::new(8 * frames);
@@ -315,6 +319,8 @@ fn a_long_run() {
                 0,
                 std::ptr::null(),
                 0,
+                numbers.as_ptr(),
+                3,
                 0,
                 std::ptr::null(),
                 0,

@@ -38,27 +38,27 @@ pub mod port {
     unsafe extern "C" {
         fn puigneht_gain(db: f64, gain: *mut f64, gains: usize, decibels: *mut f64, n: usize) -> u8;
         fn puigneht_open(
-            rate: u32, cutoff: u8, channels: u8, gain: *const f64, gains: usize, own: u8, taps: *const i32, tapss: usize, opened: *mut u64, opens: usize, data: *mut u64, datas: usize,
+            rate: u32, cutoff: u8, channels: u8, gain: *const f64, gains: usize, own: u8, taps: *const i32, tapss: usize, numbers: *mut u64, numberss: usize, data: *mut u64, datas: usize,
             decibels: *mut f64, n: usize,
         ) -> u8;
         fn puigneht_convert_run(
-            rate: u32, cutoff: u8, channels: u8, gain: *const f64, gains: usize, own: u8, taps: *const i32, tapss: usize, has_before: u8, before: *const u8, befores: usize,
-            frames: *const u8, framess: usize, has_after: u8, after: *const u8, afters: usize, out: *mut i32, outs: usize,
+            rate: u32, cutoff: u8, channels: u8, gain: *const f64, gains: usize, own: u8, taps: *const i32, tapss: usize, numbers: *const u64, numberss: usize, has_before: u8,
+            before: *const u8, befores: usize, frames: *const u8, framess: usize, has_after: u8, after: *const u8, afters: usize, out: *mut i32, outs: usize,
             clipped: *mut u64, clips: usize, lowest: *mut i64, lows: usize, highest: *mut i64, highs: usize, empty: *mut u8, marks: usize, data: *mut u64, datas: usize, decibels: *mut f64, n: usize,
         ) -> u8;
         fn puigneht_convert_frame(
-            rate: u32, cutoff: u8, channels: u8, gain: *const f64, gains: usize, own: u8, taps: *const i32, tapss: usize, has_before: u8, before: *const u8, befores: usize,
-            frames: *const u8, framess: usize, has_after: u8, after: *const u8, afters: usize, out: *mut i32, outs: usize,
+            rate: u32, cutoff: u8, channels: u8, gain: *const f64, gains: usize, own: u8, taps: *const i32, tapss: usize, numbers: *const u64, numberss: usize, has_before: u8,
+            before: *const u8, befores: usize, frames: *const u8, framess: usize, has_after: u8, after: *const u8, afters: usize, out: *mut i32, outs: usize,
             clipped: *mut u64, clips: usize, lowest: *mut i64, lows: usize, highest: *mut i64, highs: usize, empty: *mut u8, marks: usize, data: *mut u64, datas: usize, decibels: *mut f64, n: usize,
         ) -> u8;
         fn puigneht_convert(
-            rate: u32, cutoff: u8, channels: u8, gain: *const f64, gains: usize, own: u8, taps: *const i32, tapss: usize, has_before: u8, before: *const u8, befores: usize,
-            frames: *const u8, framess: usize, has_after: u8, after: *const u8, afters: usize, lent: u8, out: *mut u8, outs: usize,
+            rate: u32, cutoff: u8, channels: u8, gain: *const f64, gains: usize, own: u8, taps: *const i32, tapss: usize, numbers: *const u64, numberss: usize, has_before: u8,
+            before: *const u8, befores: usize, frames: *const u8, framess: usize, has_after: u8, after: *const u8, afters: usize, lent: u8, out: *mut u8, outs: usize,
             counts: *mut u64, countss: usize, clipped: *mut u64, clips: usize, lowest: *mut i64, lows: usize, highest: *mut i64, highs: usize, empty: *mut u8, marks: usize, data: *mut u64, datas: usize, decibels: *mut f64, n: usize,
         ) -> u8;
         fn puigneht_convert_desk(
-            rate: u32, cutoff: u8, channels: u8, gain: *const f64, gains: usize, own: u8, taps: *const i32, tapss: usize, has_before: u8, before: *const u8, befores: usize,
-            frames: *const u8, framess: usize, has_after: u8, after: *const u8, afters: usize, lent: u8, out: *mut u8, outs: usize,
+            rate: u32, cutoff: u8, channels: u8, gain: *const f64, gains: usize, own: u8, taps: *const i32, tapss: usize, numbers: *const u64, numberss: usize, has_before: u8,
+            before: *const u8, befores: usize, frames: *const u8, framess: usize, has_after: u8, after: *const u8, afters: usize, lent: u8, out: *mut u8, outs: usize,
             counts: *mut u64, countss: usize, clipped: *mut u64, clips: usize, lowest: *mut i64, lows: usize, highest: *mut i64, highs: usize, empty: *mut u8, marks: usize, data: *mut u64, datas: usize, decibels: *mut f64, n: usize,
         ) -> u8;
         fn puigneht_pack_s24le(samples: *const i32, n: usize, bytes: *mut u8, m: usize);
@@ -92,36 +92,38 @@ pub mod port {
         if number == 0 { Ok(gain) } else { Err(Answer { number, decibels: bits(decibels[0]), ..Default::default() }) }
     }
 
-    // Samples per frame and reach.
-    pub fn open(s: Settings, gain: [f64; 2]) -> (Answer, [u64; 2]) {
-        let (mut b, mut opened) = (back(), [7; 2]);
+    // Samples per frame, reach and frame length.
+    pub fn open(s: Settings, gain: [f64; 2]) -> (Answer, [u64; 3]) {
+        let (mut b, mut numbers) = (back(), [7; 3]);
         let number = unsafe {
             puigneht_open(
-                RATES[s.rate], s.cutoff as u8, s.channels, gain.as_ptr(), 2, 0, std::ptr::null(), 0, opened.as_mut_ptr(), 2, b.data.as_mut_ptr(), 2,
+                RATES[s.rate], s.cutoff as u8, s.channels, gain.as_ptr(), 2, 0, std::ptr::null(), 0, numbers.as_mut_ptr(), 3, b.data.as_mut_ptr(), 2,
                 b.decibels.as_mut_ptr(), 1,
             )
         };
         if number == 0 {
             b.clipped = [0; 6];
         }
-        (answer(number, b), opened)
+        (answer(number, b), numbers)
     }
 
-    pub fn convert_run(s: Settings, gain: [f64; 2], one: bool, i: &Input, out: &mut [i32]) -> Answer {
+    pub fn convert_run(s: Settings, gain: [f64; 2], numbers: [u64; 3], one: bool, i: &Input, out: &mut [i32]) -> Answer {
         let mut b = back();
         let (before, after) = (i.before.unwrap_or(&[]), i.after.unwrap_or(&[]));
         let call = if one { puigneht_convert_frame } else { puigneht_convert_run };
         let number = unsafe {
             call(
-                RATES[s.rate], s.cutoff as u8, s.channels, gain.as_ptr(), 2, 0, std::ptr::null(), 0, i.before.is_some().into(), before.as_ptr(), before.len(),
-                i.frames.as_ptr(), i.frames.len(), i.after.is_some().into(), after.as_ptr(), after.len(), out.as_mut_ptr(), out.len(),
+                RATES[s.rate], s.cutoff as u8, s.channels, gain.as_ptr(), 2, 0, std::ptr::null(), 0, numbers.as_ptr(), 3, i.before.is_some().into(),
+                before.as_ptr(), before.len(), i.frames.as_ptr(), i.frames.len(), i.after.is_some().into(), after.as_ptr(), after.len(), out.as_mut_ptr(), out.len(),
                 b.clipped.as_mut_ptr(), 6, b.lowest.as_mut_ptr(), 6, b.highest.as_mut_ptr(), 6, b.empty.as_mut_ptr(), 6, b.data.as_mut_ptr(), 2, b.decibels.as_mut_ptr(), 1,
             )
         };
         answer(number, b)
     }
 
-    pub fn convert(s: Settings, gain: [f64; 2], desk: bool, i: &Input, out: &mut [u8], counts: Option<&mut [u64]>) -> Answer {
+    pub fn convert(
+        s: Settings, gain: [f64; 2], numbers: [u64; 3], desk: bool, i: &Input, out: &mut [u8], counts: Option<&mut [u64]>,
+    ) -> Answer {
         let mut b = back();
         let call = if desk { puigneht_convert_desk } else { puigneht_convert };
         let (before, after) = (i.before.unwrap_or(&[]), i.after.unwrap_or(&[]));
@@ -129,8 +131,8 @@ pub mod port {
         let counts = counts.unwrap_or(&mut []);
         let number = unsafe {
             call(
-                RATES[s.rate], s.cutoff as u8, s.channels, gain.as_ptr(), 2, 0, std::ptr::null(), 0, i.before.is_some().into(), before.as_ptr(), before.len(),
-                i.frames.as_ptr(), i.frames.len(), i.after.is_some().into(), after.as_ptr(), after.len(), lent, out.as_mut_ptr(), out.len(),
+                RATES[s.rate], s.cutoff as u8, s.channels, gain.as_ptr(), 2, 0, std::ptr::null(), 0, numbers.as_ptr(), 3, i.before.is_some().into(),
+                before.as_ptr(), before.len(), i.frames.as_ptr(), i.frames.len(), i.after.is_some().into(), after.as_ptr(), after.len(), lent, out.as_mut_ptr(), out.len(),
                 counts.as_mut_ptr(), counts.len(), b.clipped.as_mut_ptr(), 6, b.lowest.as_mut_ptr(), 6, b.highest.as_mut_ptr(), 6, b.empty.as_mut_ptr(), 6, b.data.as_mut_ptr(), 2, b.decibels.as_mut_ptr(), 1,
             )
         };
@@ -140,7 +142,7 @@ pub mod port {
     // A call with one argument that is not understood, by its number here: whether it answers 255 and writes nothing.
     pub fn unclear(which: usize) -> bool {
         let wrong = |k: usize, right: u64, other: u64| if which == k { other } else { right };
-        let gain = [0.0, 1.0, 0.0];
+        let (gain, numbers) = ([0.0, 1.0, 0.0], [1176, 139, 4704, 0]);
         let frame = [0x69u8; 4704];
         let (mut out, mut counts) = ([7u8; 3528], [7u64; 1]);
         let (mut clipped, mut data, mut decibels) = ([7u64; 7], [7u64; 3], [7.0f64; 2]);
@@ -148,7 +150,7 @@ pub mod port {
         let number = unsafe {
             puigneht_convert(
                 wrong(0, 88200, 44100) as u32, wrong(1, 0, 3) as u8, 1, gain.as_ptr(), wrong(2, 2, 3) as usize, wrong(12, 0, 2) as u8, std::ptr::null(), 0,
-                wrong(3, 1, 2) as u8,
+                numbers.as_ptr(), wrong(13, 3, 4) as usize, wrong(3, 1, 2) as u8,
                 frame.as_ptr(), 4704, frame.as_ptr(), 4704, wrong(4, 1, 255) as u8, frame.as_ptr(), 4704, wrong(5, 1, 2) as u8,
                 out.as_mut_ptr(), 3528, counts.as_mut_ptr(), 1, clipped.as_mut_ptr(), wrong(6, 6, 7) as usize,
                 lowest.as_mut_ptr(), wrong(9, 6, 7) as usize, highest.as_mut_ptr(), wrong(10, 6, 7) as usize, empty.as_mut_ptr(),
@@ -162,11 +164,11 @@ pub mod port {
 
     // An empty list may be a null pointer: a run of no frames with nothing lent but the results.
     pub fn null_is_empty() -> bool {
-        let (gain, mut b) = ([0.0, 1.0], back());
+        let (gain, numbers, mut b) = ([0.0, 1.0], [1176, 139, 4704], back());
         let none = std::ptr::null_mut::<u8>();
         let number = unsafe {
             puigneht_convert(
-                88200, 0, 1, gain.as_ptr(), 2, 0, none.cast(), 0, 0, none, 0, none, 0, 0, none, 0, 0, none, 0, none.cast(), 0, b.clipped.as_mut_ptr(), 6,
+                88200, 0, 1, gain.as_ptr(), 2, 0, none.cast(), 0, numbers.as_ptr(), 3, 0, none, 0, none, 0, 0, none, 0, 0, none, 0, none.cast(), 0, b.clipped.as_mut_ptr(), 6,
                 b.lowest.as_mut_ptr(), 6, b.highest.as_mut_ptr(), 6, b.empty.as_mut_ptr(), 6, b.data.as_mut_ptr(), 2, b.decibels.as_mut_ptr(), 1,
             )
         };

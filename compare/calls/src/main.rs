@@ -99,11 +99,12 @@ fn as_original(mut answer: Answer) -> Answer {
 
 fn by_port(c: &Case, gain: [f64; 2]) -> Outcome {
     let mut o = lent(c);
+    let numbers = port::open(c.settings, gain).1;
     o.answer = as_original(match c.kind {
         Kind::Bytes | Kind::Desk => {
-            port::convert(c.settings, gain, c.kind == Kind::Desk, &c.input(), &mut o.bytes, c.counts.map(|_| &mut o.counts[..]))
+            port::convert(c.settings, gain, numbers, c.kind == Kind::Desk, &c.input(), &mut o.bytes, c.counts.map(|_| &mut o.counts[..]))
         }
-        _ => port::convert_run(c.settings, gain, c.kind == Kind::Frame, &c.input(), &mut o.items),
+        _ => port::convert_run(c.settings, gain, numbers, c.kind == Kind::Frame, &c.input(), &mut o.items),
     });
     o
 }
@@ -156,7 +157,8 @@ fn difference(c: &Case) -> Option<String> {
                 .or_else(|| apart(&by_port(c, gain), &kept));
         }
     };
-    if opened != Answer::default() || told != [converter.samples_per_frame() as u64, converter.context_bytes() as u64] {
+    let size = FRAME * usize::from(c.settings.channels);
+    if opened != Answer::default() || told != [converter.samples_per_frame(), converter.context_bytes(), size].map(|n| n as u64) {
         return Some(format!("opening: port {opened:?} {told:?}"));
     }
     apart(&by_port(c, gain), &by_original(c, &mut converter))
@@ -355,7 +357,7 @@ fn packing(r: &mut Random, t: &mut Tally) {
 
 // Arguments that are not understood, and null for an empty list: the interface's own, with no counterpart in the original.
 fn interface(t: &mut Tally) {
-    for which in 0..13 {
+    for which in 0..14 {
         t.calls += 1;
         if !port::unclear(which) {
             t.differing += 1;

@@ -37,6 +37,7 @@ fn medians(s: Settings, n: usize, rounds: usize) -> [f64; 3] {
     let frames = bytes(0, 5, channels, n);
     let items = n * [1176, 2352, 4704][s.rate] * channels;
     let gain = port::gain(s.db).unwrap();
+    let numbers = port::open(s, gain).1;
     let mut detected = original::open(s, original::gain(s.db).unwrap()).unwrap();
     let mut generic = scalar(s);
     let input = Input { before: None, frames: &frames, after: None };
@@ -44,7 +45,7 @@ fn medians(s: Settings, n: usize, rounds: usize) -> [f64; 3] {
     let mut times = [vec![], vec![], vec![]];
     for _ in 0..rounds {
         let [a, b, c] = &mut outs;
-        times[0].push(timed(&mut || assert_eq!(port::convert_run(s, gain, false, &input, a).number, 0)));
+        times[0].push(timed(&mut || assert_eq!(port::convert_run(s, gain, numbers, false, &input, a).number, 0)));
         times[1].push(timed(&mut || assert_eq!(original::convert_run(&mut detected, false, &input, b).number, 0)));
         times[2].push(timed(&mut || assert!(generic.convert_run(scarletbook_pcm_scalar::FrameRun::new(&frames), c).is_ok())));
     }
