@@ -1,0 +1,4 @@
+pub mod Album
+pub mod Plan
+pub mod Steps
+pub mod FileToFile

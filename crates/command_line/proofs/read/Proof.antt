@@ -1,0 +1,77 @@
+-- `read` meets its contract.
+use denote.Ref.{now}
+use mathlib.Core.Path.{_≡_, refl, sym, ap, _∙_}
+use mathlib.Core.List.{[]}
+use Prim.Native.Nat.{_+_, _-_, _≤_, _<_}
+use native.Mathlib.Nat.{zero-add, add-zero}
+use native.Mathlib.Omega.{arith}
+use borrow.Author.Needs.{needs}
+use lib.ListN.{length, drop, drop-of-length-le}
+use Rattle.command_line.specs.Words.{words-of}
+use Rattle.command_line.specs.Reading.{after, finish, line-of}
+use Rattle.command_line.proofs.Cutting.{cut, read-on}
+use Rattle.command_line.proofs.read.Statement.{statement}
+use Rattle.command_line.proofs.read.Tie as tie
+
+abbrev Inv-loop : tie.InvT-loop
+Inv-loop words s₀ k₀ at₀ s k at =
+    (k ≤ at) × (at ≤ length words + 1)
+    × (finish (after s k (words-of (drop at words))) (k + length (words-of (drop at words))) ≡ line-of (words-of words))
+
+abbrev μ-loop : tie.MeasureT-loop
+μ-loop words s₀ k₀ at₀ s k at = length words + 1 - at
+
+loop-holds : tie.Need-loop-holds Inv-loop μ-loop
+unfolding line-of
+loop-holds c = (omega arith, omega arith, rw (c .start .ensures, zero-add) refl)
+
+word-end-requires : tie.Need-word-end-requires Inv-loop μ-loop
+word-end-requires c κs = omega arith
+
+add-k : tie.Need-add-k Inv-loop μ-loop
+add-k c = omega arith
+
+add-at : tie.Need-add-at Inv-loop μ-loop
+add-at c = omega (arith, c .before .before .word-end .ensures .within)
+
+loop-less : tie.Need-loop-less Inv-loop μ-loop
+loop-less c = let e = c .before .before .word-end .ensures in omega (arith, e .from)
+
+loop-again : tie.Need-loop-again Inv-loop μ-loop
+loop-again c =
+    let found = c .before .before in
+    let at-loop = found .before .before in
+    let words = now (at-loop .before .before .before .args .words) in
+    let l = at-loop .loop in
+    let e = found .word-end .ensures in
+    let on = read-on (l .s) (l .k) _ _ _ (cut words (l .at) (found .word-end .result) (omega arith) e) in
+    (omega (arith, e .from), omega (arith, e .within), rw (c .next .ensures) (sym on ∙ l .inv .2))
+
+returns : tie.Need-returns Inv-loop μ-loop
+unfolding words-of after
+returns c =
+    let at-loop = c .before .before in
+    let words = now (at-loop .before .before .before .args .words) in
+    let l = at-loop .loop in
+    let none : drop (l .at) words ≡ [] = drop-of-length-le words {i = l .at} (omega arith) in
+    c .finish .ensures ∙ ap (finish (l .s)) (sym (add-zero (l .k))) ∙ (rw none at (l .inv .2))
+
+pub read-spec : {M : Type 1} → statement M
+read-spec =
+    tie.close
+    (tie.spec
+    Inv-loop
+    μ-loop
+    (λ c κs. search needs)
+    loop-holds
+    word-end-requires
+    (λ c. search needs)
+    (λ c. search needs)
+    (λ c. search needs)
+    (λ c κs. search needs)
+    add-k
+    add-at
+    loop-less
+    loop-again
+    (λ c κs. search needs)
+    returns)

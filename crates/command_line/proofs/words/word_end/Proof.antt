@@ -1,0 +1,47 @@
+-- `word_end` meets its contract.
+use mathlib.Core.Path.{_≡_}
+use mathlib.Core.Logic.{⊎-elim}
+use Prim.Native.Nat.{ℕ, _-_, _≤_, _<_}
+use native.Mathlib.Omega.{arith}
+use denote.Ref.{now}
+use lib.ListN.{length, getD}
+use borrow.Author.Needs.{needs}
+use Rattle.numbers.proofs.Lists.{below-or}
+use Rattle.command_line.proofs.words.word_end.Statement.{statement}
+use Rattle.command_line.proofs.words.word_end.Tie as tie
+
+abbrev Inv-loop : tie.InvT-loop
+Inv-loop words at k₀ k = (at ≤ k) × (k ≤ length words) × ((i : ℕ) → at ≤ i → i < k → getD words i 0 ≡ 0 → ⊥)
+
+abbrev μ-loop : tie.MeasureT-loop
+μ-loop words at k₀ k = length words - k
+
+loop-holds : tie.Need-loop-holds Inv-loop μ-loop
+loop-holds c = (omega arith, omega arith, λ i l m e. omega arith)
+
+returns : tie.Need-returns Inv-loop μ-loop
+returns c =
+    let l = c .before .before .before .loop in
+    record { from = l .inv .0; within = l .inv .1; none-before = l .inv .2; holds = λ h. c .if1 .taken }
+
+loop-again : tie.Need-loop-again Inv-loop μ-loop
+loop-again c = let l = c .before .before .before .loop in
+    (omega arith, omega arith, λ i p m e. ⊎-elim (λ q. l .inv .2 i p q e) (λ q. let s : i ≡ l .k = omega arith in c .if1 .left (rw s at e)) (below-or i (l .k)))
+
+returns-2 : tie.Need-returns-2 Inv-loop μ-loop
+returns-2 c = let l = c .before .loop in
+    record { from = l .inv .0; within = l .inv .1; none-before = l .inv .2; holds = λ h. absurd (omega arith) }
+
+pub word-end-spec : {M : Type 1} → statement M
+word-end-spec =
+    tie.close
+    (tie.spec
+    Inv-loop
+    μ-loop
+    loop-holds
+    (λ c. search needs)
+    returns
+    (λ c. search needs)
+    (λ c. search needs)
+    loop-again
+    returns-2)
