@@ -1,9 +1,2 @@
 pub mod Bounds
 pub mod Openings
-pub mod Stretches
-pub mod Fitting
-pub mod Gathered
-pub mod Sequences
-pub mod StepCalls
-pub mod FileToFile
-pub mod Cutting

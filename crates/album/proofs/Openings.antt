@@ -22,8 +22,7 @@ use Rattle.dsf.specs.Dsf.{channels, samples, frames, frames-in}
 use Rattle.dsf.specs.Reading.{OpenedPromise, header-places, file-header}
 use Rattle.dsf.specs.declared.DsfOpened.{DsfOpened}
 use Rattle.dsf.proofs.Accepted.{head-channels}
-use Rattle.album.specs.Album.{settings-for, later-places, album-places, album-of, no-album, AlbumPromise, head-places, HeaderPromise}
-use Rattle.album.specs.Steps.{FitArgs}
+use Rattle.album.specs.Album.{settings-for, later-places, album-places, album-of, no-album, AlbumPromise, head-places, HeaderPromise, FitArgs}
 use Rattle.album.specs.declared.Wanted.{Wanted}
 use Rattle.album.proofs.Bounds.{size-bound}
 use Rattle.album.specs.declared.Album.{Album}

@@ -1,16 +1,18 @@
 -- An album: a DSF file that can be a WAV file, as what is wanted of it says.
 use mathlib.Core.Path.{_≡_}
+use mathlib.Core.Bool.{false}
 use mathlib.Core.List.{List, [], _∷_, _++_}
-use Prim.Native.Nat.{ℕ, _+_, _-_, _*_, _/_}
+use Prim.Native.Nat.{ℕ, _+_, _-_, _*_, _/_, _≤_}
 use lib.Ieee.{ofInt, binary64}
 use lib.IntN.{ℤ}
 use lib.ListN.{length}
 use Rattle.reference.specs.Frames.{frame-bytes}
 use Rattle.reference.specs.Scaling.{db-to-linear}
-use Rattle.reference.specs.Settings.{converter-of}
+use Rattle.reference.specs.Settings.{built-in, converter-of}
 use Rattle.reference.specs.Refusals.{Place, decide, decision, opening-places, too-many, rack, lent-length}
 use Rattle.reference.specs.Promises.{by-decision}
 use Rattle.reference.specs.declared.PcmRate.{PcmRate}
+use Rattle.reference.specs.declared.Cutoff.{Cutoff}
 use Rattle.reference.specs.declared.Gain.{Gain}
 use Rattle.reference.specs.declared.Settings.{Settings}
 use Rattle.reference.specs.declared.Converter.{Converter}
@@ -33,8 +35,13 @@ whole-gain z =
     let db = ofInt binary64 z in
     record { db = db; linear = db-to-linear db }
 
+-- what is wanted, by rate, cutoff and whole decibels
+abbrev pub wanted-of : PcmRate → Cutoff → ℤ → Wanted
+wanted-of rate cutoff z = record { rate = rate; cutoff = cutoff; gain = whole-gain z }
+
+-- the filter is the built-in one
 abbrev pub settings-for : Wanted → ℕ → Settings
-settings-for w n = record { rate = w .rate; cutoff = w .cutoff; channels = n; gain = w .gain }
+settings-for w n = record { rate = w .rate; cutoff = w .cutoff; channels = n; gain = w .gain; own = false; filter = built-in }
 
 -- the converter of an album
 abbrev pub album-converter : Wanted → List ℕ → Converter
@@ -87,3 +94,11 @@ head-places n bytes room = too-large n bytes ∷ lent-length 7 room 44 ∷ []
 pub record HeaderPromise (rate : PcmRate) (n bytes : ℕ) (out out' : List ℕ) (answer : Verdict) : Type 0 where
   pub decided : decision answer ≡ decide (head-places n bytes (length out))
   pub written : out' ≡ by-decision (decide (head-places n bytes (length out))) (wav.header (hertz rate) n bytes) out
+
+-- ---- what the code asks for
+
+pub record FitArgs (a : Album) : Type 0 where
+  pub few : a .channels ≤ 6
+  pub is : a .frames ≡ frames-in (a .samples)
+  pub most : a .frames ≤ 540000
+  pub sized : a .frame ≤ 84672

@@ -1,4 +1,1 @@
 pub mod Album
-pub mod Plan
-pub mod Steps
-pub mod FileToFile

@@ -26,13 +26,13 @@ use Rattle.dsf.specs.Reading.{header-places}
 use Rattle.dsf_frames.specs.Reading.{window-frame}
 use Rattle.wav_format.specs.Wav.{frame-size}
 use Rattle.album.specs.Album.{settings-for, later-places, album-places, album-of, no-album, album-converter}
-use Rattle.album.specs.Steps.{held-places as step-held, lent-places, piece-places, step-places, frames-from, there, worked, run-from, window-run, lent-lists, StepPromise, GatherArgs}
+use Rattle.album_gather.specs.Steps.{held-places as step-held, lent-places, piece-places, step-places, frames-from, there, worked, run-from, window-run, lent-lists, StepPromise, GatherArgs}
 use Rattle.album.specs.declared.Wanted.{Wanted}
 use Rattle.album.specs.declared.Album.{Album}
 use Rattle.album.proofs.Openings.{few-frames, album-fits}
-use Rattle.album.proofs.Fitting.{is-held, asked-of}
-use Rattle.album.proofs.Gathered.{window-frame-length}
-use Rattle.album.proofs.StepCalls.{accepted-call}
+use Rattle.album_gather.proofs.Fitting.{is-held, asked-of}
+use Rattle.album_gather.proofs.Gathered.{window-frame-length}
+use Rattle.album_gather.proofs.StepCalls.{accepted-call}
 use Rattle.album_step.specs.Steps.{StepArgs, Worked}
 
 there-worked : (b : Bool) (x y : List ℕ) → there b (worked b x y) ≡ there b x

@@ -13,7 +13,7 @@ use Rattle.dsf.specs.Dsf as dsf
 use Rattle.dsf.specs.Reading.{header-places}
 use Rattle.dsf_frames.specs.Reading.{asked-places}
 use Rattle.wav_format.specs.Wav.{frame-size}
-use Rattle.album.specs.Steps.{worked}
+use Rattle.album_gather.specs.Steps.{worked}
 
 pub record StepArgs (head : List ℕ) (n : ℕ) (conv : Converter) (total first count : ℕ) (window : List ℕ) (start : ℕ) (before frames' after out : List ℕ) : Type 0 where
   pub taken : decide (header-places head n) ≡ accepted

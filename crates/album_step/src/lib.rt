@@ -1,14 +1,14 @@
 // A step of an album's conversion: frames out of a window of the file, converted with the frames next to them.
 ghost use mathlib.Core.Path.{_≡_};
-ghost use Rattle.album.specs.Steps.{StepPromise, Stepped, window-run};
+ghost use Rattle.album_gather.specs.Steps.{StepPromise, Stepped, window-run};
 ghost use Rattle.reference.specs.Output.{samples, stats, s24le};
-ghost use Rattle.album.specs.Steps as steps;
+ghost use Rattle.album_gather.specs.Steps as steps;
 ghost use Rattle.album_step.specs.Steps.{StepArgs, Worked};
-use album::Lent;
+use album_gather::Lent;
 use album::Wanted;
-use album::gather;
-use album::gather_one;
-use album::less_one;
+use album_gather::gather;
+use album_gather::gather_one;
+use album_plan::less_one;
 use reference::ConvertStats;
 use reference::Converted;
 use reference::Converter;
@@ -103,7 +103,7 @@ pub fn step(
         after: after.len(),
         out: out.len(),
     };
-    let ready = album::ready(
+    let ready = album_gather::ready(
         head,
         length,
         wanted,

@@ -46,7 +46,7 @@ pub fn cutoff_number(cutoff: Cutoff) -> u64
     }
 }
 
-fn cutoff_of(n: u8) -> Cutoff
+pub fn cutoff_of(n: u8) -> Cutoff
     ensures { λ r. ⌜ r ≡ codes.cutoff-of n ⌝ }
 {
     if n == 0 {

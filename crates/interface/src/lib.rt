@@ -13,6 +13,8 @@ mod statistics;
 
 pub use codes::both;
 pub use codes::converter;
+pub use codes::cutoff_number;
+pub use codes::cutoff_of;
 pub use codes::hertz;
 pub use codes::known_flag;
 pub use codes::known_settings;

@@ -15,9 +15,9 @@ use Rattle.command_line.specs.declared.Asked.{Asked}
 use Rattle.command_line.specs.declared.Asked.the-variants.{Convert, Help, Version, Usage}
 use Rattle.command_line.specs.declared.Line.{Line}
 use Rattle.album.specs.Album.{HeaderPromise}
-use Rattle.album.specs.Plan.{part, piece}
-use Rattle.album.specs.declared.Part.{Part}
-use Rattle.album.specs.declared.Piece.{Piece}
+use Rattle.album_plan.specs.Plan.{part, piece}
+use Rattle.album_plan.specs.declared.Part.{Part}
+use Rattle.album_plan.specs.declared.Piece.{Piece}
 
 -- a call whose arguments are understood or not: 255, and everything kept
 pub record Call (understood : Bool) (answer : ℕ) (Kept Done : Type 0) : Type 0 where

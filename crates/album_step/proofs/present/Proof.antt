@@ -1,7 +1,7 @@
 -- `present` meets its contract.
 use mathlib.Core.Path.{refl}
 use borrow.Author.Needs.{needs}
-use Rattle.album.specs.Steps.{there}
+use Rattle.album_gather.specs.Steps.{there}
 use Rattle.album_step.proofs.present.Statement.{statement}
 use Rattle.album_step.proofs.present.Tie as tie
 

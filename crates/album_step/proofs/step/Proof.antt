@@ -9,7 +9,7 @@ use Rattle.reference.specs.Refusals.{decide, accepted}
 use Rattle.reference.proofs.Promises.{accepted-is}
 use Rattle.dsf.specs.Dsf.{frames}
 use Rattle.album.specs.Album.{album-converter}
-use Rattle.album.specs.Steps.{step-places, lent-lists}
+use Rattle.album_gather.specs.Steps.{step-places, lent-lists}
 use Rattle.album_step.proofs.Working.{args-of, few-channels, converter-is, frames-are, stepped, not-stepped}
 use Rattle.album_step.proofs.step.Statement.{statement}
 use Rattle.album_step.proofs.step.Tie as tie

@@ -4,7 +4,7 @@ use mathlib.Core.Path.{_≡_, refl, sym, ap, _∙_}
 use Prim.Native.Nat.{ℕ}
 use lib.Dec.{ltb}
 use Rattle.dsf_frames.specs.Reading.{window-frame}
-use Rattle.album.specs.Steps.{worked}
+use Rattle.album_gather.specs.Steps.{worked}
 use borrow.Author.Needs.{needs}
 use Rattle.album_step.proofs.Working.{one-before, many, one-after, done}
 use Rattle.album_step.proofs.work.Statement.{statement}

@@ -3,7 +3,7 @@ use mathlib.Core.Path.{_≡_, refl, sym, ap, _∙_}
 use Rattle.puigneht_command.proofs.Answers.{done-so, turned-away}
 use mathlib.Core.List.{[], _∷_}
 use borrow.Author.Tests.{eq-eqb, ne-eqb}
-use Rattle.album.specs.declared.Part.{Part}
+use Rattle.album_plan.specs.declared.Part.{Part}
 use borrow.Author.Needs.{needs}
 use Rattle.puigneht_command.proofs.puigneht_command_part.Statement.{statement}
 use Rattle.puigneht_command.proofs.puigneht_command_part.Tie as tie

@@ -3,7 +3,7 @@ use mathlib.Core.Path.{_≡_, refl, sym, ap, _∙_}
 use native.Mathlib.Omega.{arith}
 use borrow.Author.Tests.{eq-eqb, ne-eqb}
 use Rattle.reference.specs.declared.PcmRate.{PcmRate}
-use Rattle.album.specs.Plan.{piece}
+use Rattle.album_plan.specs.Plan.{piece}
 use Rattle.puigneht_command.specs.Calls.{piece-numbers}
 use Rattle.puigneht_command.proofs.Answers.{done-so, turned-away}
 use borrow.Author.Needs.{needs}
