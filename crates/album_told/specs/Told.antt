@@ -25,8 +25,8 @@ both a b = record { first = a; second = b }
 
 -- the numbers that a refusal's sentence tells (sentences/specs), of a file with these first bytes and this length: 5 its frames; 10 its frequency and a
 -- channel's samples; 11 the length that it states and its length; 12 its channels and the bytes of the data. Others tell none
-unfoldable pub said : List ℕ → ℕ → PcmRate → ℕ → Said
-said head n rate number =
+unfoldable pub said-of : List ℕ → ℕ → PcmRate → ℕ → Said
+said-of head n rate number =
     cond (eqb number 5) (both (frames head) 0)
     (cond (eqb number 10) (both (number-at head 56 4) (samples head))
     (cond (eqb number 11) (both (stated-length head) n)

@@ -33,14 +33,21 @@ pub fn tell_album(opened: Opened, list: &mut [u64]) -> u8
     ensures { λ _. ⌜ now (list .exit) ≡ by-decision (decision (opened .verdict)) (told.album-numbers (opened .album)) (now (list .entry)) ⌝ }
 {
     let verdict = opened.verdict;
+    let report = interface::of_verdict(verdict);
     if refusals::accepted(verdict) {
         let a = opened.album;
         let numbers = [
-            a.channels, a.samples, a.frames, a.bytes, a.frame, a.filled, a.pieces,
+            a.channels,
+            a.samples,
+            a.frames,
+            a.bytes,
+            a.frame,
+            a.filled,
+            a.pieces,
         ];
         put(&numbers, list);
+        return report.number;
     }
-    let report = interface::of_verdict(verdict);
     report.number
 }
 
@@ -64,17 +71,38 @@ fn frames_of(samples: u64) -> u64
 }
 
 // The numbers that the sentence of a refusal tells of a file, from its first bytes and its length.
-pub fn said(head: &[u8], length: u64, rate: PcmRate, number: u8) -> Said
-    ensures { λ r. ⌜ r ≡ told.said (now (head .entry)) «length» rate number ⌝ }
+pub fn said_of(head: &[u8], length: u64, rate: PcmRate, number: u8) -> Said
+    ensures { λ r. ⌜ r ≡ told.said-of (now (head .entry)) «length» rate number ⌝ }
 {
-    let channels = dsf::number(head, 52, 4);
     let samples = dsf::number(head, 64, 8);
     let frames = frames_of(samples);
-    match number {
-        5 => Said { first: frames, second: 0 },
-        10 => Said { first: dsf::number(head, 56, 4), second: samples },
-        11 => Said { first: dsf::number(head, 12, 8), second: length },
-        12 => Said { first: channels, second: data_bytes(rate, channels, frames) },
-        _ => Said { first: 0, second: 0 },
+    if number == 5 {
+        return Said {
+            first: frames,
+            second: 0,
+        };
+    }
+    if number == 10 {
+        return Said {
+            first: dsf::number(head, 56, 4),
+            second: samples,
+        };
+    }
+    if number == 11 {
+        return Said {
+            first: dsf::number(head, 12, 8),
+            second: length,
+        };
+    }
+    if number == 12 {
+        let channels = dsf::number(head, 52, 4);
+        return Said {
+            first: channels,
+            second: data_bytes(rate, channels, frames),
+        };
+    }
+    Said {
+        first: 0,
+        second: 0,
     }
 }
