@@ -20,6 +20,7 @@ use Rattle.reference.specs.declared.Converter.{Converter}
 use Rattle.reference.specs.declared.Converted.{Converted}
 use Rattle.reference.proofs.Refusals.{decide-first, decide-skip, pass, some-channel}
 use Rattle.reference.proofs.Promises.{exit-accepted, exit-refused}
+use Rattle.reference.proofs.Opening.{held-as-opened}
 use Rattle.dsf.specs.Dsf.{channels, frames, frames-in}
 use Rattle.dsf.specs.Dsf as dsf
 use Rattle.dsf.specs.Reading.{header-places}
@@ -157,7 +158,7 @@ module _ (head : List ℕ) (n : ℕ) (w : Wanted) (first count : ℕ) (window : 
   unfolding album-of frames converter-of later-places
   step-args = record {
     taken = head-opened;
-    opens = decide-first (opening-places (settings-for w (channels head))) _ later;
+    opens = held-as-opened (settings-for w (channels head)) ∙ decide-first (opening-places (settings-for w (channels head))) _ later;
     same = refl;
     total-is = refl;
     few = few-frames w (channels head) (frames head) later;

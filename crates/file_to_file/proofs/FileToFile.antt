@@ -19,6 +19,7 @@ use Rattle.reference.specs.declared.Converter.{Converter}
 use Rattle.reference.specs.declared.ConvertStats.{ConvertStats}
 use Rattle.reference.proofs.Refusals.{decide-first, decide-skip, pass}
 use Rattle.reference.proofs.Promises.{exit-accepted}
+use Rattle.reference.proofs.Opening.{held-as-opened}
 use Rattle.joins.specs.Joins.{Call, convert, run-of, answer-of, samples-of, read-s24le, right-lengths, is-answered-accepted, keep, pieces, SameBytes, Agree, AllAgree, JoinTo, GiveWholeRun}
 use Rattle.joins.proofs.Bytes.{samples-back, bytes-join, no-bytes}
 use Rattle.joins.proofs.Joins.{cut-runs-join}
@@ -63,8 +64,8 @@ module _ (file : List ℕ) (w : Wanted) (taken : decide (album-places file (leng
   some = head-channels file (length file) head-taken .0
 
   pub opens : decide (held-places (album-converter w file)) ≡ accepted
-  unfolding later-places converter-of
-  opens = decide-first (opening-places (settings-for w (channels file))) _ later-taken
+  unfolding later-places
+  opens = held-as-opened (settings-for w (channels file)) ∙ decide-first (opening-places (settings-for w (channels file))) _ later-taken
 
 pub file-frame-length : (file : List ℕ) (k : ℕ) → length (file-frame file k) ≡ frame-length (channels file)
 unfolding data-frame
