@@ -29,18 +29,29 @@ def groups_of(samples):
     return -(-samples // (8 * BLOCK))
 
 
+def header(channels, bits, samples, metadata=0):
+    """Of a file whose data are just what its samples need."""
+    return head(channels, bits, samples, groups_of(samples) * channels * BLOCK, metadata)
+
+
+def stated(file):
+    return int.from_bytes(file[12:20], "little")
+
+
+def laid_out(sounds, bits, samples, metadata=0):
+    """A file of the channels' bytes, which are the same for both bit orders: the earliest bit highest, mirrored where the lowest is the
+    earliest."""
+    sounds = [s.translate(MIRROR) if bits == 1 else s for s in sounds]
+    blocks = [s[g * BLOCK:(g + 1) * BLOCK].ljust(BLOCK, b"\0") for g in range(groups_of(samples)) for s in sounds]
+    return header(len(sounds), bits, samples, metadata) + b"".join(blocks) + bytes(metadata)
+
+
 def write(path, channels, bits, samples, fill, metadata=0):
-    """The channels' bytes are the same for both bit orders: the earliest bit highest, mirrored where the lowest is the earliest."""
     count = samples // 8
     source = random.Random(1)
     sounds = [source.randbytes(count) if fill == "random" else bytes([int(fill, 0)]) * count for _ in range(channels)]
-    sounds = [s.translate(MIRROR) if bits == 1 else s for s in sounds]
     with open(path, "wb") as out:
-        out.write(head(channels, bits, samples, groups_of(samples) * channels * BLOCK, metadata))
-        for g in range(groups_of(samples)):
-            for s in sounds:
-                out.write(s[g * BLOCK:(g + 1) * BLOCK].ljust(BLOCK, b"\0"))
-        out.truncate(out.tell() + metadata)
+        out.write(laid_out(sounds, bits, samples, metadata))
 
 
 def long(path, frames, silent):
@@ -80,8 +91,15 @@ def begins(path, other, count):
 
 TAKEN = {"write": write, "long": long, "look": look, "value": value, "begins": begins}
 WORDS = {"random"}
-name, path, *rest = sys.argv[1:]
-numbers = [w if w in WORDS or not w.lstrip("-").isdigit() else int(w) for w in rest]
-if name == "write":
-    numbers[3] = rest[3]
-TAKEN[name](path, *numbers)
+
+
+def main():
+    name, path, *rest = sys.argv[1:]
+    numbers = [w if w in WORDS or not w.lstrip("-").isdigit() else int(w) for w in rest]
+    if name == "write":
+        numbers[3] = rest[3]
+    TAKEN[name](path, *numbers)
+
+
+if __name__ == "__main__":
+    main()

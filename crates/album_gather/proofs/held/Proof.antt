@@ -28,9 +28,15 @@ returns-3 c =
     let late : stretch-start (a .a .channels) (a .first) < a .start = rw (← held .stretch .ensures .begins) (c .if3 .taken) in
     begins-late (a .a) (a .first) (a .count) (a .start) (a .window) (else .before .if1 .left) (else .if2 .left) late
 
-module _ (c : tie.After-reaches) where
-  begins : c .before .before .before .before .before .before .args .start ≤ stretch-start (c .before .before .before .before .before .before .args .a .channels) (c .before .before .before .before .before .before .args .first)
-  begins = rw (← c .before .before .before .stretch .ensures .begins) (c .before .if3 .left)
+-- where the stretch is known, and the start
+abbrev at-stretch : tie.After-reaches → tie.After-stretch
+at-stretch c = c .before .before .before
+
+abbrev begin : tie.After-reaches → tie.Start
+begin c = at-stretch c .before .before .before
+
+begins : (c : tie.After-reaches) → begin c .args .start ≤ stretch-start (begin c .args .a .channels) (begin c .args .first)
+begins c = rw (← at-stretch c .stretch .ensures .begins) (c .before .if3 .left)
 
 returns-4 : tie.Need-returns-4
 returns-4 c =

@@ -43,7 +43,8 @@ returns-3 c =
 
 mul-long-2 : tie.Need-mul-long-2
 mul-long-2 c =
-    let else1 = c .before .before .before .before .before .before .before in
+    let else2 = c .before .before .before .before in
+    let else1 = else2 .before .before .before in
     let s = else1 .before .before .before in
     omega (arith, bytes-bound (s .args .count) (s .args .a .frame) (s .pre .0) (s .pre .1 .sized))
 
