@@ -61,7 +61,67 @@ fn right<'a>(rec: &'a [u8], text: &'a [u8], d: Done) -> bool {
     d.right && told.number == 0 && check::same(room, text)
 }
 
-// By the plan for 1, 2, 3 and 64 jobs, and in steps of 1, 2 and 3 frames.
+// By the plan, for so many jobs.
+fn planned<'a>(
+    rec: &'a [u8],
+    file: &'a [u8],
+    wav: &'a [u8],
+    text: &'a [u8],
+    n: u64,
+    out: &mut [u8],
+    t: Tally,
+) -> Tally {
+    let mut b = [0u8; 9408];
+    let mut f = [0u8; 28224];
+    let mut a = [0u8; 9408];
+    let d = jobs(rec, file, wav, n, &mut b, &mut f, &mut a, out);
+    test_files::with(t, right(rec, text, d), true)
+}
+
+// In steps of so many frames.
+fn stepped<'a>(
+    rec: &'a [u8],
+    file: &'a [u8],
+    wav: &'a [u8],
+    text: &'a [u8],
+    n: u64,
+    out: &mut [u8],
+    t: Tally,
+) -> Tally {
+    let mut b = [0u8; 9408];
+    let mut f = [0u8; 28224];
+    let mut a = [0u8; 9408];
+    let d = cuts(rec, file, wav, n, &mut b, &mut f, &mut a, out);
+    test_files::with(t, right(rec, text, d), true)
+}
+
+fn by_plan<'a>(
+    rec: &'a [u8],
+    file: &'a [u8],
+    wav: &'a [u8],
+    text: &'a [u8],
+    out: &mut [u8],
+    t: Tally,
+) -> Tally {
+    let one = planned(rec, file, wav, text, 1, out, t);
+    let two = planned(rec, file, wav, text, 2, out, one);
+    let three = planned(rec, file, wav, text, 3, out, two);
+    planned(rec, file, wav, text, 64, out, three)
+}
+
+fn by_steps<'a>(
+    rec: &'a [u8],
+    file: &'a [u8],
+    wav: &'a [u8],
+    text: &'a [u8],
+    out: &mut [u8],
+    t: Tally,
+) -> Tally {
+    let single = stepped(rec, file, wav, text, 1, out, t);
+    let twos = stepped(rec, file, wav, text, 2, out, single);
+    stepped(rec, file, wav, text, 3, out, twos)
+}
+
 fn conversions<'a>(
     rec: &'a [u8],
     file: &'a [u8],
@@ -70,24 +130,9 @@ fn conversions<'a>(
     out: &mut [u8],
     t: Tally,
 ) -> Tally {
-    let mut b = [0u8; 9408];
-    let mut f = [0u8; 28224];
-    let mut a = [0u8; 9408];
-    let one = jobs(rec, file, wav, 1, &mut b, &mut f, &mut a, out);
-    let two = jobs(rec, file, wav, 2, &mut b, &mut f, &mut a, out);
-    let three = jobs(rec, file, wav, 3, &mut b, &mut f, &mut a, out);
-    let many = jobs(rec, file, wav, 64, &mut b, &mut f, &mut a, out);
-    let single = cuts(rec, file, wav, 1, &mut b, &mut f, &mut a, out);
-    let twos = cuts(rec, file, wav, 2, &mut b, &mut f, &mut a, out);
-    let threes = cuts(rec, file, wav, 3, &mut b, &mut f, &mut a, out);
     let first = test_files::with(t, headed(rec, wav), true);
-    let by_one = test_files::with(first, right(rec, text, one), true);
-    let by_two = test_files::with(by_one, right(rec, text, two), true);
-    let by_three = test_files::with(by_two, right(rec, text, three), true);
-    let by_many = test_files::with(by_three, right(rec, text, many), true);
-    let singly = test_files::with(by_many, right(rec, text, single), true);
-    let by_twos = test_files::with(singly, right(rec, text, twos), true);
-    test_files::with(by_twos, right(rec, text, threes), true)
+    let plan = by_plan(rec, file, wav, text, out, first);
+    by_steps(rec, file, wav, text, out, plan)
 }
 
 // The tallies of openings, and of headers and conversions.
@@ -124,24 +169,50 @@ fn tried<'a>(
     }
 }
 
+// The sheet and the sentence stand behind the files.
+fn behind<'a>(
+    fd: i32,
+    rec: &'a [u8],
+    file: &'a [u8],
+    wav: &'a [u8],
+    out: &mut [u8],
+    b: Both,
+) -> Both {
+    let mut sheet = [0u8; 301];
+    stored(fd, number(rec, 128), &mut sheet);
+    let mut text = [0u8; 256];
+    stored(fd, number(rec, 136), &mut text);
+    let levels = part(&sheet, 0, number(rec, 128));
+    tried(
+        rec,
+        file,
+        wav,
+        levels,
+        part(&text, 0, number(rec, 136)),
+        out,
+        b,
+    )
+}
+
+// How long the file at hand is: of a refused one only the first bytes are stored.
+fn length(rec: &[u8]) -> u64 {
+    if number(rec, 40) == 0 {
+        return number(rec, 32);
+    }
+    number(rec, 24)
+}
+
 fn one(fd: i32, file: &mut [u8], wav: &mut [u8], out: &mut [u8], b: Both) -> Both {
     let mut rec = [0u8; 144];
     io::read_full(fd, &mut rec);
     stored(fd, number(&rec, 24), file);
-    stored(fd, number(&rec, 120), wav);
-    let mut sheet = [0u8; 301];
-    stored(fd, number(&rec, 128), &mut sheet);
-    let mut text = [0u8; 256];
-    stored(fd, number(&rec, 136), &mut text);
-    let head = number(&rec, 24);
-    let short = number(&rec, 40) != 0;
-    let length = if short { head } else { number(&rec, 32) };
-    tried(
+    let n = number(&rec, 120);
+    stored(fd, n, wav);
+    behind(
+        fd,
         &rec,
-        part(file, 0, length),
-        part(wav, 0, number(&rec, 120)),
-        part(&sheet, 0, number(&rec, 128)),
-        part(&text, 0, number(&rec, 136)),
+        part(file, 0, length(&rec)),
+        part(wav, 0, n),
         out,
         b,
     )
