@@ -106,8 +106,8 @@ uint8_t puigneht_command_piece(uint32_t rate, uint64_t channels, uint64_t sample
  * file. The statistics, six items each, are written where the step is accepted: clipped samples, lowest and highest number before the
  * clamp, and 1 for a channel that has no samples.
  * Answers 0, or the refusals of puigneht_command_open; then 5 for frames that the album has not, 11 for a window that does not hold
- * them and the frames next to them, 7 for a list of another length. A refused step writes `data` (2 items) and `decibels` (1 item), the refusal's
- * data as in include/puigneht.h, and nothing else. */
+ * them and the frames next to them, 7 for a list of another length. `data` (2 items) and `decibels` (1 item) are always written: the
+ * refusal's data as in include/puigneht.h, or zeros. A refused step writes nothing else. */
 uint8_t puigneht_command_step(uint32_t rate, uint8_t cutoff, int32_t db, const uint8_t *head, size_t head_len, uint64_t length,
                               uint64_t first, uint64_t count, const uint8_t *window, size_t window_len, uint64_t start,
                               uint8_t *before, size_t before_len, uint8_t *frames, size_t frames_len, uint8_t *after,
