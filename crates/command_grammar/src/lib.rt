@@ -1,0 +1,1 @@
+// That arguments are read as the grammar has them. No code.
