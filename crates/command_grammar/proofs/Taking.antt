@@ -1,28 +1,27 @@
 -- What the grammar takes is read, as that.
-use mathlib.Core.Path.{_≡_, refl, sym, ap, _∙_}
-use mathlib.Core.List.{List, [], _∷_, _++_, flatMap, append-assoc}
-use mathlib.Core.Bool.{Bool, true, false, not, _&&_, _||_, true≢false, cond}
-use Prim.Native.Nat.{ℕ, zero, suc, _+_, _-_, _≤_, _<_}
+use mathlib.Core.Path.{_≡_, refl, sym, _∙_}
+use mathlib.Core.List.{List, [], _∷_, _++_, flatMap}
+use mathlib.Core.Bool.{Bool, true, false, not, true≢false}
+use Prim.Native.Nat.{ℕ, suc, _+_, _-_}
 use native.Mathlib.Nat.{add-zero, zero-add}
 use native.Mathlib.Numerals.{add-one}
 use native.Mathlib.Omega.{arith}
 use lib.Dec.{eqb, ltb}
 use lib.ListN.{length, getD, length-append}
-use borrow.Author.Tests.{lt-ltb, le-ltb, eqb-true}
+use borrow.Author.Tests.{lt-ltb, le-ltb}
 use Rattle.reference.specs.declared.PcmRate.the-variants.{Hz88200, Hz176400, Hz352800}
 use Rattle.reference.specs.declared.Cutoff.the-variants.{Standard, Low, Wide}
 use Rattle.level_lines.specs.Text.{text}
 use Rattle.level_settings.specs.Settings.{rate-text, cutoff-text}
 use Rattle.command_line.specs.Words.{Word, same, name}
-use Rattle.command_line.specs.Grammar.{Option, rate, cutoff, gain, sheet, jobs, force, option-words, Allowed, AllAllowed, defaults, taken, all-taken, Command, mark, command-words, Right, command-line, After-options, Taken, command, help, version}
+use Rattle.command_line.specs.Grammar.{Option, rate, cutoff, gain, sheet, jobs, force, option-words, Allowed, AllAllowed, defaults, taken, all-taken, Command, mark, command-words, Right, command-line, After-options, command, help, version}
 use Rattle.command_line.specs.Reading as reading
-use Rattle.command_line.specs.Reading.{state, on, start, after, next, finish, line-of}
+use Rattle.command_line.specs.Reading.{state, on, start, after, next, line-of}
 use Rattle.command_line.specs.declared.Options.{Options}
 use Rattle.command_line.specs.declared.State.{State}
-use Rattle.command_line.specs.declared.Line.{Line}
 use Rattle.command_line.specs.declared.Expect.{Expect}
 use Rattle.command_line.specs.declared.Expect.the-variants as expect
-use Rattle.command_line.proofs.Same.{and-left, and-right}
+use Rattle.command_line.proofs.Same.{and-right}
 use Rattle.command_grammar.specs.Taking.{ReadsAll}
 use Rattle.command_grammar.proofs.Texts.{jobs-back, gain-back}
 

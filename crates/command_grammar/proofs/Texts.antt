@@ -1,18 +1,17 @@
 -- A number is known by its text.
 use mathlib.Core.Path.{_≡_, refl, sym, ap, _∙_}
-use mathlib.Core.List.{List, [], _∷_}
+use mathlib.Core.List.{List}
 use mathlib.Core.Logic.{⊎-elim}
 use Prim.Native.Nat.{ℕ, zero, suc, _+_, _/_, _%_, _≤_, _<_}
 use native.Mathlib.Omega.{arith}
-use lib.IntN.{ℤ, pos, negsuc, _+ℤ_}
+use lib.IntN.{ℤ, pos, negsuc}
 use lib.ListN.{getD}
 use Rattle.numbers.proofs.Lists.{below-or}
 use Rattle.numbers.proofs.Integers.{pp, nn, add-parts}
 use Rattle.level_lines.specs.Text.{decimal, signed}
 use Rattle.level_lines.proofs.Numerals.{one-digit, last-digit, first-digit, some-digit, single, split}
-use Rattle.command_line.specs.Words.{Word}
 use Rattle.command_line.specs.Grammar.{db-at}
-use Rattle.command_line.specs.Reading.{read-back, jobs-of, gain-of}
+use Rattle.command_line.specs.Reading.{jobs-of, gain-of}
 use Rattle.command_line.proofs.Values.{Found, one, none, found}
 
 same-decimal : (most a b : ℕ) → a < most → decimal a ≡ decimal b → a ≡ b

@@ -4,8 +4,13 @@ use mathlib.Core.List.{List}
 use Rattle.command_line.specs.Words.{Word}
 use Rattle.command_line.specs.Grammar.{Taken}
 use Rattle.command_line.specs.Reading.{line-of}
+use Rattle.command_line.specs.declared.Asked.the-variants.{Usage}
 use Rattle.command_line.specs.declared.Line.{Line}
 
 -- what the grammar takes is read, as that. Proved in proofs/Taking, `reads-all`
 abbrev pub ReadsAll : Type 0
 ReadsAll = (ws : List Word) (line : Line) → Taken ws line → line-of ws ≡ line
+
+-- and nothing else is: what is not refused as usage is taken by the grammar. Proved in proofs/Only, `reads-only`
+abbrev pub ReadsOnly : Type 0
+ReadsOnly = (ws : List Word) → (line-of ws .asked ≡ Usage → ⊥) → Taken ws (line-of ws)

@@ -25,7 +25,6 @@ use Rattle.album.specs.declared.Wanted.{Wanted}
 use Rattle.album_told.specs.Told.{album-numbers, said-of}
 use Rattle.album_told.specs.declared.Said.{Said}
 use Rattle.album_plan.specs.Plan.{part, piece}
-use Rattle.album_plan.specs.declared.Part.{Part}
 use Rattle.album_plan.specs.declared.Piece.{Piece}
 use Rattle.album_gather.specs.Steps.{StepPromise}
 

@@ -1,5 +1,5 @@
 -- `tell_album` meets its contract.
-use mathlib.Core.Path.{_≡_, refl, sym, ap, _∙_}
+use mathlib.Core.Path.{sym, ap, _∙_}
 use borrow.Author.Needs.{needs}
 use Rattle.reference.proofs.Promises.{accepted-is, exit-accepted, exit-refused}
 use Rattle.interface.specs.declared.results.Report.{Report}

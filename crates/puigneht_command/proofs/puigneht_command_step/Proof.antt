@@ -1,13 +1,11 @@
 -- `puigneht_command_step` meets its contract.
-use mathlib.Core.Path.{_≡_, refl, sym, ap, ap₂, subst, _∙_}
+use mathlib.Core.Path.{_≡_, refl, sym, ap₂, _∙_}
 use mathlib.Core.Bool.{Bool, true, _&&_}
 use denote.Ref.{now}
 use mir.Facts.{toZ-ofZ}
 use borrow.Author.Needs.{needs}
 use Rattle.interface.specs.Settings.{known-settings}
 use Rattle.interface.specs.Told.{stat-lists}
-use Rattle.album.specs.declared.Wanted.{Wanted}
-use Rattle.album_gather.specs.Steps.{StepPromise}
 use Rattle.puigneht_command.specs.Calls.{Results, results, has-room, wanted}
 use Rattle.puigneht_command.proofs.Answers.{Lengths, step-fits, done-so, turned-away}
 use Rattle.puigneht_command.proofs.puigneht_command_step.Statement.{statement}
