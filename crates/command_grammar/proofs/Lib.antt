@@ -1,3 +1,4 @@
 pub mod Texts
 pub mod Taking
 pub mod Only
+pub mod Faults

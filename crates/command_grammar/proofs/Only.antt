@@ -16,7 +16,7 @@ use Rattle.level_settings.specs.Settings.{rate-text, cutoff-text}
 use Rattle.command_line.specs.Words.{Word, same, name}
 use Rattle.command_line.specs.Grammar.{db-at, Option, rate, cutoff, gain, sheet, jobs, force, option-words, Allowed, AllAllowed, defaults, taken, all-taken, Command, mark, command-words, Right, command-line, After-options, Taken, command, help, version}
 use Rattle.command_line.specs.Reading as reading
-use Rattle.command_line.specs.Reading.{state, on, after, next, finish, line-of, gain-of, jobs-of}
+use Rattle.command_line.specs.Reading.{state, on, start, after, next, finish, line-of, gain-of, jobs-of}
 use Rattle.command_line.specs.declared.Asked.the-variants.{Usage}
 use Rattle.command_line.specs.declared.Expect.{Expect}
 use Rattle.command_line.specs.declared.Expect.the-variants as expect
@@ -33,7 +33,7 @@ unfolding flatMap
 flat-more [] ys = refl
 flat-more (x ∷ xs) ys = ap (λ (l : List Word). option-words x ++ l) (flat-more xs ys) ∙ sym (append-assoc (option-words x) (flatMap option-words xs) (flatMap option-words ys))
 
-flat-one : (xs : List Option) (x : Option) → flatMap option-words (xs ++ (x ∷ [])) ≡ flatMap option-words xs ++ option-words x
+pub flat-one : (xs : List Option) (x : Option) → flatMap option-words (xs ++ (x ∷ [])) ≡ flatMap option-words xs ++ option-words x
 unfolding flatMap
 flat-one xs x = flat-more xs (x ∷ []) ∙ ap (λ (l : List Word). flatMap option-words xs ++ l) (append-nil (option-words x))
 
@@ -44,7 +44,7 @@ taken-one k (y ∷ xs) x o =
     let e : k + length (option-words y) + length (flatMap option-words xs) ≡ k + length (option-words y ++ flatMap option-words xs) = rw (length-append (option-words y) (flatMap option-words xs)) (omega arith) in
     taken-one (k + length (option-words y)) xs x (taken k y o) ∙ rw e refl
 
-allowed-one : (xs : List Option) (x : Option) → AllAllowed xs → Allowed x → AllAllowed (xs ++ (x ∷ []))
+pub allowed-one : (xs : List Option) (x : Option) → AllAllowed xs → Allowed x → AllAllowed (xs ++ (x ∷ []))
 unfolding AllAllowed
 allowed-one [] x a b = (b, tt)
 allowed-one (y ∷ xs) x a b = (a .0, allowed-one xs x (a .1) b)
@@ -52,34 +52,34 @@ allowed-one (y ∷ xs) x a b = (a .0, allowed-one xs x (a .1) b)
 -- ---- how far words have come
 
 -- an option whose value is missing
-data Value : Type 0 where
+pub data Value : Type 0 where
   of-rate : Value
   of-cutoff : Value
   of-gain : Value
   of-sheet : Value
   of-jobs : Value
 
-abbrev asks : Value → Expect
+abbrev pub asks : Value → Expect
 asks of-rate = expect.Rate
 asks of-cutoff = expect.Cutoff
 asks of-gain = expect.Gain
 asks of-sheet = expect.Sheet
 asks of-jobs = expect.Jobs
 
-abbrev said : Value → Word
+abbrev pub said : Value → Word
 said of-rate = text "-r"
 said of-cutoff = text "-c"
 said of-gain = text "-g"
 said of-sheet = text "-s"
 said of-jobs = text "-j"
 
-abbrev words : List Option → List Word
+abbrev pub words : List Option → List Word
 words os = flatMap option-words os
 
-abbrev given : List Option → Options
+abbrev pub given : List Option → Options
 given os = all-taken 0 os defaults
 
-data Reached (done : List Word) : State → Type 0 where
+pub data Reached (done : List Word) : State → Type 0 where
   options : (os : List Option) → AllAllowed os → done ≡ words os → Reached done (on (given os))
   value : (os : List Option) → AllAllowed os → (v : Value) → done ≡ words os ++ (said v ∷ []) → Reached done (state (asks v) (given os) 0 0)
   marked : (os : List Option) → AllAllowed os → done ≡ words os ++ (text "--" ∷ []) → Reached done (state expect.Input (given os) 0 0)
@@ -235,7 +235,7 @@ step done w (helped {s} p e) = helped {s = next s (length done) w} (more-rest w 
 step done w (versioned {s} p e) = versioned {s = next s (length done) w} (more-rest w p) (rw e refl)
 step done w (faulted {s} e) = faulted {s = next s (length done) w} (rw e refl)
 
-steps : (done ws : List Word) {s : State} → Reached done s → Reached (done ++ ws) (after s (length done) ws)
+pub steps : (done ws : List Word) {s : State} → Reached done s → Reached (done ++ ws) (after s (length done) ws)
 unfolding after
 steps done [] {s} r = rw (append-nil done) r
 steps done (w ∷ ws) {s} r =
@@ -261,6 +261,10 @@ finished (helped p e) n = rw e (help p)
 finished (versioned p e) n = rw e (version p)
 finished (faulted e) n = absurd (n (rw e refl))
 
+pub from-start : (ws : List Word) → Reached ws (after start 0 ws)
+unfolding flatMap AllAllowed all-taken
+from-start ws = steps [] ws (options [] tt refl)
+
 pub reads-only : ReadsOnly
-unfolding line-of flatMap AllAllowed all-taken
-reads-only ws n = finished (steps [] ws (options [] tt refl)) n
+unfolding line-of
+reads-only ws n = finished (from-start ws) n

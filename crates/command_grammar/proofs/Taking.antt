@@ -26,7 +26,7 @@ use Rattle.command_grammar.specs.Taking.{ReadsAll}
 use Rattle.command_grammar.proofs.Texts.{jobs-back, gain-back}
 
 -- words one after the other
-after-more : (s : State) (k : ℕ) (xs ys : List Word) → after s k (xs ++ ys) ≡ after (after s k xs) (k + length xs) ys
+pub after-more : (s : State) (k : ℕ) (xs ys : List Word) → after s k (xs ++ ys) ≡ after (after s k xs) (k + length xs) ys
 unfolding after
 after-more s k [] ys = rw add-zero refl
 after-more s k (x ∷ xs) ys =

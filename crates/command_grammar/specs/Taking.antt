@@ -2,7 +2,7 @@
 use mathlib.Core.Path.{_≡_}
 use mathlib.Core.List.{List}
 use Rattle.command_line.specs.Words.{Word}
-use Rattle.command_line.specs.Grammar.{Taken}
+use Rattle.command_line.specs.Grammar.{Taken, LineRead}
 use Rattle.command_line.specs.Reading.{line-of}
 use Rattle.command_line.specs.declared.Asked.the-variants.{Usage}
 use Rattle.command_line.specs.declared.Line.{Line}
@@ -14,3 +14,7 @@ ReadsAll = (ws : List Word) (line : Line) → Taken ws line → line-of ws ≡ l
 -- and nothing else is: what is not refused as usage is taken by the grammar. Proved in proofs/Only, `reads-only`
 abbrev pub ReadsOnly : Type 0
 ReadsOnly = (ws : List Word) → (line-of ws .asked ≡ Usage → ⊥) → Taken ws (line-of ws)
+
+-- with the fault of a line that is refused: what the grammar's file states of an answer (`LineRead`), of reading. Proved in proofs/Faults, `reads`
+abbrev pub Reads : Type 0
+Reads = (ws : List Word) → LineRead ws (line-of ws)
