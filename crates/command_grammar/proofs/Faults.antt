@@ -2,7 +2,7 @@
 use mathlib.Core.Path.{_≡_, refl, sym, ap, subst, _∙_}
 use mathlib.Core.List.{List, [], _∷_, _++_, append-assoc, append-nil}
 use mathlib.Core.Bool.{Bool, true, false, cond}
-use Prim.Native.Nat.{ℕ, zero, suc, _+_, _≤_, _<_}
+use Prim.Native.Nat.{ℕ, suc, _+_, _≤_, _<_}
 use native.Mathlib.Nat.{zero-add, add-zero}
 use native.Mathlib.Numerals.{add-one}
 use native.Mathlib.Omega.{arith}
@@ -14,11 +14,10 @@ use Rattle.reference.specs.declared.Cutoff.the-variants.{Standard, Low, Wide}
 use Rattle.level_lines.specs.Text.{text}
 use Rattle.level_settings.specs.Settings.{rate-text, cutoff-text}
 use Rattle.command_line.specs.Words.{Word, same, name}
-use Rattle.command_line.specs.Grammar.{Option, rate, cutoff, gain, sheet, jobs, Allowed, AllAllowed, option-words, defaults, Command, mark, command-words, Right, command-line, without, Taken, Continues, LineRead, command, help, version}
+use Rattle.command_line.specs.Grammar.{Option, rate, cutoff, gain, sheet, jobs, Allowed, AllAllowed, option-words, Command, mark, command-words, command-line, without, Taken, Continues, command, help, version}
 use Rattle.command_line.specs.Reading as reading
 use Rattle.command_line.specs.Reading.{gain-of, jobs-of, start, after, next, next-by, finish, finish-by, line-of}
-use Rattle.command_line.specs.declared.Asked.{Asked}
-use Rattle.command_line.specs.declared.Asked.the-variants.{Convert, Help, Version, Usage}
+use Rattle.command_line.specs.declared.Asked.the-variants.{Help, Version, Usage}
 use Rattle.command_line.specs.declared.Expect.{Expect}
 use Rattle.command_line.specs.declared.Expect.the-variants as expect
 use Rattle.command_line.specs.declared.Line.{Line}
@@ -26,7 +25,7 @@ use Rattle.command_line.specs.declared.Options.{Options}
 use Rattle.command_line.specs.declared.State.{State}
 use Rattle.command_grammar.specs.Taking.{Reads}
 use Rattle.command_grammar.proofs.Taking.{after-more, reads-all}
-use Rattle.command_grammar.proofs.Only.{Reached, options, value, marked, named, marked-named, all, helped, versioned, faulted, Value, of-rate, of-cutoff, of-gain, of-sheet, of-jobs, said, words, from-start, flat-one, allowed-one, reads-only}
+use Rattle.command_grammar.proofs.Only.{Reached, options, value, marked, named, marked-named, all, helped, versioned, faulted, of-rate, of-cutoff, of-gain, of-sheet, of-jobs, words, from-start, flat-one, allowed-one, reads-only}
 
 -- ---- an answer that is refused
 
@@ -47,6 +46,24 @@ refused-so expect.MarkedOutput s n e = refl
 
 -- ---- where a fault is made
 
+abbrev Fine : Expect → Type 0
+Fine expect.Option = Unit {0}
+Fine expect.Rate = Unit {0}
+Fine expect.Cutoff = Unit {0}
+Fine expect.Gain = Unit {0}
+Fine expect.Sheet = Unit {0}
+Fine expect.Jobs = Unit {0}
+Fine expect.Input = Unit {0}
+Fine expect.Output = Unit {0}
+Fine expect.MarkedOutput = Unit {0}
+Fine expect.Nothing = Unit {0}
+Fine expect.Help = Unit {0}
+Fine expect.Version = Unit {0}
+Fine expect.Fault = ⊥
+
+is-fine : (x : Expect) → Fine x → x ≡ expect.Fault → ⊥
+is-fine x f e = subst Fine e f
+
 -- a state that is a fault tells word k
 record Tells (k : ℕ) (t : State) : Type 0 where
   pub word : t .expect ≡ expect.Fault → t .last ≡ k
@@ -63,53 +80,50 @@ module _ (o : Options) (k : ℕ) (w : Word) where
   none : {s : State} → (s .expect ≡ expect.Fault → ⊥) → Tells k s
   none never = record { word = λ e. absurd (never e) }
 
-  no-option : expect.Option ≡ expect.Fault → ⊥
-  no-option e = let z : _≡_ {A = ℕ} 0 1 = cc in omega arith
-
   on-option : Tells k (reading.option o k w)
   unfolding reading.option reading.plain reading.lasting
   on-option =
-      either (same w (text "-r")) (none (λ e. let z : _≡_ {A = ℕ} 0 1 = cc in omega arith))
-      (either (same w (text "-c")) (none (λ e. let z : _≡_ {A = ℕ} 0 1 = cc in omega arith))
-      (either (same w (text "-g")) (none (λ e. let z : _≡_ {A = ℕ} 0 1 = cc in omega arith))
-      (either (same w (text "-s")) (none (λ e. let z : _≡_ {A = ℕ} 0 1 = cc in omega arith))
-      (either (same w (text "-j")) (none (λ e. let z : _≡_ {A = ℕ} 0 1 = cc in omega arith))
-      (either (same w (text "-f")) (none no-option)
-      (either (same w (text "--")) (none (λ e. let z : _≡_ {A = ℕ} 0 1 = cc in omega arith))
-      (either (same w (text "--help")) (none (λ e. let z : _≡_ {A = ℕ} 0 1 = cc in omega arith))
-      (either (same w (text "--version")) (none (λ e. let z : _≡_ {A = ℕ} 0 1 = cc in omega arith))
-      (either (name false w) (none (λ e. let z : _≡_ {A = ℕ} 0 1 = cc in omega arith)) here)))))))))
+      either (same w (text "-r")) (none (is-fine _ tt))
+      (either (same w (text "-c")) (none (is-fine _ tt))
+      (either (same w (text "-g")) (none (is-fine _ tt))
+      (either (same w (text "-s")) (none (is-fine _ tt))
+      (either (same w (text "-j")) (none (is-fine _ tt))
+      (either (same w (text "-f")) (none (is-fine _ tt))
+      (either (same w (text "--")) (none (is-fine _ tt))
+      (either (same w (text "--help")) (none (is-fine _ tt))
+      (either (same w (text "--version")) (none (is-fine _ tt))
+      (either (name false w) (none (is-fine _ tt)) here)))))))))
 
   three : {x y z : State} (a b c : Bool) → Tells k x → Tells k y → Tells k z → Tells k (cond a x (cond b y (cond c z (reading.fault o k))))
   three a b c p q r = either a p (either b q (either c r here))
 
   on-rate : Tells k (reading.rate o k w)
   unfolding reading.rate
-  on-rate = three (same w (rate-text Hz88200)) (same w (rate-text Hz176400)) (same w (rate-text Hz352800)) (none no-option) (none no-option) (none no-option)
+  on-rate = three (same w (rate-text Hz88200)) (same w (rate-text Hz176400)) (same w (rate-text Hz352800)) (none (is-fine _ tt)) (none (is-fine _ tt)) (none (is-fine _ tt))
 
   on-cutoff : Tells k (reading.cutoff o k w)
   unfolding reading.cutoff
-  on-cutoff = three (same w (cutoff-text Standard)) (same w (cutoff-text Low)) (same w (cutoff-text Wide)) (none no-option) (none no-option) (none no-option)
+  on-cutoff = three (same w (cutoff-text Standard)) (same w (cutoff-text Low)) (same w (cutoff-text Wide)) (none (is-fine _ tt)) (none (is-fine _ tt)) (none (is-fine _ tt))
 
   on-gain : Tells k (reading.gain o k w)
   unfolding reading.gain
-  on-gain = either (ltb 144 (gain-of w)) here (none no-option)
+  on-gain = either (ltb 144 (gain-of w)) here (none (is-fine _ tt))
 
   on-jobs : Tells k (reading.jobs o k w)
   unfolding reading.jobs
-  on-jobs = either (ltb (jobs-of w) 1) here (either (ltb 64 (jobs-of w)) here (none no-option))
+  on-jobs = either (ltb (jobs-of w) 1) here (either (ltb 64 (jobs-of w)) here (none (is-fine _ tt)))
 
   on-sheet : Tells k (reading.sheet o k w)
   unfolding reading.sheet
-  on-sheet = either (name true w) (none no-option) here
+  on-sheet = either (name true w) (none (is-fine _ tt)) here
 
   on-input : Tells k (reading.input o k w)
   unfolding reading.input
-  on-input = either (name true w) (none (λ e. let z : _≡_ {A = ℕ} 0 1 = cc in omega arith)) here
+  on-input = either (name true w) (none (is-fine _ tt)) here
 
   on-output : (first : ℕ) (m : Bool) → Tells k (reading.output o k w first m)
   unfolding reading.output
-  on-output first m = either (name m w) (none (λ e. let z : _≡_ {A = ℕ} 0 1 = cc in omega arith)) here
+  on-output first m = either (name m w) (none (is-fine _ tt)) here
 
 fault-at : (x : Expect) (s : State) (k : ℕ) (w : Word) → s .expect ≡ x → (x ≡ expect.Fault → ⊥) → Tells k (next-by x s k w)
 fault-at expect.Option s k w e never = on-option (s .options) k w
@@ -134,18 +148,18 @@ data Decided (x : Expect) : Type 0 where
 
 is-fault : (x : Expect) → Decided x
 is-fault expect.Fault = yes refl
-is-fault expect.Option = not-so (λ e. let z : _≡_ {A = ℕ} 0 1 = cc in omega arith)
-is-fault expect.Rate = not-so (λ e. let z : _≡_ {A = ℕ} 0 1 = cc in omega arith)
-is-fault expect.Cutoff = not-so (λ e. let z : _≡_ {A = ℕ} 0 1 = cc in omega arith)
-is-fault expect.Gain = not-so (λ e. let z : _≡_ {A = ℕ} 0 1 = cc in omega arith)
-is-fault expect.Sheet = not-so (λ e. let z : _≡_ {A = ℕ} 0 1 = cc in omega arith)
-is-fault expect.Jobs = not-so (λ e. let z : _≡_ {A = ℕ} 0 1 = cc in omega arith)
-is-fault expect.Input = not-so (λ e. let z : _≡_ {A = ℕ} 0 1 = cc in omega arith)
-is-fault expect.Output = not-so (λ e. let z : _≡_ {A = ℕ} 0 1 = cc in omega arith)
-is-fault expect.MarkedOutput = not-so (λ e. let z : _≡_ {A = ℕ} 0 1 = cc in omega arith)
-is-fault expect.Nothing = not-so (λ e. let z : _≡_ {A = ℕ} 0 1 = cc in omega arith)
-is-fault expect.Help = not-so (λ e. let z : _≡_ {A = ℕ} 0 1 = cc in omega arith)
-is-fault expect.Version = not-so (λ e. let z : _≡_ {A = ℕ} 0 1 = cc in omega arith)
+is-fault expect.Option = not-so (is-fine _ tt)
+is-fault expect.Rate = not-so (is-fine _ tt)
+is-fault expect.Cutoff = not-so (is-fine _ tt)
+is-fault expect.Gain = not-so (is-fine _ tt)
+is-fault expect.Sheet = not-so (is-fine _ tt)
+is-fault expect.Jobs = not-so (is-fine _ tt)
+is-fault expect.Input = not-so (is-fine _ tt)
+is-fault expect.Output = not-so (is-fine _ tt)
+is-fault expect.MarkedOutput = not-so (is-fine _ tt)
+is-fault expect.Nothing = not-so (is-fine _ tt)
+is-fault expect.Help = not-so (is-fine _ tt)
+is-fault expect.Version = not-so (is-fine _ tt)
 
 fault-stays : (s : State) (k : ℕ) (ws : List Word) → s .expect ≡ expect.Fault → after s k ws ≡ s
 unfolding after
@@ -243,7 +257,7 @@ record Located (ws : List Word) (f : ℕ) : Type 0 where
   pub most : f ≤ length ws
 
 start-fine : start .expect ≡ expect.Fault → ⊥
-start-fine e = let z : _≡_ {A = ℕ} 0 1 = cc in omega arith
+start-fine = is-fine _ tt
 
 located : (ws : List Word) → line-of ws .asked ≡ Usage → Located ws (line-of ws .fault)
 unfolding line-of
