@@ -1,14 +1,14 @@
 // The command line word by word: what is expected next, and what the options so far ask for.
 ghost use mathlib.Core.Path.{_≡_};
-ghost use Rattle.command_line.specs.Grammar as grammar;
-ghost use Rattle.command_line.specs.Reading as reading;
-use crate::Asked;
-use crate::Expect;
-use crate::Line;
-use crate::Options;
-use crate::State;
-use crate::words::is;
-use crate::words::name;
+ghost use Rattle.command_grammar.specs.Grammar as grammar;
+ghost use Rattle.command_grammar.specs.Reading as reading;
+use command_grammar::Asked;
+use command_grammar::Expect;
+use command_grammar::Line;
+use command_grammar::Options;
+use command_grammar::State;
+use command_words::is;
+use command_words::name;
 use reference::Cutoff;
 use reference::PcmRate;
 

@@ -1,17 +1,27 @@
 -- `read` meets its contract.
 use denote.Ref.{now}
 use mathlib.Core.Path.{_≡_, refl, sym, ap, _∙_}
-use mathlib.Core.List.{[]}
-use Prim.Native.Nat.{_+_, _-_, _≤_, _<_}
+use mathlib.Core.List.{List, [], _∷_}
+use Prim.Native.Nat.{ℕ, suc, _+_, _-_, _≤_, _<_}
 use native.Mathlib.Nat.{zero-add, add-zero}
+use native.Mathlib.Numerals.{add-one}
 use native.Mathlib.Omega.{arith}
 use borrow.Author.Needs.{needs}
 use lib.ListN.{length, drop, drop-of-length-le}
-use Rattle.command_line.specs.Words.{words-of}
-use Rattle.command_line.specs.Reading.{after, finish, line-of}
-use Rattle.command_line.proofs.Cutting.{cut, read-on}
+use Rattle.command_words.specs.Words.{Word, words-of}
+use Rattle.command_grammar.specs.Reading.{next, after, finish, line-of}
+use Rattle.command_grammar.specs.declared.State.{State}
+use Rattle.command_words.proofs.Cutting.{cut}
 use Rattle.command_line.proofs.read.Statement.{statement}
 use Rattle.command_line.proofs.read.Tie as tie
+
+-- a line read on by one word
+read-on : (s : State) (k : ℕ) (w : Word) (ws rest : List Word) → ws ≡ w ∷ rest
+    → finish (after s k ws) (k + length ws) ≡ finish (after (next s k w) (k + 1) rest) (k + 1 + length rest)
+unfolding after
+read-on s k w ws rest e =
+    let n : k + suc (length rest) ≡ k + 1 + length rest = omega arith in
+    rw (e, n, add-one) refl
 
 abbrev Inv-loop : tie.InvT-loop
 Inv-loop words s₀ k₀ at₀ s k at =

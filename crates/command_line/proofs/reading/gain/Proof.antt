@@ -3,7 +3,7 @@ use denote.Ref.{now}
 use mathlib.Core.Path.{_≡_, refl, sym, _∙_}
 use borrow.Author.Tests.{le-ltb, lt-ltb}
 use borrow.Author.Needs.{needs}
-use Rattle.command_line.specs.Reading.{gain}
+use Rattle.command_grammar.specs.Reading.{gain}
 use Rattle.command_line.proofs.reading.gain.Statement.{statement}
 use Rattle.command_line.proofs.reading.gain.Tie as tie
 

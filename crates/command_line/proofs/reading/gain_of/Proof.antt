@@ -9,8 +9,8 @@ use mir.Syntax.{w32}
 use mir.Val.{SFits, toZ, ofZ}
 use mir.Facts.{toZ-ofZ}
 use borrow.Author.Needs.{needs}
-use Rattle.command_line.specs.Reading.{gain-of}
-use Rattle.command_line.proofs.Values.{gain-is, gain-small}
+use Rattle.command_grammar.specs.Reading.{gain-of}
+use Rattle.command_grammar.proofs.Values.{gain-is, gain-small}
 use Rattle.command_line.proofs.reading.gain_of.Statement.{statement}
 use Rattle.command_line.proofs.reading.gain_of.Tie as tie
 

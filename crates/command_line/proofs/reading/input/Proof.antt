@@ -1,7 +1,7 @@
 -- `input` meets its contract.
 use mathlib.Core.Path.{_≡_, sym, _∙_}
 use borrow.Author.Needs.{needs}
-use Rattle.command_line.specs.Reading.{input}
+use Rattle.command_grammar.specs.Reading.{input}
 use Rattle.command_line.proofs.reading.input.Statement.{statement}
 use Rattle.command_line.proofs.reading.input.Tie as tie
 

@@ -3,7 +3,7 @@ use denote.Ref.{now}
 use mathlib.Core.Path.{_≡_, refl, sym, _∙_}
 use borrow.Author.Tests.{le-ltb, lt-ltb}
 use borrow.Author.Needs.{needs}
-use Rattle.command_line.specs.Reading.{jobs}
+use Rattle.command_grammar.specs.Reading.{jobs}
 use Rattle.command_line.proofs.reading.jobs.Statement.{statement}
 use Rattle.command_line.proofs.reading.jobs.Tie as tie
 

@@ -2,7 +2,7 @@
 use mathlib.Core.Path.{sym}
 use native.Mathlib.Omega.{arith}
 use borrow.Author.Needs.{needs}
-use Rattle.command_line.proofs.Values.{jobs-is, no-jobs}
+use Rattle.command_grammar.proofs.Values.{jobs-is, no-jobs}
 use Rattle.command_line.proofs.reading.jobs_of.Statement.{statement}
 use Rattle.command_line.proofs.reading.jobs_of.Tie as tie
 

@@ -1,7 +1,7 @@
 -- `output` meets its contract.
 use mathlib.Core.Path.{_≡_, sym, _∙_}
 use borrow.Author.Needs.{needs}
-use Rattle.command_line.specs.Reading.{output}
+use Rattle.command_grammar.specs.Reading.{output}
 use Rattle.command_line.proofs.reading.output.Statement.{statement}
 use Rattle.command_line.proofs.reading.output.Tie as tie
 

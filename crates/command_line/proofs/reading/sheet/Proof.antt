@@ -1,7 +1,7 @@
 -- `sheet` meets its contract.
 use mathlib.Core.Path.{_≡_, sym, _∙_}
 use borrow.Author.Needs.{needs}
-use Rattle.command_line.specs.Reading.{sheet}
+use Rattle.command_grammar.specs.Reading.{sheet}
 use Rattle.command_line.proofs.reading.sheet.Statement.{statement}
 use Rattle.command_line.proofs.reading.sheet.Tie as tie
 

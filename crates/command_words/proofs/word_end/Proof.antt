@@ -7,8 +7,8 @@ use denote.Ref.{now}
 use lib.ListN.{length, getD}
 use borrow.Author.Needs.{needs}
 use Rattle.numbers.proofs.Lists.{below-or}
-use Rattle.command_line.proofs.words.word_end.Statement.{statement}
-use Rattle.command_line.proofs.words.word_end.Tie as tie
+use Rattle.command_words.proofs.word_end.Statement.{statement}
+use Rattle.command_words.proofs.word_end.Tie as tie
 
 abbrev Inv-loop : tie.InvT-loop
 Inv-loop words at k₀ k = (at ≤ k) × (k ≤ length words) × ((i : ℕ) → at ≤ i → i < k → getD words i 0 ≡ 0 → ⊥)

@@ -11,11 +11,11 @@ use Rattle.reference.specs.declared.Cutoff.{Cutoff}
 use Rattle.reference.specs.declared.Cutoff.the-variants.{Standard}
 use Rattle.level_lines.specs.Text.{text, decimal, signed}
 use Rattle.level_settings.specs.Settings.{rate-text, cutoff-text}
-use Rattle.command_line.specs.Words.{Word, name}
-use Rattle.command_line.specs.declared.Options.{Options}
-use Rattle.command_line.specs.declared.Asked.{Asked}
-use Rattle.command_line.specs.declared.Asked.the-variants.{Convert, Help, Version, Usage}
-use Rattle.command_line.specs.declared.Line.{Line}
+use Rattle.command_words.specs.Words.{Word, name}
+use Rattle.command_grammar.specs.declared.Options.{Options}
+use Rattle.command_grammar.specs.declared.Asked.{Asked}
+use Rattle.command_grammar.specs.declared.Asked.the-variants.{Convert, Help, Version, Usage}
+use Rattle.command_grammar.specs.declared.Line.{Line}
 
 -- ---- options
 

@@ -12,10 +12,10 @@ use borrow.Author.Tests.{lt-ltb, le-ltb}
 use Rattle.numbers.proofs.Integers.{pp, nn, zext, add-parts}
 use Rattle.level_lines.specs.Text.{decimal, signed}
 use Rattle.level_settings.specs.Reading.{NumberRead, DecibelsRead}
-use Rattle.command_line.specs.Words.{Word, same}
-use Rattle.command_line.specs.Grammar.{db-at}
-use Rattle.command_line.specs.Reading.{read-back, jobs-of, gain-of}
-use Rattle.command_line.proofs.Same.{same-self, same-is}
+use Rattle.command_words.specs.Words.{Word, same}
+use Rattle.command_grammar.specs.Grammar.{db-at}
+use Rattle.command_grammar.specs.Reading.{read-back, jobs-of, gain-of}
+use Rattle.command_words.proofs.Same.{same-self, same-is}
 
 -- ---- the number whose text a word is
 

@@ -2,8 +2,8 @@
 ghost use mathlib.Core.Path.{_≡_};
 ghost use Prim.Native.Nat.{_≤_};
 ghost use lib.ListN.{length};
-ghost use Rattle.command_line.specs.Words as words;
-ghost use Rattle.command_line.specs.Words.{EndAt, same};
+ghost use Rattle.command_words.specs.Words as words;
+ghost use Rattle.command_words.specs.Words.{EndAt, same};
 
 // Where the word ends that begins at a place: at the next zero byte, or at the list's end.
 pub fn word_end(words: &[u8], at: usize) -> usize

@@ -8,7 +8,7 @@ use borrow.Author.Tests.{eqb-true, eq-eqb, ne-eqb}
 use lib.Dec.{eqb}
 use lib.ListN.{length, getD, drop}
 use lib.Seq.{drop-cons}
-use Rattle.command_line.specs.Words.{same}
+use Rattle.command_words.specs.Words.{same}
 
 pub and-left : (a b : Bool) → a && b ≡ true → a ≡ true
 and-left true b e = refl

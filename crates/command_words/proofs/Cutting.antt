@@ -9,9 +9,7 @@ use borrow.Author.Tests.{eq-eqb, ne-eqb}
 use lib.ListN.{length, getD, take, drop, length-drop, drop-of-length-le, take-append-drop}
 use lib.Seq.{drop-cons, getD-drop, getD-take, length-take-le, take-all, drop-drop}
 use Rattle.numbers.proofs.Lists.{below-or}
-use Rattle.command_line.specs.Reading.{next, after, finish}
-use Rattle.command_line.specs.declared.State.{State}
-use Rattle.command_line.specs.Words.{Word, with-byte, words-of, EndAt}
+use Rattle.command_words.specs.Words.{Word, with-byte, words-of, EndAt}
 
 -- no byte of a word is zero
 abbrev Free : Word → Type 0
@@ -61,11 +59,3 @@ module _ (t : List ℕ) (from r : ℕ) (h : from < length t) (e : EndAt t from r
 
   pub cut : words-of (drop from t) ≡ word ∷ words-of (drop (r + 1) t)
   cut = ⊎-elim inside at-end (below-or r (length t))
-
--- a line read on by one word
-pub read-on : (s : State) (k : ℕ) (w : Word) (ws rest : List Word) → ws ≡ w ∷ rest
-    → finish (after s k ws) (k + length ws) ≡ finish (after (next s k w) (k + 1) rest) (k + 1 + length rest)
-unfolding after
-read-on s k w ws rest e =
-    let n : k + suc (length rest) ≡ k + 1 + length rest = omega arith in
-    rw (e, n, add-one) refl

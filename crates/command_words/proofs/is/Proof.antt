@@ -5,10 +5,10 @@ use Prim.Native.Nat.{_-_, _≤_, _<_}
 use native.Mathlib.Numerals.{add-one}
 use native.Mathlib.Omega.{arith}
 use lib.ListN.{length, getD, drop, drop-of-length-le}
-use Rattle.command_line.specs.Words.{same}
-use Rattle.command_line.proofs.Same.{same-next, same-differ, same-self, same-longer}
-use Rattle.command_line.proofs.words.is.Statement.{statement}
-use Rattle.command_line.proofs.words.is.Tie as tie
+use Rattle.command_words.specs.Words.{same}
+use Rattle.command_words.proofs.Same.{same-next, same-differ, same-self, same-longer}
+use Rattle.command_words.proofs.is.Statement.{statement}
+use Rattle.command_words.proofs.is.Tie as tie
 
 abbrev Inv-loop : tie.InvT-loop
 Inv-loop word text k₀ k = (k ≤ length text) × (same word text ≡ same (drop k word) (drop k text))

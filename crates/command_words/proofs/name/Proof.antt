@@ -8,9 +8,9 @@ use borrow.Author.Needs.{needs}
 use native.Mathlib.Omega.{arith}
 use lib.Dec.{ltb}
 use lib.ListN.{length}
-use Rattle.command_line.specs.Words.{name}
-use Rattle.command_line.proofs.words.name.Statement.{statement}
-use Rattle.command_line.proofs.words.name.Tie as tie
+use Rattle.command_words.specs.Words.{name}
+use Rattle.command_words.proofs.name.Statement.{statement}
+use Rattle.command_words.proofs.name.Tie as tie
 
 returns : tie.Need-returns
 unfolding name

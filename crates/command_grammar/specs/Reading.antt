@@ -10,14 +10,14 @@ use Rattle.reference.specs.declared.Cutoff.{Cutoff}
 use Rattle.reference.specs.declared.Cutoff.the-variants.{Standard, Low, Wide}
 use Rattle.level_lines.specs.Text.{text, decimal, signed}
 use Rattle.level_settings.specs.Settings.{rate-text, cutoff-text}
-use Rattle.command_line.specs.Words.{Word, same, name}
-use Rattle.command_line.specs.Grammar.{db-at, defaults, without}
-use Rattle.command_line.specs.declared.Options.{Options}
-use Rattle.command_line.specs.declared.Asked.the-variants as asked
-use Rattle.command_line.specs.declared.Line.{Line}
-use Rattle.command_line.specs.declared.Expect.{Expect}
-use Rattle.command_line.specs.declared.Expect.the-variants as expect
-use Rattle.command_line.specs.declared.State.{State}
+use Rattle.command_words.specs.Words.{Word, same, name}
+use Rattle.command_grammar.specs.Grammar.{db-at, defaults, without}
+use Rattle.command_grammar.specs.declared.Options.{Options}
+use Rattle.command_grammar.specs.declared.Asked.the-variants as asked
+use Rattle.command_grammar.specs.declared.Line.{Line}
+use Rattle.command_grammar.specs.declared.Expect.{Expect}
+use Rattle.command_grammar.specs.declared.Expect.the-variants as expect
+use Rattle.command_grammar.specs.declared.State.{State}
 
 -- the number below n whose text a word is, or n
 unfoldable pub read-back : (ℕ → Word) → ℕ → Word → ℕ
