@@ -1,1 +1,5 @@
 pub mod Values
+pub mod Taking
+pub mod Reached
+pub mod Steps
+pub mod Promise

@@ -1,16 +1,19 @@
 -- Values read back from their texts.
 use mathlib.Core.Path.{_≡_, refl, sym, ap, _∙_}
+use mathlib.Core.List.{List}
 use mathlib.Core.Bool.{Bool, true, false, cond}
 use mathlib.Core.Logic.{⊎-elim}
-use Prim.Native.Nat.{ℕ, zero, suc, _+_, _-_, _≤_, _<_}
+use Prim.Native.Nat.{ℕ, zero, suc, _+_, _-_, _/_, _%_, _≤_, _<_}
 use native.Mathlib.Omega.{arith}
 use Rattle.numbers.proofs.Lists.{below-or}
 use lib.Dec.{ltb, leb→le, le→leb}
 use lib.IntN.{ℤ, pos, negsuc, _+ℤ_}
+use lib.ListN.{getD}
 use lib.Signed.{_≤ℤ_}
 use borrow.Author.Tests.{lt-ltb, le-ltb}
 use Rattle.numbers.proofs.Integers.{pp, nn, zext, add-parts}
 use Rattle.level_lines.specs.Text.{decimal, signed}
+use Rattle.level_lines.proofs.Numerals.{one-digit, last-digit, some-digit, first-digit, single, split}
 use Rattle.level_settings.specs.Reading.{NumberRead, DecibelsRead}
 use Rattle.command_words.specs.Words.{Word, same}
 use Rattle.command_grammar.specs.Grammar.{db-at}
@@ -106,3 +109,59 @@ gain-small w = go _ (found (λ i. signed (db-at i)) w 145)
     go : (n : ℕ) → Found (λ i. signed (db-at i)) w 145 n → n ≤ 145
     go n (one k l e) = omega arith
     go n (none never) = omega arith
+
+-- ---- a value's text gives the value back
+
+same-digit : (m n : ℕ) → m < 10 → decimal m ≡ decimal n → m ≡ n
+same-digit m n l e = omega (arith, single (48 + m) n (sym (one-digit m l) ∙ e))
+
+same-number : (k m n : ℕ) → m ≤ k → decimal m ≡ decimal n → m ≡ n
+same-number zero m n h e = same-digit m n (omega arith) e
+same-number (suc k) m n h e =
+    ⊎-elim (λ l. same-digit m n l e)
+    (λ l.
+    let s = split (decimal (m / 10)) (48 + m % 10) n (some-digit (m / 10)) (sym (last-digit m l) ∙ e) in
+    omega (arith, s .0, s .2, same-number k (m / 10) (n / 10) (omega arith) (s .1)))
+    (below-or m 10)
+
+same-signed : (x y : ℤ) → signed x ≡ signed y → x ≡ y
+unfolding signed
+same-signed (pos m) (pos n) e = ap pos (same-number m m n (omega arith) e)
+same-signed (pos m) (negsuc n) e = absurd (omega (arith, first-digit m, ap (λ (t : List ℕ). getD t 0 0) e))
+same-signed (negsuc m) (pos n) e = absurd (omega (arith, first-digit n, ap (λ (t : List ℕ). getD t 0 0) e))
+same-signed (negsuc m) (negsuc n) e =
+    let q : suc m ≡ suc n = same-number (suc m) (suc m) (suc n) (omega arith) (cc) in
+    ap negsuc (omega arith)
+
+same-db : (m n : ℕ) → signed (db-at m) ≡ signed (db-at n) → m ≡ n
+same-db m n e = let q = same-signed (db-at m) (db-at n) e in omega (arith, parts m, parts n, ap pp q, ap nn q)
+
+back : (f : ℕ → Word) → ((m n : ℕ) → f m ≡ f n → m ≡ n) → (n k : ℕ) → k < n → read-back f n (f k) ≡ k
+back f once n k h = go (read-back f n (f k)) (found f (f k) n)
+  where
+    go : (r : ℕ) → Found f (f k) n r → r ≡ k
+    go r (one j l e) = sym (once k r e)
+    go r (none never) = absurd (never k h refl)
+
+word : (f : ℕ → Word) (n : ℕ) (w : Word) → read-back f n w < n → w ≡ f (read-back f n w)
+word f n w h = go (read-back f n w) h (found f w n)
+  where
+    go : (r : ℕ) → r < n → Found f w n r → w ≡ f r
+    go r h (one j l e) = e
+    go r h (none never) = absurd (omega arith)
+
+pub jobs-back : (n : ℕ) → n ≤ 64 → jobs-of (decimal n) ≡ n
+unfolding jobs-of
+jobs-back n h = back decimal (λ m k e. same-number m m k (omega arith) e) 65 n (omega arith)
+
+pub jobs-word : (w : Word) → jobs-of w ≤ 64 → w ≡ decimal (jobs-of w)
+unfolding jobs-of
+jobs-word w h = word decimal 65 w (omega arith)
+
+pub gain-back : (n : ℕ) → n ≤ 144 → gain-of (signed (db-at n)) ≡ n
+unfolding gain-of
+gain-back n h = back (λ i. signed (db-at i)) same-db 145 n (omega arith)
+
+pub gain-word : (w : Word) → gain-of w ≤ 144 → w ≡ signed (db-at (gain-of w))
+unfolding gain-of
+gain-word w h = word (λ i. signed (db-at i)) 145 w (omega arith)

@@ -1,8 +1,8 @@
 -- How the code reads a line word by word. No promise speaks of it.
 use mathlib.Core.List.{List, [], _∷_}
-use mathlib.Core.Bool.{Bool, true, false, cond, not, _&&_}
+use mathlib.Core.Bool.{Bool, true, false, cond}
 use Prim.Native.Nat.{ℕ, zero, suc}
-use lib.Dec.{ltb, leb}
+use lib.Dec.{ltb}
 use lib.ListN.{length}
 use Rattle.reference.specs.declared.PcmRate.{PcmRate}
 use Rattle.reference.specs.declared.PcmRate.the-variants.{Hz88200, Hz176400, Hz352800}

@@ -1,7 +1,6 @@
 // The command's arguments. What `read` promises is command_grammar's specs/Grammar.
-ghost use mathlib.Core.Path.{_≡_};
 ghost use Rattle.command_words.specs.Words.{words-of};
-ghost use Rattle.command_grammar.specs.Reading.{line-of};
+ghost use Rattle.command_grammar.specs.Grammar.{LineRead};
 use command_grammar::Line;
 use command_words::word_end;
 
@@ -13,7 +12,7 @@ use reading::start;
 
 // Reads the words, each of which is followed by a zero byte.
 pub fn read(words: &[u8]) -> Line
-    ensures { λ r. ⌜ r ≡ line-of (words-of (now (words .entry))) ⌝ }
+    ensures { λ r. ⌜ LineRead (words-of (now (words .entry))) r ⌝ }
 {
     let mut s = start();
     let mut k = 0u64;

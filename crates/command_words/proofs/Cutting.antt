@@ -1,11 +1,11 @@
 -- Words cut off a list of bytes.
 use mathlib.Core.Path.{_≡_, refl, sym, ap, subst, _∙_}
-use mathlib.Core.List.{List, [], _∷_, _++_, append-nil}
+use mathlib.Core.List.{List, [], _∷_, _++_}
 use mathlib.Core.Logic.{⊎-elim}
 use Prim.Native.Nat.{ℕ, zero, suc, _+_, _-_, _≤_, _<_}
 use native.Mathlib.Numerals.{add-one}
 use native.Mathlib.Omega.{arith}
-use borrow.Author.Tests.{eq-eqb, ne-eqb}
+use borrow.Author.Tests.{ne-eqb}
 use lib.ListN.{length, getD, take, drop, length-drop, drop-of-length-le, take-append-drop}
 use lib.Seq.{drop-cons, getD-drop, getD-take, length-take-le, take-all, drop-drop}
 use Rattle.numbers.proofs.Lists.{below-or}

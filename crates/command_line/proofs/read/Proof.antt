@@ -12,6 +12,7 @@ use Rattle.command_words.specs.Words.{Word, words-of}
 use Rattle.command_grammar.specs.Reading.{next, after, finish, line-of}
 use Rattle.command_grammar.specs.declared.State.{State}
 use Rattle.command_words.proofs.Cutting.{cut}
+use Rattle.command_grammar.proofs.Promise.{line-read}
 use Rattle.command_line.proofs.read.Statement.{statement}
 use Rattle.command_line.proofs.read.Tie as tie
 
@@ -64,7 +65,7 @@ returns c =
     let words = now (at-loop .before .before .before .args .words) in
     let l = at-loop .loop in
     let none : drop (l .at) words ≡ [] = drop-of-length-le words {i = l .at} (omega arith) in
-    c .finish .ensures ∙ ap (finish (l .s)) (sym (add-zero (l .k))) ∙ (rw none at (l .inv .2))
+    rw (c .finish .ensures ∙ ap (finish (l .s)) (sym (add-zero (l .k))) ∙ (rw none at (l .inv .2))) (line-read (words-of words))
 
 pub read-spec : {M : Type 1} → statement M
 read-spec =

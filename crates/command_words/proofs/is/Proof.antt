@@ -1,10 +1,10 @@
 -- `is` meets its contract.
 use denote.Ref.{now}
 use mathlib.Core.Path.{_≡_, refl, sym, _∙_}
-use Prim.Native.Nat.{_-_, _≤_, _<_}
+use Prim.Native.Nat.{_-_, _≤_}
 use native.Mathlib.Numerals.{add-one}
 use native.Mathlib.Omega.{arith}
-use lib.ListN.{length, getD, drop, drop-of-length-le}
+use lib.ListN.{length, drop, drop-of-length-le}
 use Rattle.command_words.specs.Words.{same}
 use Rattle.command_words.proofs.Same.{same-next, same-differ, same-self, same-longer}
 use Rattle.command_words.proofs.is.Statement.{statement}
