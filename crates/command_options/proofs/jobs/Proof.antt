@@ -4,8 +4,8 @@ use mathlib.Core.Path.{_≡_, refl, sym, _∙_}
 use borrow.Author.Tests.{le-ltb, lt-ltb}
 use borrow.Author.Needs.{needs}
 use Rattle.command_grammar.specs.Reading.{jobs}
-use Rattle.command_line.proofs.reading.jobs.Statement.{statement}
-use Rattle.command_line.proofs.reading.jobs.Tie as tie
+use Rattle.command_options.proofs.jobs.Statement.{statement}
+use Rattle.command_options.proofs.jobs.Tie as tie
 
 returns : tie.Need-returns
 unfolding jobs

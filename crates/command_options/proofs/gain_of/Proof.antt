@@ -11,8 +11,8 @@ use mir.Facts.{toZ-ofZ}
 use borrow.Author.Needs.{needs}
 use Rattle.command_grammar.specs.Reading.{gain-of}
 use Rattle.command_grammar.proofs.Values.{gain-is, gain-small}
-use Rattle.command_line.proofs.reading.gain_of.Statement.{statement}
-use Rattle.command_line.proofs.reading.gain_of.Tie as tie
+use Rattle.command_options.proofs.gain_of.Statement.{statement}
+use Rattle.command_options.proofs.gain_of.Tie as tie
 
 module _ (c : tie.After-decibels) where
   abbrev word : List ℕ

@@ -4,8 +4,8 @@ use mathlib.Core.Path.{_≡_, refl, sym, _∙_}
 use borrow.Author.Tests.{le-ltb, lt-ltb}
 use borrow.Author.Needs.{needs}
 use Rattle.command_grammar.specs.Reading.{gain}
-use Rattle.command_line.proofs.reading.gain.Statement.{statement}
-use Rattle.command_line.proofs.reading.gain.Tie as tie
+use Rattle.command_options.proofs.gain.Statement.{statement}
+use Rattle.command_options.proofs.gain.Tie as tie
 
 returns : tie.Need-returns
 unfolding gain

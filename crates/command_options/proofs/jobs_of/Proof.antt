@@ -3,8 +3,8 @@ use mathlib.Core.Path.{sym}
 use native.Mathlib.Omega.{arith}
 use borrow.Author.Needs.{needs}
 use Rattle.command_grammar.proofs.Values.{jobs-is, no-jobs}
-use Rattle.command_line.proofs.reading.jobs_of.Statement.{statement}
-use Rattle.command_line.proofs.reading.jobs_of.Tie as tie
+use Rattle.command_options.proofs.jobs_of.Statement.{statement}
+use Rattle.command_options.proofs.jobs_of.Tie as tie
 
 returns : tie.Need-returns
 returns c = sym (no-jobs (c .before .number .ensures) (c .if1 .taken))

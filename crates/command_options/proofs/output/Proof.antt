@@ -2,8 +2,8 @@
 use mathlib.Core.Path.{_≡_, sym, _∙_}
 use borrow.Author.Needs.{needs}
 use Rattle.command_grammar.specs.Reading.{output}
-use Rattle.command_line.proofs.reading.output.Statement.{statement}
-use Rattle.command_line.proofs.reading.output.Tie as tie
+use Rattle.command_options.proofs.output.Statement.{statement}
+use Rattle.command_options.proofs.output.Tie as tie
 
 returns : tie.Need-returns
 unfolding output

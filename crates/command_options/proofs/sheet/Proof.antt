@@ -2,8 +2,8 @@
 use mathlib.Core.Path.{_≡_, sym, _∙_}
 use borrow.Author.Needs.{needs}
 use Rattle.command_grammar.specs.Reading.{sheet}
-use Rattle.command_line.proofs.reading.sheet.Statement.{statement}
-use Rattle.command_line.proofs.reading.sheet.Tie as tie
+use Rattle.command_options.proofs.sheet.Statement.{statement}
+use Rattle.command_options.proofs.sheet.Tie as tie
 
 returns : tie.Need-returns
 unfolding sheet

@@ -3,8 +3,8 @@ use mathlib.Core.Path.{_≡_, sym, _∙_}
 use borrow.Author.Needs.{needs}
 use Rattle.level_lines.specs.Text.{text}
 use Rattle.command_grammar.specs.Reading.{option}
-use Rattle.command_line.proofs.reading.option.Statement.{statement}
-use Rattle.command_line.proofs.reading.option.Tie as tie
+use Rattle.command_options.proofs.option.Statement.{statement}
+use Rattle.command_options.proofs.option.Tie as tie
 
 returns : tie.Need-returns
 unfolding option text

@@ -3,8 +3,8 @@ use mathlib.Core.Path.{_≡_, sym, _∙_}
 use borrow.Author.Needs.{needs}
 use Rattle.level_lines.specs.Text.{text}
 use Rattle.command_grammar.specs.Reading.{plain}
-use Rattle.command_line.proofs.reading.plain.Statement.{statement}
-use Rattle.command_line.proofs.reading.plain.Tie as tie
+use Rattle.command_options.proofs.plain.Statement.{statement}
+use Rattle.command_options.proofs.plain.Tie as tie
 
 returns : tie.Need-returns
 unfolding plain text

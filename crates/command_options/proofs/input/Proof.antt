@@ -2,8 +2,8 @@
 use mathlib.Core.Path.{_≡_, sym, _∙_}
 use borrow.Author.Needs.{needs}
 use Rattle.command_grammar.specs.Reading.{input}
-use Rattle.command_line.proofs.reading.input.Statement.{statement}
-use Rattle.command_line.proofs.reading.input.Tie as tie
+use Rattle.command_options.proofs.input.Statement.{statement}
+use Rattle.command_options.proofs.input.Tie as tie
 
 returns : tie.Need-returns
 unfolding input

@@ -3,8 +3,8 @@ use mathlib.Core.Path.{_≡_, sym, _∙_}
 use borrow.Author.Needs.{needs}
 use Rattle.level_lines.specs.Text.{text}
 use Rattle.command_grammar.specs.Reading.{lasting}
-use Rattle.command_line.proofs.reading.lasting.Statement.{statement}
-use Rattle.command_line.proofs.reading.lasting.Tie as tie
+use Rattle.command_options.proofs.lasting.Statement.{statement}
+use Rattle.command_options.proofs.lasting.Tie as tie
 
 returns : tie.Need-returns
 unfolding lasting text
