@@ -13,8 +13,9 @@ use Rattle.reference.specs.declared.PcmRate.the-variants.{Hz88200, Hz176400, Hz
 use Rattle.reference.specs.declared.Cutoff.the-variants.{Standard, Low, Wide}
 use Rattle.level_lines.specs.Text.{text}
 use Rattle.level_settings.specs.Settings.{rate-text, cutoff-text}
-use Rattle.command_words.specs.Words.{Word, same, name}
-use Rattle.command_words.proofs.Same.{and-right}
+use Rattle.byte_lists.specs.Lists.{same}
+use Rattle.command_words.specs.Words.{Word, name}
+use Rattle.byte_lists.proofs.Same.{and-right}
 use Rattle.command_grammar.specs.Grammar as grammar
 use Rattle.command_grammar.specs.Grammar.{Option, option-words, Allowed, AllAllowed, defaults, taken, all-taken, Command, mark, command-words, command-line, Taken}
 use Rattle.command_grammar.specs.Reading.{state, on, start, option, plain, lasting, rate, cutoff, gain, sheet, jobs, input, output, next, after, line-of}

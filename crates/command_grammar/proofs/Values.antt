@@ -15,10 +15,11 @@ use Rattle.numbers.proofs.Integers.{pp, nn, zext, add-parts}
 use Rattle.level_lines.specs.Text.{decimal, signed}
 use Rattle.level_lines.proofs.Numerals.{one-digit, last-digit, some-digit, first-digit, single, split}
 use Rattle.level_settings.specs.Reading.{NumberRead, DecibelsRead}
-use Rattle.command_words.specs.Words.{Word, same}
+use Rattle.byte_lists.specs.Lists.{same}
+use Rattle.command_words.specs.Words.{Word}
 use Rattle.command_grammar.specs.Grammar.{db-at}
 use Rattle.command_grammar.specs.Reading.{read-back, jobs-of, gain-of}
-use Rattle.command_words.proofs.Same.{same-self, same-is}
+use Rattle.byte_lists.proofs.Same.{same-self, same-is}
 
 -- ---- the number whose text a word is
 

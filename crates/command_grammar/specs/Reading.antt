@@ -10,7 +10,8 @@ use Rattle.reference.specs.declared.Cutoff.{Cutoff}
 use Rattle.reference.specs.declared.Cutoff.the-variants.{Standard, Low, Wide}
 use Rattle.level_lines.specs.Text.{text, decimal, signed}
 use Rattle.level_settings.specs.Settings.{rate-text, cutoff-text}
-use Rattle.command_words.specs.Words.{Word, same, name}
+use Rattle.byte_lists.specs.Lists.{same}
+use Rattle.command_words.specs.Words.{Word, name}
 use Rattle.command_grammar.specs.Grammar.{db-at, defaults, without}
 use Rattle.command_grammar.specs.declared.Options.{Options}
 use Rattle.command_grammar.specs.declared.Asked.the-variants as asked

@@ -1,8 +1,8 @@
 // The command's arguments. What `read` promises is command_grammar's specs/Grammar.
 ghost use Rattle.command_words.specs.Words.{words-of};
 ghost use Rattle.command_grammar.specs.Grammar.{LineRead};
+use byte_lists::end_at;
 use command_grammar::Line;
-use command_words::word_end;
 
 mod reading;
 
@@ -18,7 +18,7 @@ pub fn read(words: &[u8]) -> Line
     let mut k = 0u64;
     let mut at = 0usize;
     while at < words.len() {
-        let end = word_end(words, at);
+        let end = end_at(words, at, 0);
         s = next(s, k, &words[at..end]);
         k += 1;
         at = end + 1;

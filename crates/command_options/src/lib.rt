@@ -1,10 +1,10 @@
 // One word of the command line: an option, an option's value, a name; and what is expected after it.
 ghost use mathlib.Core.Path.{_≡_};
 ghost use Rattle.command_grammar.specs.Reading as reading;
+use byte_lists::is;
 use command_grammar::Expect;
 use command_grammar::Options;
 use command_grammar::State;
-use command_words::is;
 use command_words::name;
 use reference::Cutoff;
 use reference::PcmRate;

@@ -9,7 +9,8 @@ use borrow.Author.Tests.{ne-eqb}
 use lib.ListN.{length, getD, take, drop, length-drop, drop-of-length-le, take-append-drop}
 use lib.Seq.{drop-cons, getD-drop, getD-take, length-take-le, take-all, drop-drop}
 use Rattle.numbers.proofs.Lists.{below-or}
-use Rattle.command_words.specs.Words.{Word, with-byte, words-of, EndAt}
+use Rattle.byte_lists.specs.Lists.{EndAt}
+use Rattle.command_words.specs.Words.{Word, with-byte, words-of}
 
 -- no byte of a word is zero
 abbrev Free : Word → Type 0
@@ -26,7 +27,7 @@ unended x [] f = rw (ne-eqb x 0 (f 0 (omega arith))) refl
 unended x (y ∷ ys) f = rw (ne-eqb x 0 (f 0 (omega arith)), unended y ys (λ k h. f (suc k) (omega arith))) refl
 
 -- the word from a place on, and what is left after it
-module _ (t : List ℕ) (from r : ℕ) (h : from < length t) (e : EndAt t from r) where
+module _ (t : List ℕ) (from r : ℕ) (h : from < length t) (e : EndAt t from 0 r) where
   abbrev word : Word
   word = take (r - from) (drop from t)
 

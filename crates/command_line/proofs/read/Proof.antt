@@ -36,17 +36,17 @@ loop-holds : tie.Need-loop-holds Inv-loop μ-loop
 unfolding line-of
 loop-holds c = (omega arith, omega arith, rw (c .start .ensures, zero-add) refl)
 
-word-end-requires : tie.Need-word-end-requires Inv-loop μ-loop
-word-end-requires c κs = omega arith
+end-at-requires : tie.Need-end-at-requires Inv-loop μ-loop
+end-at-requires c κs = omega arith
 
 add-k : tie.Need-add-k Inv-loop μ-loop
 add-k c = omega arith
 
 add-at : tie.Need-add-at Inv-loop μ-loop
-add-at c = omega (arith, c .before .before .word-end .ensures .within)
+add-at c = omega (arith, c .before .before .end-at .ensures .within)
 
 loop-less : tie.Need-loop-less Inv-loop μ-loop
-loop-less c = let e = c .before .before .word-end .ensures in omega (arith, e .from)
+loop-less c = let e = c .before .before .end-at .ensures in omega (arith, e .from)
 
 loop-again : tie.Need-loop-again Inv-loop μ-loop
 loop-again c =
@@ -54,8 +54,8 @@ loop-again c =
     let at-loop = found .before .before in
     let words = now (at-loop .before .before .before .args .words) in
     let l = at-loop .loop in
-    let e = found .word-end .ensures in
-    let on = read-on (l .s) (l .k) _ _ _ (cut words (l .at) (found .word-end .result) (omega arith) e) in
+    let e = found .end-at .ensures in
+    let on = read-on (l .s) (l .k) _ _ _ (cut words (l .at) (found .end-at .result) (omega arith) e) in
     (omega (arith, e .from), omega (arith, e .within), rw (c .next .ensures) (sym on ∙ l .inv .2))
 
 returns : tie.Need-returns Inv-loop μ-loop
@@ -75,7 +75,7 @@ read-spec =
     μ-loop
     (λ c κs. search needs)
     loop-holds
-    word-end-requires
+    end-at-requires
     (λ c. search needs)
     (λ c. search needs)
     (λ c. search needs)

@@ -8,7 +8,7 @@ use borrow.Author.Tests.{eqb-true, eq-eqb, ne-eqb}
 use lib.Dec.{eqb}
 use lib.ListN.{length, getD, drop}
 use lib.Seq.{drop-cons}
-use Rattle.wav_format.specs.Wav.{same}
+use Rattle.byte_lists.specs.Lists.{same}
 
 pub and-left : (a b : Bool) → a && b ≡ true → a ≡ true
 and-left true b e = refl
@@ -54,3 +54,10 @@ module _ (xs ys : List ℕ) (k : ℕ) (h : k < length xs) (i : k < length ys) wh
   pub same-differ : getD xs k 0 ≢ getD ys k 0 → same (drop k xs) (drop k ys) ≡ false
   unfolding same
   same-differ e = rw (drop-cons xs k 0 h, drop-cons ys k 0 i) (and-not _ _ (ne-eqb _ _ e))
+
+pub same-longer : (xs ys : List ℕ) → length xs ≢ length ys → same xs ys ≡ false
+unfolding same
+same-longer [] [] n = absurd (n refl)
+same-longer [] (y ∷ ys) n = refl
+same-longer (x ∷ xs) [] n = refl
+same-longer (x ∷ xs) (y ∷ ys) n = and-false (eqb x y) _ (same-longer xs ys (λ e. n (rw e)))

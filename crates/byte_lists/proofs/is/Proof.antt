@@ -5,19 +5,19 @@ use Prim.Native.Nat.{_-_, _≤_}
 use native.Mathlib.Numerals.{add-one}
 use native.Mathlib.Omega.{arith}
 use lib.ListN.{length, drop, drop-of-length-le}
-use Rattle.command_words.specs.Words.{same}
-use Rattle.command_words.proofs.Same.{same-next, same-differ, same-self, same-longer}
-use Rattle.command_words.proofs.is.Statement.{statement}
-use Rattle.command_words.proofs.is.Tie as tie
+use Rattle.byte_lists.specs.Lists.{same}
+use Rattle.byte_lists.proofs.Same.{same-next, same-differ, same-self, same-longer}
+use Rattle.byte_lists.proofs.is.Statement.{statement}
+use Rattle.byte_lists.proofs.is.Tie as tie
 
 abbrev Inv-loop : tie.InvT-loop
-Inv-loop word text k₀ k = (k ≤ length text) × (same word text ≡ same (drop k word) (drop k text))
+Inv-loop list this k₀ k = (k ≤ length this) × (same list this ≡ same (drop k list) (drop k this))
 
 abbrev μ-loop : tie.MeasureT-loop
-μ-loop word text k₀ k = length text - k
+μ-loop list this k₀ k = length this - k
 
 returns : tie.Need-returns Inv-loop μ-loop
-returns c = let a = c .before .args in sym (same-longer (now (a .word)) (now (a .text)) (c .if1 .taken))
+returns c = let a = c .before .args in sym (same-longer (now (a .list)) (now (a .this)) (c .if1 .taken))
 
 loop-holds : tie.Need-loop-holds Inv-loop μ-loop
 loop-holds c = (omega arith, refl)
@@ -33,7 +33,7 @@ returns-2 c =
     let at-loop = c .before .before .before .before in
     let a = at-loop .before .before .args in
     let l = at-loop .loop in
-    sym (l .inv .1 ∙ same-differ (now (a .word)) (now (a .text)) (l .k) (omega arith) (omega arith) (c .if2 .taken))
+    sym (l .inv .1 ∙ same-differ (now (a .list)) (now (a .this)) (l .k) (omega arith) (omega arith) (c .if2 .taken))
 
 add-k : tie.Need-add-k Inv-loop μ-loop
 add-k c = omega arith
@@ -46,15 +46,15 @@ loop-again c =
     let at-loop = c .before .before .before .before in
     let a = at-loop .before .before .args in
     let l = at-loop .loop in
-    (omega arith, l .inv .1 ∙ rw add-one (same-next (now (a .word)) (now (a .text)) (l .k) (omega arith) (omega arith) (c .if2 .left)))
+    (omega arith, l .inv .1 ∙ rw add-one (same-next (now (a .list)) (now (a .this)) (l .k) (omega arith) (omega arith) (c .if2 .left)))
 
 returns-3 : tie.Need-returns-3 Inv-loop μ-loop
 returns-3 c =
     let at-loop = c .before in
     let a = at-loop .before .before .args in
     let l = at-loop .loop in
-    let x : drop (l .k) (now (a .word)) ≡ _ = drop-of-length-le (now (a .word)) {i = l .k} (omega arith) in
-    let y : drop (l .k) (now (a .text)) ≡ _ = drop-of-length-le (now (a .text)) {i = l .k} (omega arith) in
+    let x : drop (l .k) (now (a .list)) ≡ _ = drop-of-length-le (now (a .list)) {i = l .k} (omega arith) in
+    let y : drop (l .k) (now (a .this)) ≡ _ = drop-of-length-le (now (a .this)) {i = l .k} (omega arith) in
     sym (l .inv .1 ∙ rw (x, y) (same-self _))
 
 pub is-spec : {M : Type 1} → statement M

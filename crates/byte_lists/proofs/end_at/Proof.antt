@@ -1,4 +1,4 @@
--- `word_end` meets its contract.
+-- `end_at` meets its contract.
 use mathlib.Core.Path.{_≡_}
 use mathlib.Core.Logic.{⊎-elim}
 use Prim.Native.Nat.{ℕ, _-_, _≤_, _<_}
@@ -6,14 +6,14 @@ use native.Mathlib.Omega.{arith}
 use lib.ListN.{length, getD}
 use borrow.Author.Needs.{needs}
 use Rattle.numbers.proofs.Lists.{below-or}
-use Rattle.command_words.proofs.word_end.Statement.{statement}
-use Rattle.command_words.proofs.word_end.Tie as tie
+use Rattle.byte_lists.proofs.end_at.Statement.{statement}
+use Rattle.byte_lists.proofs.end_at.Tie as tie
 
 abbrev Inv-loop : tie.InvT-loop
-Inv-loop words at k₀ k = (at ≤ k) × (k ≤ length words) × ((i : ℕ) → at ≤ i → i < k → getD words i 0 ≡ 0 → ⊥)
+Inv-loop text at end k₀ k = (at ≤ k) × (k ≤ length text) × ((i : ℕ) → at ≤ i → i < k → getD text i 0 ≡ end → ⊥)
 
 abbrev μ-loop : tie.MeasureT-loop
-μ-loop words at k₀ k = length words - k
+μ-loop text at end k₀ k = length text - k
 
 loop-holds : tie.Need-loop-holds Inv-loop μ-loop
 loop-holds c = (omega arith, omega arith, λ i l m e. omega arith)
@@ -31,8 +31,8 @@ returns-2 : tie.Need-returns-2 Inv-loop μ-loop
 returns-2 c = let l = c .before .loop in
     record { from = l .inv .0; within = l .inv .1; none-before = l .inv .2; holds = λ h. absurd (omega arith) }
 
-pub word-end-spec : {M : Type 1} → statement M
-word-end-spec =
+pub end-at-spec : {M : Type 1} → statement M
+end-at-spec =
     tie.close
     (tie.spec
     Inv-loop
