@@ -4,14 +4,14 @@ use mathlib.Core.List.{List, [], _∷_, _++_, flatMap, append-assoc, append-nil}
 use mathlib.Core.Bool.{Bool, true, false, true≢false}
 use Prim.Native.Nat.{ℕ, _+_, _-_, _<_}
 use native.Mathlib.Omega.{arith}
-use lib.ListN.{length, take, length-append}
+use lib.ListN.{length, length-append}
 use lib.Seq.{take-append-le}
 use Rattle.reference.specs.declared.PcmRate.the-variants.{Hz88200}
 use Rattle.reference.specs.declared.Cutoff.the-variants.{Low}
 use Rattle.level_lines.specs.Text.{text, decimal, signed}
 use Rattle.level_settings.specs.Settings.{rate-text, cutoff-text}
 use Rattle.command_words.specs.Words.{Word, name}
-use Rattle.command_grammar.specs.Grammar.{db-at, Option, option-words, Allowed, AllAllowed, Command, Right, mark, command-words, command-line, After-options, Taken, Continues}
+use Rattle.command_grammar.specs.Grammar.{db-at, Option, option-words, Allowed, AllAllowed, Command, Right, mark, command-words, command-line, After-options, Taken, Continues, FaultAt}
 use Rattle.command_grammar.specs.Reading.{fault, start, option, rate, cutoff, gain, sheet, jobs, input, output, next, after, line-of}
 use Rattle.command_grammar.specs.declared.Options.{Options}
 use Rattle.command_grammar.specs.declared.Line.{Line}
@@ -89,12 +89,6 @@ pub record Whole (ws : List Word) : Type 0 where
   pub right : Right command
   pub is : ws ≡ command-words command
 
--- the word at fault
-pub record At-fault (ws : List Word) (k : ℕ) : Type 0 where
-  pub inside : k < length ws
-  pub before : Continues (take k ws)
-  pub at : Continues (take (k + 1) ws) → ⊥
-
 abbrev pub Reached : Expect → List Word → ℕ → Type 0
 Reached expect.Option ws k = Past ws []
 Reached expect.Rate ws k = Past ws (text "-r" ∷ [])
@@ -108,7 +102,7 @@ Reached expect.MarkedOutput ws k = Named ws true
 Reached expect.Nothing ws k = Whole ws
 Reached expect.Help ws k = After-options ws (text "--help")
 Reached expect.Version ws k = After-options ws (text "--version")
-Reached expect.Fault ws k = At-fault ws k
+Reached expect.Fault ws k = (k < length ws) × FaultAt ws k
 
 -- ---- one more word
 
@@ -129,10 +123,15 @@ module _ (ws : List Word) (w : Word) where
   pub later : {v : Word} → After-options ws v → After-options us v
   later {v} h = record { options = h .options; allowed = h .allowed; rest = h .rest ++ (w ∷ []); is = rw (h .is) (append-assoc (flatMap option-words (h .options)) (v ∷ h .rest) (w ∷ [])) }
 
-  pub still : {k : ℕ} → At-fault ws k → At-fault us k
-  still {k} f =
+  -- where the fault is a word, it stays
+  pub still : {k : ℕ} → k < length ws → FaultAt ws k → FaultAt us k
+  still {k} h f =
       let long : length us ≡ length ws + 1 = length-append ws (w ∷ []) in
-      record { inside = omega (arith, long, f .inside); before = rw (take-append-le k ws (w ∷ []) (omega (arith, f .inside))) (f .before); at = rw (take-append-le (k + 1) ws (w ∷ []) (omega (arith, f .inside))) (f .at) }
+      record {
+        within = omega arith;
+        before = rw (take-append-le k ws (w ∷ []) (omega arith)) (f .before);
+        at = λ _. rw (take-append-le (k + 1) ws (w ∷ []) (omega arith)) (f .at h);
+      }
 
 whole-goes-on : {ws : List Word} → Whole ws → Continues ws
 whole-goes-on h = complete (Taken.command (h .command) (h .right) (h .is))

@@ -44,11 +44,14 @@ module _ (ws : List Word) (w : Word) where
   stop : Continues ws → (o : Options) → To (fault o (length ws))
   stop c o q =
       let long : length (us ws w) ≡ length ws + 1 = length-append ws (w ∷ []) in
-      record {
-        inside = omega (arith, long);
-        before = rw (take-append-seam ws (w ∷ [])) c;
-        at = rw (take-all (length ws + 1) (us ws w) (omega (arith, long))) (dead (us ws w) o (length ws) q);
-      }
+      let inside : length ws < length (us ws w) = omega arith in (
+        inside,
+        record {
+          within = omega arith;
+          before = rw (take-append-seam ws (w ∷ [])) c;
+          at = λ _. rw (take-all (length ws + 1) (us ws w) (omega arith)) (dead (us ws w) o (length ws) q);
+        },
+      )
 
   is : {t : Word} → Past ws [] → same w t ≡ true → Past (us ws w) (t ∷ [])
   is {t} p e = subst (λ (v : Word). Past (us ws w) (v ∷ [])) (same-is w t e) (and-word p w)
@@ -137,7 +140,7 @@ module _ (ws : List Word) (w : Word) where
   step expect.Nothing s i r = stop (alive ws 0 expect.Nothing refl r) (s .options)
   step expect.Help s i r = λ q. rw i (later ws w r)
   step expect.Version s i r = λ q. rw i (later ws w r)
-  step expect.Fault s i r = λ q. rw i (still ws w r)
+  step expect.Fault s i r = λ q. rw i (omega (arith, r .0, length-append ws (w ∷ [])), still ws w (r .0) (r .1))
 
   one-more-word : Reached ((after start 0 ws) .expect) ws ((after start 0 ws) .last) → Reached ((after start 0 (us ws w)) .expect) (us ws w) ((after start 0 (us ws w)) .last)
   unfolding after

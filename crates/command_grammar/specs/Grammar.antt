@@ -122,11 +122,15 @@ pub record Continues (ws : List Word) : Type 0 where
   pub line : Line
   pub all : Taken (ws ++ more) line
 
--- what reading promises, in both directions: it takes what is taken, as that, and nothing else. The fault of any other line is its first word
--- after which nothing can follow, or, where its words can be followed, the word that is missing
+-- where a line goes wrong: at its first word after which nothing can follow; where something can, the word that is missing, after the last one
+pub record FaultAt (ws : List Word) (k : ℕ) : Type 0 where
+  pub within : k ≤ length ws
+  pub before : Continues (take k ws)
+  pub at : k < length ws → Continues (take (k + 1) ws) → ⊥
+
+-- what reading promises, in both directions: it takes what is taken, as that, and nothing else; of any other line it tells the fault alone
 pub record LineRead (ws : List Word) (answer : Line) : Type 0 where
   pub takes : (line : Line) → Taken ws line → answer ≡ line
   pub takes-only : (answer .asked ≡ Usage → ⊥) → Taken ws answer
   pub refused : answer .asked ≡ Usage → answer ≡ without Usage (answer .fault)
-  pub before : answer .asked ≡ Usage → Continues (take (answer .fault) ws)
-  pub at-fault : answer .asked ≡ Usage → (answer .fault < length ws → Continues (take (answer .fault + 1) ws) → ⊥) × (answer .fault ≤ length ws)
+  pub fault : answer .asked ≡ Usage → FaultAt ws (answer .fault)

@@ -2,7 +2,7 @@
 use denote.Ref.{now}
 use mathlib.Core.Path.{_≡_, refl, sym, ap, _∙_}
 use mathlib.Core.List.{List, [], _∷_}
-use Prim.Native.Nat.{ℕ, suc, _+_, _-_, _≤_, _<_}
+use Prim.Native.Nat.{ℕ, suc, _+_, _-_, _≤_}
 use native.Mathlib.Nat.{zero-add, add-zero}
 use native.Mathlib.Numerals.{add-one}
 use native.Mathlib.Omega.{arith}
@@ -26,15 +26,14 @@ read-on s k w ws rest e =
 
 abbrev Inv-loop : tie.InvT-loop
 Inv-loop words s₀ k₀ at₀ s k at =
-    (k ≤ at) × (at ≤ length words + 1)
-    × (finish (after s k (words-of (drop at words))) (k + length (words-of (drop at words))) ≡ line-of (words-of words))
+    (finish (after s k (words-of (drop at words))) (k + length (words-of (drop at words))) ≡ line-of (words-of words)) × (k ≤ at) × (at ≤ length words + 1)
 
 abbrev μ-loop : tie.MeasureT-loop
 μ-loop words s₀ k₀ at₀ s k at = length words + 1 - at
 
 loop-holds : tie.Need-loop-holds Inv-loop μ-loop
 unfolding line-of
-loop-holds c = (omega arith, omega arith, rw (c .start .ensures, zero-add) refl)
+loop-holds c = (rw (c .start .ensures, zero-add) refl, omega arith, omega arith)
 
 end-at-requires : tie.Need-end-at-requires Inv-loop μ-loop
 end-at-requires c κs = omega arith
@@ -56,7 +55,7 @@ loop-again c =
     let l = at-loop .loop in
     let e = found .end-at .ensures in
     let on = read-on (l .s) (l .k) _ _ _ (cut words (l .at) (found .end-at .result) (omega arith) e) in
-    (omega (arith, e .from), omega (arith, e .within), rw (c .next .ensures) (sym on ∙ l .inv .2))
+    (rw (c .next .ensures) (sym on ∙ l .inv .0), omega (arith, e .from), omega (arith, e .within))
 
 returns : tie.Need-returns Inv-loop μ-loop
 unfolding words-of after
@@ -65,7 +64,7 @@ returns c =
     let words = now (at-loop .before .before .before .args .words) in
     let l = at-loop .loop in
     let none : drop (l .at) words ≡ [] = drop-of-length-le words {i = l .at} (omega arith) in
-    rw (c .finish .ensures ∙ ap (finish (l .s)) (sym (add-zero (l .k))) ∙ (rw none at (l .inv .2))) (line-read (words-of words))
+    rw (c .finish .ensures ∙ ap (finish (l .s)) (sym (add-zero (l .k))) ∙ (rw none at (l .inv .0))) (line-read (words-of words))
 
 pub read-spec : {M : Type 1} → statement M
 read-spec =

@@ -1,6 +1,4 @@
 -- `jobs` meets its contract.
-use denote.Ref.{now}
-use mathlib.Core.Path.{_≡_, refl, sym, _∙_}
 use borrow.Author.Tests.{le-ltb, lt-ltb}
 use borrow.Author.Needs.{needs}
 use Rattle.command_grammar.specs.Reading.{jobs}

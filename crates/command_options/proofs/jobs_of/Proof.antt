@@ -1,6 +1,5 @@
 -- `jobs_of` meets its contract.
 use mathlib.Core.Path.{sym}
-use native.Mathlib.Omega.{arith}
 use borrow.Author.Needs.{needs}
 use Rattle.command_grammar.proofs.Values.{jobs-is, no-jobs}
 use Rattle.command_options.proofs.jobs_of.Statement.{statement}

@@ -1,5 +1,5 @@
 -- `output` meets its contract.
-use mathlib.Core.Path.{_≡_, sym, _∙_}
+use mathlib.Core.Path.{sym, _∙_}
 use borrow.Author.Needs.{needs}
 use Rattle.command_grammar.specs.Reading.{output}
 use Rattle.command_options.proofs.output.Statement.{statement}
