@@ -1,14 +1,14 @@
 -- What the grammar takes is read as that.
 use mathlib.Core.Path.{_≡_, refl, sym, ap, _∙_}
 use mathlib.Core.List.{List, [], _∷_, _++_, flatMap}
-use mathlib.Core.Bool.{Bool, true, false, not, true≢false}
+use mathlib.Core.Bool.{Bool, true, false, true≢false}
 use Prim.Native.Nat.{ℕ, suc, _+_, _-_, _<_}
-use native.Mathlib.Nat.{add-zero}
+use native.Mathlib.Nat.{add-zero, zero-add}
 use native.Mathlib.Numerals.{add-one}
 use native.Mathlib.Omega.{arith}
 use lib.Dec.{eqb, ltb}
 use lib.ListN.{length, length-append}
-use borrow.Author.Tests.{lt-ltb, le-ltb}
+use borrow.Author.Tests.{lt-ltb, le-ltb, not-true}
 use Rattle.reference.specs.declared.PcmRate.the-variants.{Hz88200, Hz176400, Hz352800}
 use Rattle.reference.specs.declared.Cutoff.the-variants.{Standard, Low, Wide}
 use Rattle.level_lines.specs.Text.{text}
@@ -68,20 +68,13 @@ options-read (x ∷ xs) k o h =
 pub past-options : (xs : List Option) (rest : List Word) → AllAllowed xs
     → after start 0 (flatMap option-words xs ++ rest) ≡ after (on (all-taken 0 xs defaults)) (length (flatMap option-words xs)) rest
 past-options xs rest h = after-append start 0 (flatMap option-words xs) rest ∙ rw (options-read xs 0 defaults h, zero-add) refl
-  where
-    zero-add : (n : ℕ) → 0 + n ≡ n
-    zero-add n = omega arith
 
 -- ---- names
 
 pub first-name : (o : Options) (k : ℕ) (w : Word) → name false w ≡ true → option o k w ≡ state expect.Output o k 0
 unfolding option plain lasting same text name
 first-name o k [] e = absurd (true≢false (sym e))
-first-name o k (x ∷ xs) e = rw (other (eqb x 45) (and-right (ltb 0 (suc (length xs))) _ e), lt-ltb 0 (suc (length xs)) (omega arith)) refl
-  where
-    other : (b : Bool) → not b ≡ true → b ≡ false
-    other true e = sym e
-    other false e = refl
+first-name o k (x ∷ xs) e = rw (not-true (eqb x 45) (and-right (ltb 0 (suc (length xs))) _ e), lt-ltb 0 (suc (length xs)) (omega arith)) refl
 
 names-read : (m : Bool) (v w : Word) (o : Options) (k : ℕ) → name m v ≡ true → name m w ≡ true
     → after (on o) k (mark m ++ (v ∷ w ∷ [])) ≡ state expect.Nothing o (k + length (mark m)) (suc (k + length (mark m)))

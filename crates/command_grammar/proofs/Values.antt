@@ -19,7 +19,7 @@ use Rattle.byte_lists.specs.Lists.{same}
 use Rattle.command_words.specs.Words.{Word}
 use Rattle.command_grammar.specs.Grammar.{db-at}
 use Rattle.command_grammar.specs.Reading.{read-back, jobs-of, gain-of}
-use Rattle.byte_lists.proofs.Same.{same-self, same-is}
+use Rattle.byte_lists.proofs.Same.{no-true, same-self, same-is}
 
 -- ---- the number whose text a word is
 
@@ -38,10 +38,7 @@ module _ (f : ℕ → Word) (w : Word) where
   pub found : (n : ℕ) → Found n (read-back f n w)
   unfolding read-back
   found zero = none (λ k h e. absurd (omega arith))
-  found (suc n) = one-more n (read-back f n w) (same w (f n)) (λ e. same-is w (f n) e) (λ e q. absurd (differ e q)) (found n)
-    where
-      differ : same w (f n) ≡ false → w ≡ f n → ⊥
-      differ e q = let z : _≡_ {A = Bool} true false = sym (same-self (f n)) ∙ (rw q at e) in let y : _≡_ {A = ℕ} 0 1 = cc in omega arith
+  found (suc n) = one-more n (read-back f n w) (same w (f n)) (λ e. same-is w (f n) e) (λ e q. no-true (same w (f n)) (rw q (same-self (f n))) e) (found n)
 
 -- ---- jobs
 
