@@ -3,3 +3,4 @@ pub mod Taking
 pub mod Reached
 pub mod Steps
 pub mod Promise
+pub mod Examples
