@@ -1,4 +1,6 @@
-pub mod Texts
+pub mod Values
 pub mod Taking
-pub mod Only
-pub mod Faults
+pub mod Reached
+pub mod Steps
+pub mod Promise
+pub mod Examples

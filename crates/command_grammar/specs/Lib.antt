@@ -1,1 +1,3 @@
-pub mod Taking
+pub mod Grammar
+pub mod Examples
+pub mod Reading

@@ -15,11 +15,11 @@ use Rattle.interface.specs.Codes.{hertz, rate-of, cutoff-number, cutoff-of}
 use Rattle.interface.specs.Settings.{known-settings}
 use Rattle.interface.specs.Told.{room, room-for-stats, StatLists, told-stats, ToldWhole}
 use Rattle.dsf.specs.Dsf.{channels, samples}
-use Rattle.command_line.specs.Words.{words-of}
-use Rattle.command_line.specs.Reading.{line-of}
-use Rattle.command_line.specs.declared.Asked.{Asked}
-use Rattle.command_line.specs.declared.Asked.the-variants.{Convert, Help, Version, Usage}
-use Rattle.command_line.specs.declared.Line.{Line}
+use Rattle.command_words.specs.Words.{words-of}
+use Rattle.command_grammar.specs.Grammar.{LineRead}
+use Rattle.command_grammar.specs.declared.Asked.{Asked}
+use Rattle.command_grammar.specs.declared.Asked.the-variants.{Convert, Help, Version, Usage}
+use Rattle.command_grammar.specs.declared.Line.{Line}
 use Rattle.album.specs.Album.{wanted-of, album-places, album-of, HeaderPromise}
 use Rattle.album.specs.declared.Wanted.{Wanted}
 use Rattle.album_told.specs.Told.{album-numbers, said-of}
@@ -48,10 +48,15 @@ line-numbers l =
     hertz (l .options .rate) ∷ cutoff-number (l .options .cutoff) ∷ l .options .gain ∷ flag (l .options .force) ∷ l .options .jobs ∷ l .options .sheet
     ∷ l .input ∷ l .output ∷ l .fault ∷ []
 
+-- the line that the words are read as, told
+pub record LineDone (words asked' : List ℕ) (answer : ℕ) : Type 0 where
+  pub line : Line
+  pub read : LineRead (words-of words) line
+  pub kind : answer ≡ asked-number (line .asked)
+  pub numbers : asked' ≡ line-numbers line
+
 abbrev pub LineCall : List ℕ → List ℕ → List ℕ → ℕ → Type 0
-LineCall words asked asked' answer =
-    Call (eqb (length asked) 9) answer (asked' ≡ asked)
-    ((answer ≡ asked-number (line-of (words-of words) .asked)) × (asked' ≡ line-numbers (line-of (words-of words))))
+LineCall words asked asked' answer = Call (eqb (length asked) 9) answer (asked' ≡ asked) (LineDone words asked' answer)
 
 -- ---- opening
 

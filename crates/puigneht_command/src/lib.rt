@@ -7,7 +7,7 @@ ghost use Rattle.puigneht_command.specs.Calls.{LineCall, OpenCall, Heade
 ghost use Rattle.sentences.specs.Sentences.{Said};
 use album::Wanted;
 use album_told::put;
-use command_line::Asked;
+use command_grammar::Asked;
 use interface::both;
 use interface::cutoff_number;
 use interface::cutoff_of;

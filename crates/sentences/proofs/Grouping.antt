@@ -1,10 +1,10 @@
 -- Digits in groups of three.
 use mathlib.Core.Path.{_≡_, refl, sym}
-use mathlib.Core.List.{List, [], _∷_, _++_}
-use Prim.Native.Nat.{ℕ, zero, suc, _+_, _-_, _/_, _%_, _≤_, _<_}
+use mathlib.Core.List.{List, _∷_, _++_}
+use Prim.Native.Nat.{ℕ, zero, suc, _-_, _/_, _%_, _≤_, _<_}
 use native.Mathlib.Nat.{add-zero}
 use native.Mathlib.Omega.{arith}
-use lib.ListN.{take, drop, take-append-drop}
+use lib.ListN.{take-append-drop}
 use borrow.Author.Tests.{lt-ltb, le-ltb}
 use Rattle.level_lines.specs.Text.{decimal, with-text, Printed}
 use Rattle.sentences.specs.Sentences.{three, groups}

@@ -1,9 +1,8 @@
 -- `puigneht_command_line` meets its contract.
-use mathlib.Core.Path.{_≡_, refl, sym, ap, ap₂, _∙_}
+use mathlib.Core.Path.{refl, _∙_}
 use Rattle.puigneht_command.proofs.Answers.{done-so, turned-away}
 use borrow.Author.Tests.{eq-eqb, ne-eqb}
-use Rattle.command_line.specs.declared.Line.{Line}
-use Rattle.puigneht_command.specs.Calls.{asked-number, line-numbers}
+use Rattle.puigneht_command.specs.Calls.{line-numbers}
 use borrow.Author.Needs.{needs}
 use Rattle.puigneht_command.proofs.puigneht_command_line.Statement.{statement}
 use Rattle.puigneht_command.proofs.puigneht_command_line.Tie as tie
@@ -40,10 +39,12 @@ returns c =
     let numbered = flagged .before in
     let hertzed = numbered .before in
     let read = hertzed .before .before in
-    done-so (eq-eqb _ _ (read .before .if1 .taken)) (
-      c .asked-number .ensures ∙ ap (λ (l : Line). asked-number (l .asked)) (read .read .ensures),
-      put .put .ensures ∙ rw (hertzed .hertz .ensures, numbered .cutoff-number .ensures, flagged .flag .ensures) (ap line-numbers (read .read .ensures)),
-    )
+    done-so (eq-eqb _ _ (read .before .if1 .taken)) (record {
+      line = read .read .result;
+      read = read .read .ensures;
+      kind = c .asked-number .ensures;
+      numbers = put .put .ensures ∙ rw (hertzed .hertz .ensures, numbered .cutoff-number .ensures, flagged .flag .ensures);
+    })
 
 returns-2 : tie.Need-returns-2
 returns-2 c = turned-away (ne-eqb _ _ (c .if1 .left)) refl

@@ -1,7 +1,7 @@
 -- `start` meets its contract.
 use mathlib.Core.Path.{ap, _∙_}
 use borrow.Author.Needs.{needs}
-use Rattle.command_line.specs.Reading.{on}
+use Rattle.command_grammar.specs.Reading.{on}
 use Rattle.command_line.proofs.reading.start.Statement.{statement}
 use Rattle.command_line.proofs.reading.start.Tie as tie
 
