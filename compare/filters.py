@@ -337,4 +337,5 @@ def main():
     print(f"{rows} rows, {len(good)} convert, {len(edge)} filters of absolute sum 40,000,000")
 
 
-main()
+if __name__ == "__main__":
+    main()

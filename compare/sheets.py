@@ -139,4 +139,5 @@ def main():
     print(f"cases {len(cases)} sheets {len(texts)} bytes {sum(map(len, texts))} joins {len(joins)}")
 
 
-main()
+if __name__ == "__main__":
+    main()

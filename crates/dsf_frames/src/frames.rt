@@ -65,7 +65,7 @@ pub fn window(channels: u64, samples: u64, frame: u64) -> FrameWindow
 }
 
 // Whether a stretch of so many bytes from a start on reaches to an end.
-fn reaches(start: u64, size: u64, end: u64) -> bool
+pub fn reaches(start: u64, size: u64, end: u64) -> bool
     ensures { λ r. ⌜ r ≡ leb end (start + size) ⌝ }
 {
     if end <= start {

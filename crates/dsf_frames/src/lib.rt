@@ -6,6 +6,7 @@ mod frames;
 pub use bits::order_table;
 pub use columns::lesser_of;
 pub use frames::frame;
+pub use frames::reaches;
 pub use frames::window;
 pub use frames::window_frame;
 

@@ -14,6 +14,7 @@ mod statistics;
 
 pub use codes::both;
 pub use codes::converter;
+pub use codes::cutoff_number;
 pub use codes::cutoff_of;
 pub use codes::gain_of;
 pub use codes::hertz;

@@ -1,15 +1,17 @@
 -- Three bytes a number hold it: read back, the samples' bytes are the samples.
-use mathlib.Core.Path.{_≡_, refl, sym, _∙_}
+use mathlib.Core.Path.{_≡_, refl, sym, ap₂, _∙_}
 use mathlib.Core.Bool.{Bool, true, false, cond}
-use mathlib.Core.List.{List}
+use mathlib.Core.List.{List, [], _++_}
 use Prim.Native.Nat.{ℕ, _+_, _-_, _*_, _/_, _%_, _^_, _<_}
 use native.Mathlib.Omega.{arith}
 use borrow.Author.Tests.{ltb-false, lt-ltb, le-ltb}
 use lib.Dec.{lit<}
 use lib.IntN.{ℤ, pos, negsuc}
-use lib.ListN.{length, getD}
+use lib.ListN.{length, getD, length-append, List·getD-append}
+use lib.Seq.{getD-append-add}
 use lib.Signed.{mag, ltZ}
-use Rattle.numbers.proofs.Lists.{length-tabulate, getD-tabulate, is-tabulate}
+use Rattle.numbers.specs.Lists.{tabulate}
+use Rattle.numbers.proofs.Lists.{length-tabulate, getD-tabulate, is-tabulate, tabulate-same, tabulate-join}
 use Rattle.reference.specs.Scaling.{clamp}
 use Rattle.reference.specs.Frames.{Run}
 use Rattle.reference.specs.Output.{sample, item, samples, low24, s24le}
@@ -80,3 +82,32 @@ clamp-small z = go z (ltZ (pos 8388607) z) refl (ltZ z (negsuc 8388607)) refl
 pub samples-back : (conv : Converter) (r : Run) → read-s24le (s24le (samples conv r)) ≡ samples conv r
 unfolding samples item sample
 samples-back conv r = read-back (samples conv r) (λ i l. rw (getD-tabulate (item conv r) 0 _ i (pos 0) (rw (length-tabulate (item conv r) 0 _) at l)) (clamp-small _))
+
+-- ---- bytes of numbers end to end
+
+byte-of : List ℤ → ℕ → ℕ
+byte-of zs i = low24 (getD zs (i / 3) (pos 0)) / 256 ^ (i % 3) % 256
+
+first : (xs ys : List ℤ) (i : ℕ) → i / 3 < length xs → byte-of (xs ++ ys) i ≡ byte-of xs i
+unfolding byte-of
+first xs ys i h = rw (List·getD-append xs ys (pos 0) (i / 3) h) refl
+
+second : (xs ys : List ℤ) (i k : ℕ) → i ≡ 3 * length xs + k → byte-of (xs ++ ys) i ≡ byte-of ys k
+unfolding byte-of
+second xs ys i k e =
+    let d : i / 3 ≡ length xs + k / 3 = omega arith in
+    let m : i % 3 ≡ k % 3 = omega arith in
+    rw (d, m, getD-append-add xs ys (k / 3) (pos 0)) refl
+
+pub bytes-join : (xs ys : List ℤ) → s24le (xs ++ ys) ≡ s24le xs ++ s24le ys
+unfolding s24le byte-of
+bytes-join xs ys =
+    let n : 3 * length (xs ++ ys) ≡ 3 * length xs + 3 * length ys = omega (arith, length-append xs ys) in
+    rw n (tabulate-join (byte-of (xs ++ ys)) 0 (3 * length xs) (3 * length ys)
+    ∙ ap₂ (λ (u v : List ℕ). u ++ v)
+    (tabulate-same (byte-of (xs ++ ys)) (byte-of xs) 0 0 (3 * length xs) (λ k h. first xs ys (0 + k) (omega arith)))
+    (tabulate-same (byte-of (xs ++ ys)) (byte-of ys) (0 + 3 * length xs) 0 (3 * length ys) (λ k h. second xs ys (0 + 3 * length xs + k) (0 + k) (omega arith))))
+
+pub no-bytes : s24le [] ≡ []
+unfolding s24le tabulate
+no-bytes = refl

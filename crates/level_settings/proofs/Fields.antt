@@ -15,7 +15,7 @@ use Rattle.reference.specs.declared.Cutoff.{Cutoff}
 use Rattle.reference.specs.declared.Cutoff.the-variants.{Standard, Low, Wide}
 use Rattle.level_lines.specs.Text.{text, joined, decimal, signed}
 use Rattle.level_settings.specs.Settings.{blank, rate-text, cutoff-text, settings-line, InRange, LineRead}
-use Rattle.level_settings.specs.Reading.{Skips, NumberRead, after-rate, after-cutoff, after-channels}
+use Rattle.level_settings.specs.Reading.{Skips, NumberRead, DecibelsRead, after-rate, after-cutoff, after-channels}
 use Rattle.level_settings.specs.declared.LineSettings.{LineSettings}
 use Rattle.level_settings.specs.declared.FirstLine.{FirstLine}
 use Rattle.level_settings.specs.declared.FirstLine.the-variants.{Set, Refused}
@@ -137,6 +137,30 @@ plus-is {line} {m} r never (pos n) l e =
     (omega arith, ap pos (sym q))
 plus-is r never (negsuc n) l e = absurd (never (decimal (suc n)) e)
 
+module _ (t : List ℕ) where
+  none : ((z : ℤ) → negsuc 119 ≤ℤ z → z ≤ℤ pos 24 → t ≡ signed z → ⊥) → DecibelsRead t (pos 25)
+  none never = record { takes = λ z l h e. absurd (never z l h e); takes-only = λ h. absurd (omega (arith, leb→le 25 24 (h .le))); at-most = record { le = tt } }
+
+  some : (z : ℤ) → negsuc 119 ≤ℤ z → z ≤ℤ pos 25 → t ≡ signed z → ((y : ℤ) → negsuc 119 ≤ℤ y → y ≤ℤ pos 24 → t ≡ signed y → y ≡ z) → DecibelsRead t z
+  some z low high is alone = record { takes = λ y l h e. sym (alone y l h e); takes-only = λ h. (low, is); at-most = high }
+
+  pub no-minus : {m : ℕ} {rest : List ℕ} → t ≡ 45 ∷ rest → NumberRead rest m → (0 < m → m ≤ 120 → ⊥) → DecibelsRead t (pos 25)
+  no-minus e r never = none (λ z l h q. let p = minus-is r z l (sym e ∙ q) in never (p .0) (p .1))
+
+  pub minus : {m : ℕ} {rest : List ℕ} → t ≡ 45 ∷ rest → NumberRead rest m → 0 < m → m ≤ 120 → DecibelsRead t (negℤ (pos m))
+  unfolding signed
+  minus {m = zero} e r p q = absurd (omega arith)
+  minus {m = suc n} e r p q =
+      some (negsuc n) (record { le = le→leb n 119 (omega arith) }) (record { le = tt }) (e ∙ ap (λ (t : List ℕ). 45 ∷ t) (r .takes-only (omega arith)))
+      (λ y l h w. minus-is r y l (sym e ∙ w) .2)
+
+  pub no-plus : {m : ℕ} → ((rest : List ℕ) → t ≡ 45 ∷ rest → ⊥) → NumberRead t m → 24 < m → DecibelsRead t (pos 25)
+  no-plus never r h = none (λ z l b q. omega (arith, plus-is r never z b q .0))
+
+  pub plus : {m : ℕ} → ((rest : List ℕ) → t ≡ 45 ∷ rest → ⊥) → NumberRead t m → m ≤ 24 → DecibelsRead t (pos m)
+  unfolding signed
+  plus {m} never r h = some (pos m) (record { le = tt }) (record { le = le→leb m 25 (omega arith) }) (r .takes-only (omega arith)) (λ y l b q. plus-is r never y b q .1)
+
 module _ (rate : PcmRate) (cutoff : Cutoff) (channels : ℕ) (line : List ℕ) (one : 1 ≤ channels) (two : channels ≤ 2) where
   abbrev with-db : ℤ → LineSettings
   with-db z = record { rate = rate; cutoff = cutoff; channels = channels; db = z }
@@ -144,32 +168,16 @@ module _ (rate : PcmRate) (cutoff : Cutoff) (channels : ℕ) (line : List ℕ) (
   abbrev Reads : FirstLine → Type 0
   Reads = LineRead (after-channels rate cutoff channels line)
 
-  no-db : ((s : LineSettings) → InRange s → line ≡ signed (s .db) → ⊥) → Reads Refused
-  no-db never = refused (λ s o e. never s o (past-channels s o two e .3))
+  pub no-db : {z : ℤ} → DecibelsRead line z → (z ≤ℤ pos 24 → ⊥) → Reads Refused
+  no-db d over = refused (λ s o e. let p = past-channels s o two e in over (rw (d .takes (s .db) (o .lowest) (o .highest) (p .3)) (o .highest)))
 
-  set : (z : ℤ) → negsuc 119 ≤ℤ z → z ≤ℤ pos 24 → line ≡ signed z → ((s : LineSettings) → InRange s → line ≡ signed (s .db) → s .db ≡ z) → Reads (Set (with-db z))
-  set z low high is alone =
+  pub set : {z : ℤ} → DecibelsRead line z → z ≤ℤ pos 24 → Reads (Set (with-db z))
+  set {z} d high =
       record {
-        takes = λ s o e. let p = past-channels s o two e in rw (p .0, p .1, p .2, ← alone s o (p .3));
+        takes = λ s o e. let p = past-channels s o two e in rw (p .0, p .1, p .2, d .takes (s .db) (o .lowest) (o .highest) (p .3));
         takes-only = λ s e.
             let q : with-db z ≡ s = cc in
+            let only = d .takes-only high in
             subst (λ (t : LineSettings). InRange t × (after-channels rate cutoff channels line ≡ settings-line t)) q
-            (record { one = one; two = two; lowest = low; highest = high }, ap (after-channels rate cutoff channels) is ∙ sym (by-fields (with-db z)));
+            (record { one = one; two = two; lowest = only .0; highest = high }, ap (after-channels rate cutoff channels) (only .1) ∙ sym (by-fields (with-db z)));
       }
-
-  pub no-minus : {m : ℕ} {rest : List ℕ} → line ≡ 45 ∷ rest → NumberRead rest m → (0 < m → m ≤ 120 → ⊥) → Reads Refused
-  no-minus e r never = no-db (λ s o q. let p = minus-is r (s .db) (o .lowest) (sym e ∙ q) in never (p .0) (p .1))
-
-  pub minus : {m : ℕ} {rest : List ℕ} → line ≡ 45 ∷ rest → NumberRead rest m → 0 < m → m ≤ 120 → Reads (Set (with-db (negℤ (pos m))))
-  unfolding signed
-  minus {m = zero} e r p q = absurd (omega arith)
-  minus {m = suc n} e r p q =
-      set (negsuc n) (record { le = le→leb n 119 (omega arith) }) (record { le = tt }) (e ∙ ap (λ (t : List ℕ). 45 ∷ t) (r .takes-only (omega arith)))
-      (λ s o w. minus-is r (s .db) (o .lowest) (sym e ∙ w) .2)
-
-  pub no-plus : {m : ℕ} → ((rest : List ℕ) → line ≡ 45 ∷ rest → ⊥) → NumberRead line m → 24 < m → Reads Refused
-  no-plus never r h = no-db (λ s o q. omega (arith, plus-is r never (s .db) (o .highest) q .0))
-
-  pub plus : {m : ℕ} → ((rest : List ℕ) → line ≡ 45 ∷ rest → ⊥) → NumberRead line m → m ≤ 24 → Reads (Set (with-db (pos m)))
-  unfolding signed
-  plus {m} never r h = set (pos m) (record { le = tt }) (record { le = le→leb m 24 h }) (r .takes-only (omega arith)) (λ s o q. plus-is r never (s .db) (o .highest) q .1)

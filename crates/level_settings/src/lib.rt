@@ -5,6 +5,9 @@ use reference::PcmRate;
 
 mod reading;
 
+pub use reading::decibels;
+pub use reading::number;
+
 // What the first line sets.
 pub struct LineSettings {
     pub rate: PcmRate,

@@ -3,7 +3,7 @@ ghost use mathlib.Core.List.{List, [], _∷_, _++_};
 ghost use Prim.Native.Nat.{ℕ, _≤_, _<_};
 ghost use lib.ListN.{length};
 ghost use Rattle.level_settings.specs.Settings.{LineRead};
-ghost use Rattle.level_settings.specs.Reading.{Skips, NumberRead, after-rate, after-cutoff, after-channels};
+ghost use Rattle.level_settings.specs.Reading.{Skips, NumberRead, DecibelsRead, after-rate, after-cutoff, after-channels};
 use crate::FirstLine;
 use crate::LineSettings;
 use reference::Cutoff;
@@ -57,8 +57,8 @@ fn more(n: u32, b: u8) -> u32
     n * 10 + d
 }
 
-// A number to the text's end.
-fn number(text: &[u8]) -> u32
+// A number below 1000 to the text's end, and 1000 for any other text.
+pub fn number(text: &[u8]) -> u32
     ensures { λ r. ⌜ NumberRead (now (text .entry)) r ⌝ }
 {
     if text.len() == 0 {
@@ -73,33 +73,37 @@ fn number(text: &[u8]) -> u32
     n
 }
 
-// The last field; there is no -0.
-fn decibels(rate: PcmRate, cutoff: Cutoff, channels: u8, line: &[u8]) -> FirstLine
+// Whole decibels to the text's end: -120 to 24, and 25 for any other text. There is no -0.
+pub fn decibels(text: &[u8]) -> i32
+    ensures { λ r. ⌜ DecibelsRead (now (text .entry)) r ⌝ }
+{
+    let k = skip(text, b"-");
+    if 0 < k {
+        let m = number(&text[k..]);
+        if m == 0 {
+            return 25;
+        }
+        if 120 < m {
+            return 25;
+        }
+        return 0 - m as i32;
+    }
+    let n = number(text);
+    if 24 < n {
+        return 25;
+    }
+    n as i32
+}
+
+// The last field.
+fn gain(rate: PcmRate, cutoff: Cutoff, channels: u8, line: &[u8]) -> FirstLine
     requires { ⌜ (1 ≤ channels) × (channels ≤ 2) ⌝ }
     ensures { λ r. ⌜ LineRead (after-channels rate cutoff channels (now (line .entry))) r ⌝ }
 {
-    let k = skip(line, b"-");
-    if 0 < k {
-        let m = number(&line[k..]);
-        if m == 0 {
-            return FirstLine::Refused;
-        }
-        if 120 < m {
-            return FirstLine::Refused;
-        }
-        let db = 0 - m as i32;
-        return FirstLine::Set(LineSettings {
-            rate,
-            cutoff,
-            channels,
-            db,
-        });
-    }
-    let n = number(line);
-    if 24 < n {
+    let db = decibels(line);
+    if 24 < db {
         return FirstLine::Refused;
     }
-    let db = n as i32;
     FirstLine::Set(LineSettings {
         rate,
         cutoff,
@@ -113,11 +117,11 @@ fn channels(rate: PcmRate, cutoff: Cutoff, line: &[u8]) -> FirstLine
 {
     let k = skip(line, b"1 ");
     if 0 < k {
-        return decibels(rate, cutoff, 1, &line[k..]);
+        return gain(rate, cutoff, 1, &line[k..]);
     }
     let k = skip(line, b"2 ");
     if 0 < k {
-        return decibels(rate, cutoff, 2, &line[k..]);
+        return gain(rate, cutoff, 2, &line[k..]);
     }
     FirstLine::Refused
 }

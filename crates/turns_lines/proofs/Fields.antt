@@ -2,7 +2,7 @@
 use mathlib.Core.Path.{_≡_, refl, sym, ap, _∙_}
 use mathlib.Core.Logic.{⊎-elim}
 use mathlib.Core.List.{List, [], _∷_, _++_, append-cancel-left}
-use Prim.Native.Nat.{ℕ, suc, _+_, _-_, _≤_, _<_}
+use Prim.Native.Nat.{ℕ, _+_, _-_, _≤_, _<_}
 use native.Mathlib.Numerals.{add-one}
 use native.Mathlib.Omega.{arith}
 use lib.ListN.{length, take, drop, getD, length-append, length-drop, take-append-drop, List·getD-append}
@@ -10,7 +10,8 @@ use lib.Seq.{take-at, getD-at, getD-drop, drop-cons, drop-drop, length-take-le}
 use Rattle.numbers.proofs.Lists.{below-or}
 use Rattle.level_lines.specs.Text.{decimal}
 use Rattle.level_lines.proofs.Numerals.{some-digit, all-digits}
-use Rattle.turns_lines.specs.Steps.{NumberRead, EndAt, FieldRead}
+use Rattle.byte_lists.specs.Lists.{EndAt}
+use Rattle.turns_lines.specs.Steps.{NumberRead, FieldRead}
 
 module _ {t : List ℕ} {at end r : ℕ} (e : EndAt t at end r) (inside : at ≤ length t) where
   -- the byte that ends a number is the first of its kind

@@ -25,13 +25,6 @@ pub record NumberRead (t : List ℕ) (r : ℕ) : Type 0 where
   pub takes : (n : ℕ) → t ≡ decimal n → r ≡ capped n
   pub takes-only : r ≤ 1000001 → Number t r
 
--- the first place from `at` on that holds `end`, or the length
-pub record EndAt (t : List ℕ) (at end r : ℕ) : Type 0 where
-  pub from : at ≤ r
-  pub within : r ≤ length t
-  pub none-before : (k : ℕ) → at ≤ k → k < r → getD t k 0 ≡ end → ⊥
-  pub holds : r < length t → getD t r 0 ≡ end
-
 -- a number and the byte that ends it, from place `at` on; `next` is the place after it
 pub record Ended (t : List ℕ) (at end r next : ℕ) : Type 0 where
   pub n : ℕ

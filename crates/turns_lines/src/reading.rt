@@ -3,7 +3,8 @@ ghost use mathlib.Core.List.{List, [], _∷_, _++_};
 ghost use mathlib.Core.Path.{_≡_};
 ghost use Prim.Native.Nat.{ℕ, _≤_, _<_};
 ghost use lib.ListN.{length, drop};
-ghost use Rattle.turns_lines.specs.Steps.{capped, NumberRead, EndAt, FieldRead, AlbumsRead};
+ghost use Rattle.turns_lines.specs.Steps.{capped, NumberRead, FieldRead, AlbumsRead};
+use byte_lists::end_at;
 
 // A number's first digit.
 fn first(b: u8) -> u64
@@ -56,21 +57,6 @@ fn number(text: &[u8]) -> u64
         k += 1;
     }
     n
-}
-
-// The first place from `at` on that holds a byte, or the length.
-fn end_at(text: &[u8], at: usize, end: u8) -> usize
-    requires { ⌜ at ≤ length (now text) ⌝ }
-    ensures { λ r. ⌜ EndAt (now (text .entry)) at end r ⌝ }
-{
-    let mut k = at;
-    while k < text.len() {
-        if text[k] == end {
-            return k;
-        }
-        k += 1;
-    }
-    k
 }
 
 // A number, and the place after the byte that ends it.

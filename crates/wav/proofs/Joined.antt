@@ -4,13 +4,10 @@ use mathlib.Core.List.{List, [], _∷_, _++_, map, flatMap}
 use mathlib.Core.Bool.{Bool, true, false, cond}
 use Prim.Native.Nat.{ℕ, _+_, _-_, _*_, _/_, _%_, _^_, _<_}
 use native.Mathlib.Omega.{arith}
-use lib.IntN.{ℤ, pos}
-use lib.ListN.{length, getD, drop, length-append, length-drop, List·getD-append}
-use lib.Seq.{getD-append-add}
-use Rattle.numbers.specs.Lists.{tabulate}
-use Rattle.numbers.proofs.Lists.{tabulate-same, tabulate-join}
+use lib.IntN.{ℤ}
+use lib.ListN.{length, drop, length-drop}
 use Rattle.reference.specs.Frames.{Run}
-use Rattle.reference.specs.Output.{low24, samples, stats, per-frame-clips, s24le}
+use Rattle.reference.specs.Output.{samples, stats, per-frame-clips, s24le}
 use Rattle.reference.specs.Refusals.{rack, accepted, decide, is-accepted, held-places, convert-places}
 use Rattle.reference.specs.Promises.{if-lent}
 use Rattle.reference.specs.Statistics.{no-stats}
@@ -19,7 +16,7 @@ use Rattle.reference.specs.declared.Verdict.the-variants.{Accepted}
 use Rattle.reference.proofs.Refusals.{decide-skip}
 use Rattle.reference.proofs.Promises.{accepted-is, exit-accepted}
 use Rattle.joins.specs.Joins.{Call, convert, right-lengths, is-answered-accepted, run-of, samples-of, read-s24le, keep, pieces, accepted-calls}
-use Rattle.joins.proofs.Bytes.{samples-back}
+use Rattle.joins.proofs.Bytes.{samples-back, bytes-join, no-bytes}
 use Rattle.joins.proofs.Joins.{cut-runs-join}
 use Rattle.joins.proofs.Cases.{uncut}
 use Rattle.wav_format.specs.Wav.{wav-file}
@@ -27,35 +24,6 @@ use Rattle.wav_checks.specs.Places.{wav-places}
 use Rattle.wav.specs.Joined.{WavCall, right-call, made, data-of, file-pieces, FilesJoinTo, FilesJoin, call-file, CallFilesJoin}
 use Rattle.wav_format.proofs.Reading.{data-is}
 use Rattle.wav_checks.proofs.Accepted.{opens-of, fits-of, length-of, convert-takes}
-
--- ---- bytes of numbers end to end
-
-byte-of : List ℤ → ℕ → ℕ
-byte-of zs i = low24 (getD zs (i / 3) (pos 0)) / 256 ^ (i % 3) % 256
-
-first : (xs ys : List ℤ) (i : ℕ) → i / 3 < length xs → byte-of (xs ++ ys) i ≡ byte-of xs i
-unfolding byte-of
-first xs ys i h = rw (List·getD-append xs ys (pos 0) (i / 3) h) refl
-
-second : (xs ys : List ℤ) (i k : ℕ) → i ≡ 3 * length xs + k → byte-of (xs ++ ys) i ≡ byte-of ys k
-unfolding byte-of
-second xs ys i k e =
-    let d : i / 3 ≡ length xs + k / 3 = omega arith in
-    let m : i % 3 ≡ k % 3 = omega arith in
-    rw (d, m, getD-append-add xs ys (k / 3) (pos 0)) refl
-
-bytes-join : (xs ys : List ℤ) → s24le (xs ++ ys) ≡ s24le xs ++ s24le ys
-unfolding s24le byte-of
-bytes-join xs ys =
-    let n : 3 * length (xs ++ ys) ≡ 3 * length xs + 3 * length ys = omega (arith, length-append xs ys) in
-    rw n (tabulate-join (byte-of (xs ++ ys)) 0 (3 * length xs) (3 * length ys)
-    ∙ ap₂ (λ (u v : List ℕ). u ++ v)
-    (tabulate-same (byte-of (xs ++ ys)) (byte-of xs) 0 0 (3 * length xs) (λ k h. first xs ys (0 + k) (omega arith)))
-    (tabulate-same (byte-of (xs ++ ys)) (byte-of ys) (0 + 3 * length xs) 0 (3 * length ys) (λ k h. second xs ys (0 + 3 * length xs + k) (0 + k) (omega arith))))
-
-no-bytes : s24le [] ≡ []
-unfolding s24le tabulate
-no-bytes = refl
 
 -- ---- a file made is a call of `convert`
 

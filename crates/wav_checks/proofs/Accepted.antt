@@ -14,7 +14,7 @@ use Rattle.reference.specs.Refusals.{Decision, accepted, refused, number, decid
 use Rattle.reference.specs.declared.Converter.{Converter}
 use Rattle.reference.proofs.Refusals.{at-first, at-next, pass, decide-first, decide-skip, present-holds, present-passes, absent-passes}
 use Rattle.wav_format.specs.Wav.{most-data}
-use Rattle.wav_format.proofs.Same.{and-left, and-right}
+use Rattle.byte_lists.proofs.Same.{and-left, and-right}
 use Rattle.wav_checks.specs.Places.{too-large, data-size, wav-lengths, wav-places}
 
 module _ (conv : Converter) (r : Run) (out : List ℕ) (lent : Bool) (counts : List ℕ) where

@@ -10,7 +10,7 @@ use reference::PcmError;
 use reference::Verdict;
 
 // Channels and data that a header can tell.
-fn told(channels: u8, n: usize) -> Verdict
+pub fn told(channels: u8, n: usize) -> Verdict
     ensures { λ r. ⌜ decision r ≡ decide (too-large channels n ∷ []) ⌝ }
 {
     if channels > 2 {

@@ -18,12 +18,13 @@ use Rattle.reference.specs.declared.PcmRate.{PcmRate}
 use Rattle.reference.specs.declared.PcmRate.the-variants.{Hz88200, Hz176400, Hz352800}
 use Rattle.reference.specs.declared.PcmError.the-variants.{NotWav}
 use Rattle.reference.proofs.Refusals.{at-first, at-next, at-end, pass}
-use Rattle.wav_format.specs.Wav.{bytes, fields, header, wav-file, frame-size, most-data, Right, Taken, right-data, same, is-file}
+use Rattle.wav_format.specs.Wav.{bytes, fields, header, wav-file, frame-size, most-data, Right, Taken, right-data, is-file}
 use Rattle.wav_format.specs.Places.{at-rate, takes, read-places}
 use Rattle.wav_format.specs.Promises.{ReadPromise}
 use Rattle.wav_format.specs.Deciding.{rate-of, channels-of}
 use Rattle.wav_format.specs.declared.WavRead.the-variants as answer
-use Rattle.wav_format.proofs.Same.{and-left, and-right, and-not, and-false, and-both, no-true, same-self, same-is}
+use Rattle.byte_lists.specs.Lists.{same}
+use Rattle.byte_lists.proofs.Same.{and-left, and-right, and-not, and-false, and-both, no-true, same-self, same-is}
 
 or-left : (a b : Bool) → a ≡ true → a || b ≡ true
 or-left a b e = rw e refl

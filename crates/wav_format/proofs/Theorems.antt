@@ -18,7 +18,7 @@ use Rattle.wav_format.specs.Promises.{ReadPromise, file-samples, WritePr
 use Rattle.wav_format.specs.declared.WavFormat.{WavFormat}
 use Rattle.wav_format.specs.declared.WavRead.{WavRead}
 use Rattle.wav_format.specs.declared.WavRead.the-variants as answer
-use Rattle.wav_format.proofs.Same.{no-true}
+use Rattle.byte_lists.proofs.Same.{no-true}
 use Rattle.wav_format.proofs.Reading.{right-of, right-is, takes-taken, taken-takes, of-file, takes-of, data-is, length-file, read-accepts, accepts-read, read-refuses, tells}
 use Rattle.wav_format.proofs.Writing.{samples-there, accepted-right, writes}
 

@@ -21,7 +21,7 @@ use Rattle.wav_format.specs.Promises.{ReadPromise, file-samples, WritePr
 use Rattle.wav_format.specs.Deciding.{is-wav}
 use Rattle.wav_format.specs.declared.WavRead.{WavRead}
 use Rattle.wav_format.specs.declared.WavRead.the-variants as answer
-use Rattle.wav_format.proofs.Same.{no-true}
+use Rattle.byte_lists.proofs.Same.{no-true}
 use Rattle.wav_format.proofs.Reading.{read-accepts, accepts-read}
 
 -- ---- the sample bytes of a file

@@ -3,9 +3,10 @@ ghost use mathlib.Core.Path.{_≡_};
 ghost use mathlib.Core.List.{_++_};
 ghost use Prim.Native.Nat.{_+_, _*_, _-_, _≤_, _<_};
 ghost use lib.ListN.{length, take, drop};
+ghost use Rattle.byte_lists.specs.Lists.{same};
 ghost use Rattle.interface.specs.Codes as codes;
 ghost use Rattle.wav_format.specs.Wav as wav;
-ghost use Rattle.wav_format.specs.Wav.{right-data, same, most-data};
+ghost use Rattle.wav_format.specs.Wav.{right-data, most-data};
 ghost use Rattle.wav_format.specs.Deciding as deciding;
 ghost use Rattle.wav_format.specs.Promises.{ReadPromise, file-samples, WritePromise};
 use reference::MOST_FRAMES;
@@ -81,21 +82,6 @@ fn channels_of(x: u8) -> u8
     2
 }
 
-// Whether a file begins with these bytes.
-fn begins(file: &[u8], head: &[u8]) -> bool
-    requires { ⌜ (44 ≤ length (now file)) × (length (now head) ≡ 44) ⌝ }
-    ensures { λ r. ⌜ r ≡ same (take 44 (now (file .entry))) (now (head .entry)) ⌝ }
-{
-    let mut k = 0usize;
-    while k < 44 {
-        if file[k] != head[k] {
-            return false;
-        }
-        k += 1;
-    }
-    true
-}
-
 // Whether a file begins with the header of this rate, these channels and so many bytes of data.
 fn has_header(file: &[u8], rate: PcmRate, channels: u8, n: usize) -> bool
     requires { ⌜ (44 ≤ length (now file)) × (channels ≤ 2) × (n ≤ most-data) ⌝ }
@@ -103,7 +89,7 @@ fn has_header(file: &[u8], rate: PcmRate, channels: u8, n: usize) -> bool
 {
     let mut head = [0u8; 44];
     put_header(rate, channels, n, &mut head);
-    begins(file, &head)
+    byte_lists::is(&file[0..44], &head)
 }
 
 // Rate and channels of a file.

@@ -14,7 +14,7 @@ returns c =
     let at-skip = c .before .before .before in
     let entry = at-skip .before .before .before in
     let s = entry .args in
-    same-line (ap (after-cutoff (s .rate) (s .cutoff)) (left (at-skip .skip .ensures) (c .before .before .if1 .taken))) (c .decibels .ensures)
+    same-line (ap (after-cutoff (s .rate) (s .cutoff)) (left (at-skip .skip .ensures) (c .before .before .if1 .taken))) (c .gain .ensures)
 
 returns-2 : tie.Need-returns-2
 unfolding decimal numeral
@@ -23,7 +23,7 @@ returns-2 c =
     let past-at-skip2 = at-skip2 .before .before .before .before .before in
     let entry = past-at-skip2 .before in
     let s = entry .args in
-    same-line (ap (after-cutoff (s .rate) (s .cutoff)) (left (at-skip2 .skip2 .ensures) (c .before .before .if2 .taken))) (c .decibels2 .ensures)
+    same-line (ap (after-cutoff (s .rate) (s .cutoff)) (left (at-skip2 .skip2 .ensures) (c .before .before .if2 .taken))) (c .gain2 .ensures)
 
 returns-3 : tie.Need-returns-3
 unfolding decimal numeral

@@ -15,33 +15,29 @@ returns : tie.Need-returns
 returns c =
     let at-skip = c .before .before .before .before in
     let s = at-skip .before .before .before in
-    no-minus (s .args .rate) (s .args .cutoff) (s .args .channels) (now (s .args .line)) (s .pre .0) (s .pre .1)
-    (left (at-skip .skip .ensures) (c .before .before .before .if1 .taken)) (c .before .number .ensures) (λ p q. omega arith)
+    no-minus (now (s .args .text)) (left (at-skip .skip .ensures) (c .before .before .before .if1 .taken)) (c .before .number .ensures) (λ p q. omega arith)
 
 returns-2 : tie.Need-returns-2
 returns-2 c =
     let at-skip = c .before .before .before .before .before in
     let s = at-skip .before .before .before in
-    no-minus (s .args .rate) (s .args .cutoff) (s .args .channels) (now (s .args .line)) (s .pre .0) (s .pre .1)
-    (left (at-skip .skip .ensures) (c .before .before .before .before .if1 .taken)) (c .before .before .number .ensures) (λ p q. omega arith)
+    no-minus (now (s .args .text)) (left (at-skip .skip .ensures) (c .before .before .before .before .if1 .taken)) (c .before .before .number .ensures) (λ p q. omega arith)
 
-sub-db : tie.Need-sub-db
-sub-db c = negated-fits (c .before .before .number .result) (omega arith)
+sub-result : tie.Need-sub-result
+sub-result c = negated-fits (c .before .before .number .result) (omega arith)
 
 returns-3 : tie.Need-returns-3
 returns-3 c =
     let at-skip = c .before .before .before .before .before in
     let s = at-skip .before .before .before in
     rw (negated-is (c .before .before .number .result) (omega arith))
-    (minus (s .args .rate) (s .args .cutoff) (s .args .channels) (now (s .args .line)) (s .pre .0) (s .pre .1)
-    (left (at-skip .skip .ensures) (c .before .before .before .before .if1 .taken)) (c .before .before .number .ensures) (pos-of-ne-zero (c .before .if2 .left)) (c .if3 .left))
+    (minus (now (s .args .text)) (left (at-skip .skip .ensures) (c .before .before .before .before .if1 .taken)) (c .before .before .number .ensures) (pos-of-ne-zero (c .before .if2 .left)) (c .if3 .left))
 
 returns-4 : tie.Need-returns-4
 returns-4 c =
     let at-skip = c .before .before .before in
     let s = at-skip .before .before .before in
-    no-plus (s .args .rate) (s .args .cutoff) (s .args .channels) (now (s .args .line)) (s .pre .0) (s .pre .1)
-    (at-skip .skip .ensures .refuses (c .before .before .if1 .left)) (c .before .number2 .ensures) (c .if4 .taken)
+    no-plus (now (s .args .text)) (at-skip .skip .ensures .refuses (c .before .before .if1 .left)) (c .before .number2 .ensures) (c .if4 .taken)
 
 returns-5 : tie.Need-returns-5
 returns-5 c =
@@ -49,8 +45,7 @@ returns-5 c =
     let s = at-skip .before .before .before in
     let small : c .before .number2 .result < 2147483648 = omega arith in
     rw (toZ-pos w32 small)
-    (plus (s .args .rate) (s .args .cutoff) (s .args .channels) (now (s .args .line)) (s .pre .0) (s .pre .1)
-    (at-skip .skip .ensures .refuses (c .before .before .if1 .left)) (c .before .number2 .ensures) (c .if4 .left))
+    (plus (now (s .args .text)) (at-skip .skip .ensures .refuses (c .before .before .if1 .left)) (c .before .number2 .ensures) (c .if4 .left))
 
 pub decibels-spec : {M : Type 1} → statement M
 decibels-spec =
@@ -65,7 +60,7 @@ decibels-spec =
     returns
     returns-2
     (λ c. search needs)
-    sub-db
+    sub-result
     returns-3
     (λ c κs. search needs)
     returns-4

@@ -1,0 +1,4 @@
+pub mod Fitting
+pub mod Gathered
+pub mod Sequences
+pub mod StepCalls

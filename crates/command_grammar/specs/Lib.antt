@@ -1,0 +1,3 @@
+pub mod Grammar
+pub mod Examples
+pub mod Reading
