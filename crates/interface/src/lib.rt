@@ -63,8 +63,5 @@ pub fn understood(
     let before = known_flag(has_before);
     let after = known_flag(has_after);
     let fits = both(stats, room(data, decibels));
-    both(
-        known,
-        both(numbers == 3, both(before, both(after, fits))),
-    )
+    both(known, both(numbers == 3, both(before, both(after, fits))))
 }

@@ -117,12 +117,7 @@ pub fn put_stored(conv: Converter, list: &mut [u64])
 }
 
 // An opening's decision, or a change's, is told, and the numbers of its converter are written if it was accepted.
-pub fn tell_opening(
-    made: Opened,
-    numbers: &mut [u64],
-    data: &mut [u64],
-    decibels: &mut [f64],
-) -> u8
+pub fn tell_opening(made: Opened, numbers: &mut [u64], data: &mut [u64], decibels: &mut [f64]) -> u8
     requires { ⌜ length (now numbers) ≡ 3 ⌝ }
     requires { ⌜ (length (now «data») ≡ 2) × (length (now decibels) ≡ 1) ⌝ }
     ensures { λ r. ⌜ ToldWhole (decision (made .verdict)) r (now («data» .exit)) (now (decibels .exit)) ⌝ }

@@ -30,10 +30,7 @@ pub extern "C" fn puigneht_change(
 {
     let wanted = known_settings(wanted_rate, wanted_cutoff, wanted_gain.len(), 0);
     let known = known_settings(rate, cutoff, gain.len(), own);
-    let fits = both(
-        numbers.len() == 3,
-        room(data.len(), decibels.len()),
-    );
+    let fits = both(numbers.len() == 3, room(data.len(), decibels.len()));
     if both(wanted, both(known, fits)) {
         let conv = converter(rate, cutoff, channels, gain, own, taps, numbers);
         let rate = rate_of(wanted_rate);

@@ -72,10 +72,7 @@ pub extern "C" fn puigneht_open(
     ensures { λ r. ⌜ OpenCall (c-settings rate cutoff channels (now (gain .entry)) own (now (taps .entry))) (now (numbers .entry)) (now (numbers .exit)) (now («data» .entry)) (now («data» .exit)) (now (decibels .entry)) (now (decibels .exit)) r ⌝ }
 {
     let known = known_settings(rate, cutoff, gain.len(), own);
-    let fits = both(
-        numbers.len() == 3,
-        room(data.len(), decibels.len()),
-    );
+    let fits = both(numbers.len() == 3, room(data.len(), decibels.len()));
     if both(known, fits) {
         let made = scarletbook_pcm::open(settings(rate, cutoff, channels, gain, own, taps));
         return tell_opening(made, numbers, data, decibels);

@@ -82,7 +82,7 @@ returns c =
     let g = m .before in
     let told = at-tell .tell-opening .ensures in
     let promise =
-        as-read (held m .converter .ensures) (g .before .before .rate-of .ensures) (g .before .cutoff-of .ensures) (g .gain-of .ensures) (m .change .result) (m .change .ensures) in
+    as-read (held m .converter .ensures) (g .before .before .rate-of .ensures) (g .before .cutoff-of .ensures) (g .gain-of .ensures) (m .change .result) (m .change .ensures) in
     worked (known (held m .before .before)) (record { made = m .change .result; promise = promise; told = told .0; written = told .1 })
 
 returns-2 : tie.Need-returns-2
