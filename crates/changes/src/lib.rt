@@ -1,8 +1,8 @@
 // Settings changed while a converter is open: request 7.
 ghost use mathlib.Core.Path.{_≡_};
-ghost use Rattle.reference.specs.Settings.{converter-of};
+ghost use Rattle.reference.specs.Settings.{converter-of, held-settings};
 ghost use Rattle.reference.specs.Changes as changes;
-ghost use Rattle.reference.specs.Changes.{wanted-settings, ChangePromise};
+ghost use Rattle.reference.specs.Changes.{with-wanted, ChangePromise};
 use reference::Converter;
 use reference::Cutoff;
 use reference::Gain;
@@ -12,7 +12,7 @@ use reference::Settings;
 
 // What opening gives for the wanted settings, the held channels and the held filter.
 fn wanted(conv: Converter, rate: PcmRate, cutoff: Cutoff, gain: Gain) -> Converter
-    ensures { λ r. ⌜ r ≡ converter-of (wanted-settings conv (changes.change rate cutoff gain)) ⌝ }
+    ensures { λ r. ⌜ r ≡ converter-of (with-wanted (held-settings conv) (changes.change rate cutoff gain)) ⌝ }
 {
     let filter = conv.filter;
     reference::converter_of(Settings {

@@ -128,15 +128,15 @@ filter-places f =
     ∷ place (not (right-sums (taps-of f))) 18 []
     ∷ []
 
--- rate with cutoff, and gain
-abbrev pub turned-places : PcmRate → Cutoff → Gain → List Place
-turned-places r c g = place (unsupported r c) 2 (rate r ∷ cutoff c ∷ []) ∷ place (not (right-gain g)) 3 (decibels (g .db) ∷ []) ∷ []
+-- rate with cutoff, and gain: what opening and a change are asked for
+abbrev pub wanted-places : PcmRate → Cutoff → Gain → List Place
+wanted-places r c g = place (unsupported r c) 2 (rate r ∷ cutoff c ∷ []) ∷ place (not (right-gain g)) 3 (decibels (g .db) ∷ []) ∷ []
 
 -- opening: what settings are tried by
 unfoldable pub opening-places : Settings → List Place
 opening-places s =
     place (not (leb 1 (s .channels) && leb (s .channels) 6)) 1 (number (s .channels) ∷ [])
-    ∷ (turned-places (s .rate) (s .cutoff) (s .gain) ++ filter-places (filter-of s))
+    ∷ (wanted-places (s .rate) (s .cutoff) (s .gain) ++ filter-places (filter-of s))
 
 -- the stored numbers
 abbrev pub numbers-place : Converter → Place

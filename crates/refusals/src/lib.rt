@@ -9,7 +9,7 @@ ghost use Rattle.reference.specs.Refusals as table;
 ghost use Rattle.reference.specs.Promises.{by-decision};
 ghost use Rattle.reference.specs.Changes as changes;
 ghost use Rattle.reference.specs.Changes.{change-places};
-ghost use Rattle.reference.specs.Refusals.{decision, decide, is-accepted, turned-places, opening-places, numbers-place, held-places, one-frame, too-many, input-places, run-lengths, byte-lengths, convert-run-places, convert-frame-places, convert-places};
+ghost use Rattle.reference.specs.Refusals.{decision, decide, is-accepted, wanted-places, opening-places, numbers-place, held-places, one-frame, too-many, input-places, run-lengths, byte-lengths, convert-run-places, convert-frame-places, convert-places};
 use reference::Converter;
 use reference::Cutoff;
 use reference::Gain;
@@ -43,9 +43,9 @@ fn unsupported(rate: PcmRate, cutoff: Cutoff) -> bool
     }
 }
 
-// Rate with cutoff, and gain.
-fn turned(rate: PcmRate, cutoff: Cutoff, gain: Gain) -> Verdict
-    ensures { λ r. ⌜ decision r ≡ decide (turned-places rate cutoff gain) ⌝ }
+// Rate with cutoff, and gain: what opening and a change are asked for.
+fn wanted(rate: PcmRate, cutoff: Cutoff, gain: Gain) -> Verdict
+    ensures { λ r. ⌜ decision r ≡ decide (wanted-places rate cutoff gain) ⌝ }
 {
     if unsupported(rate, cutoff) {
         return Verdict::Refused(PcmError::Unsupported(rate, cutoff));
@@ -71,7 +71,7 @@ pub fn opening(settings: Settings) -> Verdict
     let rate = settings.rate;
     let cutoff = settings.cutoff;
     let gain = settings.gain;
-    let v = turned(rate, cutoff, gain);
+    let v = wanted(rate, cutoff, gain);
     if accepted(v) {
         let filter = reference::filter_of(settings);
         return label_taps::filter(filter);
@@ -143,8 +143,8 @@ pub fn change(conv: Converter, rate: PcmRate, cutoff: Cutoff, gain: Gain) -> Ver
     ensures { λ r. ⌜ decision r ≡ decide (change-places conv (changes.change rate cutoff gain)) ⌝ }
 {
     let as_held = held(conv);
-    let wanted = turned(rate, cutoff, gain);
-    first_of(as_held, wanted)
+    let asked = wanted(rate, cutoff, gain);
+    first_of(as_held, asked)
 }
 
 // `convert_frame`'s run.

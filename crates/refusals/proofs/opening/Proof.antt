@@ -1,7 +1,7 @@
 -- `opening` meets its contract.
 use mathlib.Core.Path.{sym, ap, _∙_}
 use borrow.Author.Needs.{needs}
-use Rattle.reference.specs.Refusals.{decide, turned-places, filter-places, opening-places}
+use Rattle.reference.specs.Refusals.{decide, wanted-places, filter-places, opening-places}
 use Rattle.reference.specs.declared.Filter.{Filter}
 use Rattle.reference.proofs.Refusals.{at-first, at-next, below-range, above-range, in-range}
 use Rattle.refusals.proofs.Steps.{stands, goes-on}
@@ -26,7 +26,7 @@ returns-3 c =
     c .filter .ensures
     ∙ ap (λ (f : Filter). decide (filter-places f)) (c .before .filter-of .ensures)
     ∙ sym (at-next _ _ (in-range _ _ (e .before .if1 .left) (e .if2 .left))
-    ∙ goes-on (turned-places (s .rate) (s .cutoff) (s .gain)) (v .turned .ensures) (t .before .accepted .ensures) _ (t .if3 .taken))
+    ∙ goes-on (wanted-places (s .rate) (s .cutoff) (s .gain)) (v .wanted .ensures) (t .before .accepted .ensures) _ (t .if3 .taken))
 
 returns-4 : tie.Need-returns-4
 unfolding opening-places
@@ -34,7 +34,7 @@ returns-4 c =
     let v = c .before .before in
     let e = v .before .before in
     let s = e .before .before .args .settings in
-    stands (turned-places (s .rate) (s .cutoff) (s .gain)) (v .turned .ensures) (c .before .accepted .ensures) _ (c .if3 .left)
+    stands (wanted-places (s .rate) (s .cutoff) (s .gain)) (v .wanted .ensures) (c .before .accepted .ensures) _ (c .if3 .left)
     ∙ sym (at-next _ _ (in-range _ _ (e .before .if1 .left) (e .if2 .left)))
 
 pub opening-spec : {M : Type 1} → statement M
