@@ -218,10 +218,9 @@ fn in_buffers(
     requires { ⌜ (length (now three) ≡ 28224) × (length (now samples) ≡ 9408) × (length (now text) ≡ 864) ⌝ }
 {
     let ch = conv.channels as usize;
-    let rate = conv.rate;
-    let size = reference::FRAME_BYTES * ch;
+    let size = conv.frame_length;
     let bytes = 3 * size;
-    let items = scarletbook_pcm::samples_per_frame(rate) * ch;
+    let items = conv.samples_per_frame * ch;
     let s = turns(
         conv,
         size,

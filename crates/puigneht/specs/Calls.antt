@@ -1,6 +1,6 @@
 -- What each call of the C interface promises: its answer, and what every lent list holds when it returns. A primed list is one at exit.
 use mathlib.Core.Path.{_≡_}
-use mathlib.Core.List.{List, [], _∷_}
+use mathlib.Core.List.{List}
 use mathlib.Core.Bool.{Bool, true, false, _&&_}
 use Prim.Native.Nat.{ℕ}
 use lib.Dec.{eqb}
@@ -70,7 +70,8 @@ GainCall db gain gain' decibels decibels' answer =
     ((gain' ≡ gain) × (decibels' ≡ decibels))
     (GainDone db gain gain' decibels' answer)
 
--- so for opening, and for a change: the numbers that the new converter stores are written if it was accepted
+-- so for opening, and for a change: the numbers that the new converter stores are written if it was accepted. `stored₀` is the list lent for them (C's
+-- `numbers`), `numbers` the one for a refusal's data
 pub record OpenDone (Promise : Opened → Type 0) (stored₀ stored' numbers' : List ℕ) (decibels' : List Float) (answer : ℕ) : Type 0 where
   pub made : Opened
   pub promise : Promise made

@@ -13,10 +13,9 @@ use Rattle.numbers.specs.Extremes.{lesser, greater, extreme0}
 use Rattle.numbers.specs.Lists.{tabulate, total, count}
 use Rattle.reference.specs.Frames.{Run, run, frame-length, frame-count, neighbour, sequence, channel-byte}
 use Rattle.reference.specs.Stages.{taps-of, y}
-use Rattle.reference.specs.Settings.{filter-of}
-use Rattle.reference.specs.Scaling.{scaled, clamp, clips, right-gain}
+use Rattle.reference.specs.Scaling.{scaled, clamp, clips}
 use Rattle.reference.specs.Output.{samples-per-frame, unclamped, sample, clipped, item, channel-samples, all-samples, samples, channel-clips, channel-extreme, channel-empty, stats, frame-clips, per-frame-clips, s24le}
-use Rattle.reference.specs.Refusals.{rack, accepted, decide, Datum, Place, if-present, one-long, run-length, filter-places, opening-places, input-places, unsupported}
+use Rattle.reference.specs.Refusals.{rack, accepted, decide, Datum, Place, if-present, one-long, run-length, input-places}
 use Rattle.reference.specs.declared.Converter.{Converter}
 use Rattle.reference.specs.declared.ConvertStats.{ConvertStats}
 use Rattle.reference.proofs.Refusals.{pass, some-channel, few-channels, supported, right, filtered, whole-frames, few-frames}

@@ -14,10 +14,9 @@ use Rattle.numbers.proofs.Extremes.{Best, least-best, greatest-best, picked-in}
 use Rattle.numbers.proofs.Lists.{getD-tabulate, count-few}
 use Rattle.reference.specs.Frames.{Run}
 use Rattle.reference.specs.Output.{samples-per-frame, unclamped, clipped, channel-samples, channel-clips, channel-extreme, stats}
-use Rattle.reference.specs.Refusals.{Datum, rack, accepted, refused, refusal-number, decide, opening-places, filter-places, unsupported, lent-length}
-use Rattle.reference.specs.Settings.{filter-of}
+use Rattle.reference.specs.Refusals.{Datum, rack, accepted, refused, refusal-number, decide, lent-length}
 use Rattle.reference.specs.Stages.{taps-of, y}
-use Rattle.reference.specs.Scaling.{right-gain, scaled}
+use Rattle.reference.specs.Scaling.{scaled}
 use Rattle.reference.specs.declared.Converter.{Converter}
 use Rattle.reference.proofs.Frames.{frame-samples}
 use Rattle.reference.proofs.Refusals.{supported, right, filtered, few-frames}
