@@ -218,9 +218,10 @@ fn in_buffers(
     requires { ⌜ (length (now three) ≡ 28224) × (length (now samples) ≡ 9408) × (length (now text) ≡ 864) ⌝ }
 {
     let ch = conv.channels as usize;
-    let size = conv.frame_length;
+    let rate = conv.rate;
+    let size = reference::FRAME_BYTES * ch;
     let bytes = 3 * size;
-    let items = conv.samples_per_frame * ch;
+    let items = scarletbook_pcm::samples_per_frame(rate) * ch;
     let s = turns(
         conv,
         size,

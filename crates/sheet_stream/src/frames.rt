@@ -126,9 +126,10 @@ fn in_buffers(conv: Converter, from: i32, to: i32, three: &mut [u8], samples: &m
 {
     let channels = conv.channels;
     let ch = channels as usize;
-    let size = conv.frame_length;
+    let rate = conv.rate;
+    let size = reference::FRAME_BYTES * ch;
     let bytes = 3 * size;
-    let items = conv.samples_per_frame * ch;
+    let items = scarletbook_pcm::samples_per_frame(rate) * ch;
     let s = turns(conv, size, from, &mut three[..bytes], &mut samples[..items]);
     if s.going && s.left < size {
         if s.left == 0 {
