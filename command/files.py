@@ -40,10 +40,10 @@ def stated(file):
 
 def laid_out(sounds, bits, samples, metadata=0):
     """A file of the channels' bytes, which are the same for both bit orders: the earliest bit highest, mirrored where the lowest is the
-    earliest."""
+    earliest. It ends where its metadata begin."""
     sounds = [s.translate(MIRROR) if bits == 1 else s for s in sounds]
     blocks = [s[g * BLOCK:(g + 1) * BLOCK].ljust(BLOCK, b"\0") for g in range(groups_of(samples)) for s in sounds]
-    return header(len(sounds), bits, samples, metadata) + b"".join(blocks) + bytes(metadata)
+    return header(len(sounds), bits, samples, metadata) + b"".join(blocks)
 
 
 def write(path, channels, bits, samples, fill, metadata=0):
@@ -52,6 +52,7 @@ def write(path, channels, bits, samples, fill, metadata=0):
     sounds = [source.randbytes(count) if fill == "random" else bytes([int(fill, 0)]) * count for _ in range(channels)]
     with open(path, "wb") as out:
         out.write(laid_out(sounds, bits, samples, metadata))
+        out.truncate(out.tell() + metadata)
 
 
 def long(path, frames, silent):

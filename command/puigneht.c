@@ -1,5 +1,6 @@
 /* The command: a DSF album in, a WAV file and its level sheet out. This file makes the system calls; what is decided (arguments,
- * refusals, the plan, every byte and every sentence about the album) is decided by the proved library of command.h.
+ * refusals with their numbers and sentences, the plan, every byte) is decided by the proved library of command.h. What is said of files and
+ * of the system is said here.
  *
  * The WAV file is made beside OUT, by as many processes as there are jobs. Each writes the bytes of its pieces at their places and
  * hands their statistics back through a pipe. The file takes its name when it is whole and on the disk. */
@@ -114,21 +115,29 @@ static void refuse(uint8_t number, const uint64_t *said, const char *path) {
 
 /* ---- signals */
 
-static const int ends[] = {SIGINT, SIGTERM, SIGHUP};
+static const int ends[] = {SIGINT, SIGTERM, SIGHUP, SIGQUIT, SIGXCPU};
 enum { ENDS = sizeof ends / sizeof *ends };
 
 static void interrupted(int number) {
+    sigset_t this;
     clean();
     signal(number, SIG_DFL);
     raise(number);
+    sigemptyset(&this);
+    sigaddset(&this, number);
+    sigprocmask(SIG_UNBLOCK, &this, NULL);
 }
 
-/* A signal that is ignored, as under nohup, stays so. A pipe without a reader, and a file that may not grow, are failed writes. */
+/* A signal that is ignored, as under nohup, stays so. A pipe without a reader, and a file that may not grow, are failed writes. While one
+ * signal is handled the others wait: files are removed to the end. */
 static void catch_signals(void) {
+    struct sigaction caught = {.sa_handler = interrupted};
+    sigemptyset(&caught.sa_mask);
+    for (int k = 0; k < ENDS; k++) sigaddset(&caught.sa_mask, ends[k]);
     signal(SIGPIPE, SIG_IGN);
     signal(SIGXFSZ, SIG_IGN);
     for (int k = 0; k < ENDS; k++)
-        if (signal(ends[k], SIG_IGN) != SIG_IGN) signal(ends[k], interrupted);
+        if (signal(ends[k], SIG_IGN) != SIG_IGN) sigaction(ends[k], &caught, NULL);
 }
 
 static void release_signals(void) {
@@ -251,7 +260,7 @@ static void open_album(const struct asked *a, struct album *album) {
     album->in = open(a->in, O_RDONLY | O_NONBLOCK);
     if (album->in < 0 || fstat(album->in, &album->is)) failed("open", a->in);
     off_t length = lseek(album->in, 0, SEEK_END);
-    if (length < 0 && errno == ESPIPE) stop(SYSTEM, "%s is a pipe, which has no length: %s", a->in, strerror(errno));
+    if (length < 0 && errno == ESPIPE) stop(REFUSED, "%s is a pipe, which has no length", a->in);
     if (length < 0) failed("tell the length of", a->in);
     album->length = (uint64_t)length;
     album->head_len = album->length < sizeof album->head ? (size_t)album->length : sizeof album->head;
@@ -293,13 +302,13 @@ static bool same_place(const char *one, const char *other) {
 static void check_place(const char *path, const struct asked *a, const struct album *album) {
     struct stat is;
     if (!stat(path, &is) && is.st_dev == album->is.st_dev && is.st_ino == album->is.st_ino)
-        stop(SYSTEM, "%s is the input, %s: the output must be another file", path, a->in);
+        stop(REFUSED, "%s is the input, %s: the output must be another file", path, a->in);
     if (lstat(path, &is)) {
         if (errno != ENOENT) failed("look at", path);
         return;
     }
-    if (!S_ISREG(is.st_mode)) stop(SYSTEM, "%s is there and is not a regular file", path);
-    if (!a->force) stop(SYSTEM, "%s is there already: -f replaces it", path);
+    if (!S_ISREG(is.st_mode)) stop(REFUSED, "%s is there and is not a regular file", path);
+    if (!a->force) stop(REFUSED, "%s is there already: -f replaces it", path);
 }
 
 static bool has_sheet_file(const struct asked *a) {
@@ -310,7 +319,7 @@ static void check_places(const struct asked *a, const struct album *album) {
     check_place(a->out, a, album);
     if (!has_sheet_file(a)) return;
     check_place(a->sheet, a, album);
-    if (same_place(a->sheet, a->out)) stop(SYSTEM, "%s is to be the sheet and the output: they must be two files", a->sheet);
+    if (same_place(a->sheet, a->out)) stop(REFUSED, "%s is to be the sheet and the output: they must be two files", a->sheet);
 }
 
 /* A new file beside `path`, with the mode that the mask gives to any new file. */
@@ -338,11 +347,12 @@ static void settle(struct made *m, const char *path) {
 }
 
 /* The name given. Where nothing may be replaced `link` does it, since it replaces nothing that came meanwhile; not every file system
- * has links. */
+ * has links. The file is there then, whether or not its first name can be taken from it. */
 static int give_name(const char *name, const char *path, bool force) {
-    if (!force && link(name, path) == 0) return unlink(name);
-    if (!force && errno == EEXIST) return -1;
-    return rename(name, path);
+    if (force) return rename(name, path);
+    if (link(name, path)) return errno == EPERM || errno == EOPNOTSUPP || errno == ENOSYS ? rename(name, path) : -1;
+    if (unlink(name)) fprintf(stderr, "puigneht: cannot remove %s: %s\n", name, strerror(errno));
+    return 0;
 }
 
 static void name_made(struct made *m, const char *path, bool force) {
@@ -358,7 +368,7 @@ static void settle_folder(const char *path) {
     folder_of(path, folder);
     int file = open(folder, O_RDONLY);
     if (file < 0) return;
-    if (fsync(file) && errno != EINVAL) failed("write the folder of", path);
+    if (fsync(file) && errno != EINVAL) stop(SYSTEM, "%s is made, but its folder cannot be written: %s", path, strerror(errno));
     close(file);
 }
 
@@ -370,8 +380,11 @@ static uint8_t frame_before[PUIGNEHT_MOST_FRAME], frame_after[PUIGNEHT_MOST_FRAM
 /* Reads, converts and writes piece number `number`. */
 static void convert_piece(const struct asked *a, const struct album *album, uint64_t number, struct message *m) {
     uint64_t channels = album->told[PUIGNEHT_ALBUM_CHANNELS], piece[PUIGNEHT_PIECE_ITEMS] = {0};
-    puigneht_command_piece(a->rate, channels, album->told[PUIGNEHT_ALBUM_SAMPLES], number, piece, PUIGNEHT_PIECE_ITEMS);
-    size_t length = piece[PUIGNEHT_PIECE_WINDOW], written = piece[PUIGNEHT_PIECE_BYTES], one = 4704 * channels;
+    uint8_t planned = puigneht_command_piece(a->rate, channels, album->told[PUIGNEHT_ALBUM_SAMPLES], number, piece, PUIGNEHT_PIECE_ITEMS);
+    size_t length = piece[PUIGNEHT_PIECE_WINDOW], written = piece[PUIGNEHT_PIECE_BYTES], one = PUIGNEHT_FRAME_BYTES * channels;
+    if (planned != PUIGNEHT_ACCEPTED || length > sizeof window || written > sizeof bytes || piece[PUIGNEHT_PIECE_FRAMES] > sizeof frames
+        || one > sizeof frame_before)
+        stop(SYSTEM, "there is no piece %llu of %s", (unsigned long long)number, a->in);
     read_at(album->in, a->in, window, length, PUIGNEHT_DSF_DATA + piece[PUIGNEHT_PIECE_START]);
     uint64_t data[2] = {0, 0};
     double decibels[1];
@@ -381,7 +394,7 @@ static void convert_piece(const struct asked *a, const struct album *album, uint
         window, length, piece[PUIGNEHT_PIECE_START], frame_before, one, frames, piece[PUIGNEHT_PIECE_FRAMES], frame_after, one, bytes,
         written, s->clipped, MOST_CHANNELS, s->lowest, MOST_CHANNELS, s->highest, MOST_CHANNELS, s->empty, MOST_CHANNELS, data, 2,
         decibels, 1);
-    if (answer != PUIGNEHT_ACCEPTED) refuse(answer, data, a->in);
+    if (answer != PUIGNEHT_ACCEPTED) stop(SYSTEM, "piece %llu of %s: refused %u", (unsigned long long)number, a->in, answer);
     write_at(wav.file, a->out, bytes, written, piece[PUIGNEHT_PIECE_PLACE]);
     m->frames = piece[PUIGNEHT_PIECE_COUNT];
 }
@@ -404,7 +417,8 @@ static int start(const struct asked *a, const struct album *album, uint64_t part
     if (pipe(ends_of_pipe)) failed("make", "a pipe");
     for (uint64_t part = 0; part < parts; part++) {
         uint64_t pieces[2] = {0, 0};
-        puigneht_command_part(album->told[PUIGNEHT_ALBUM_FRAMES], parts, part, pieces, 2);
+        if (puigneht_command_part(album->told[PUIGNEHT_ALBUM_FRAMES], parts, part, pieces, 2) != PUIGNEHT_ACCEPTED)
+            stop(SYSTEM, "there is no part %llu", (unsigned long long)part);
         if (pieces[0] == pieces[1]) continue;
         sigset_t before = hold_signals();
         pid_t job = fork();
@@ -444,9 +458,10 @@ static void show(uint64_t done, uint64_t all, double began) {
 }
 
 static void join(struct stats *s, const struct stats *more) {
-    puigneht_join_stats(s->clipped, MOST_CHANNELS, s->lowest, MOST_CHANNELS, s->highest, MOST_CHANNELS, s->empty, MOST_CHANNELS,
-                        more->clipped, MOST_CHANNELS, more->lowest, MOST_CHANNELS, more->highest, MOST_CHANNELS, more->empty,
-                        MOST_CHANNELS);
+    uint8_t answer = puigneht_join_stats(s->clipped, MOST_CHANNELS, s->lowest, MOST_CHANNELS, s->highest, MOST_CHANNELS, s->empty,
+                                         MOST_CHANNELS, more->clipped, MOST_CHANNELS, more->lowest, MOST_CHANNELS, more->highest,
+                                         MOST_CHANNELS, more->empty, MOST_CHANNELS);
+    if (answer != PUIGNEHT_ACCEPTED) stop(SYSTEM, "statistics that are none");
 }
 
 static struct stats no_stats(void) {
@@ -503,6 +518,7 @@ static struct stats convert(const struct asked *a, const struct album *album) {
     }
     close(from);
     gather();
+    if (done != album->told[PUIGNEHT_ALBUM_FRAMES]) stop(SYSTEM, "not every frame of %s was told to be written", a->in);
     for (uint64_t k = 0; k < parts; k++) join(&all, &of_part[k]);
     return all;
 }

@@ -99,7 +99,7 @@ def album(t, channels, bits, count, kinds, ways, metadata=0):
     source = random.Random(count * 8 + channels)
     sounds = [music(source, count, kinds[c]) for c in range(channels)]
     samples = 8 * count
-    file = files.laid_out(sounds, bits, samples, metadata)
+    file = files.laid_out(sounds, bits, samples, metadata) + bytes(metadata)
     frames = frames_of(samples)
     for k, (rate, cutoff, db) in enumerate(ways):
         items, stats = converted(t, sounds, rate, cutoff, db)
