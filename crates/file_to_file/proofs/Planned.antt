@@ -3,6 +3,7 @@ use mathlib.Core.Path.{_≡_, refl, sym, ap, ap₂, subst, _∙_}
 use mathlib.Core.Bool.{false, _&&_}
 use mathlib.Core.List.{List, [], _∷_, _++_, map, flatMap}
 use Prim.Native.Nat.{ℕ, _+_, _-_, _*_, _/_, _≤_, _<_}
+use native.Mathlib.Nat.{mul-le-mul-right}
 use native.Mathlib.Omega.{arith}
 use borrow.Author.Tests.{le-leb, lt-ltb, eq-eqb}
 use lib.ListN.{length}
@@ -15,12 +16,13 @@ use Rattle.numbers.specs.Lists.{Each, tabulate}
 use Rattle.numbers.specs.Extremes.{pick-unmarked}
 use Rattle.stretches.specs.Joining.{joined-on}
 use Rattle.stretches.proofs.Ends.{either-end}
-use Rattle.dsf.specs.Dsf.{Bytes, channels, frames, frames-in}
+use Rattle.dsf.specs.Dsf.{channels, frames, frames-in, blocks, data-bytes, needed}
 use Rattle.dsf.specs.Dsf as dsf
 use Rattle.dsf.specs.Reading.{header-places, file-header}
 use Rattle.dsf.specs.declared.DsfHeader.{DsfHeader}
+use Rattle.dsf.proofs.Accepted.{head-sound}
 use Rattle.dsf.proofs.Head.{header-right, whole-head}
-use Rattle.dsf_frames.specs.Reading.{lesser}
+use Rattle.dsf_frames.specs.Reading.{lesser, window-end}
 use Rattle.wav_format.specs.Wav.{frame-size}
 use Rattle.album.specs.Album.{pieces, later-places, album-places, album-of, FitArgs}
 use Rattle.album.specs.declared.Wanted.{Wanted}
@@ -36,8 +38,8 @@ use Rattle.album_gather.specs.declared.Lent.{Lent}
 use Rattle.album_gather.proofs.Fitting.{all-there}
 use Rattle.sheet.specs.Sheet.{sheet}
 use Rattle.file_to_file.specs.FileToFile.{Step, Cut, Holds, Written}
-use Rattle.file_to_file.specs.Planned.{piece-at, lent-for, PieceAccepted, OnPieces, PiecesCut, PieceCall, Calls, Parts, PartsAreAll, PlanWritten, JoinedByParts, PlanGives, PlanToFile, SheetToFile}
-use Rattle.file_to_file.proofs.FileToFile.{file-to-file}
+use Rattle.file_to_file.specs.Planned.{piece-at, lent-for, PieceAccepted, PieceInFile, OnPieces, PiecesCut, PieceCall, Calls, Parts, PartsAreAll, PlanWritten, JoinedByParts, PlanGives, PlanToFile, SheetToFile}
+use Rattle.file_to_file.proofs.FileToFile.{head-taken, later-taken, few, few-channels, same-channels, same-samples, same-frames, file-to-file}
 
 -- ---- statistics, part by part
 
@@ -72,29 +74,23 @@ pub joined-by-parts : JoinedByParts
 joined-by-parts ls = either-end (map (joined-on no-stats) ls) ∙ ap all-joined (each-part ls) ∙ by-parts ls
 
 -- ---- a step on a piece
+
+blocks-grow : (channels a b : ℕ) → blocks (lesser a b) * 4096 * channels ≤ blocks a * 4096 * channels
+unfolding blocks
+blocks-grow channels a b = let l : (lesser a b + 4095) / 4096 * 4096 ≤ (a + 4095) / 4096 * 4096 = omega arith in mul-le-mul-right channels l
+
+-- a piece that there is begins within the album
+begins-in : (f i : ℕ) → i < pieces f → i * 128 < f
+unfolding pieces
+begins-in f i h = omega arith
+
 module _ (head : List ℕ) (n : ℕ) (w : Wanted) (taken : decide (album-places head n w) ≡ accepted) where
   abbrev a : Album
   a = album-of (w .rate) (channels head) (dsf.samples head)
 
-  fit : FitArgs a
-  fit = album-fits head n w taken
-
-  few-channels : channels head ≤ 6
-  unfolding album-of
-  few-channels = fit .few
-
-  few : frames head ≤ 540000
-  unfolding album-of frames
-  few = fit .most
-
-  -- a piece that there is begins within the album
-  begins-in : (i : ℕ) → i < pieces (frames head) → i * 128 < frames head
-  unfolding pieces
-  begins-in i h = omega arith
-
   pub piece-is : (i : ℕ) → i < pieces (frames head) → piece-at head w i ≡ some-piece (w .rate) (channels head) (dsf.samples head) (i * 128)
   unfolding piece frames
-  piece-is i h = rw (le-leb (channels head) 6 few-channels, le-leb (frames-in (dsf.samples head)) 540000 few, lt-ltb i (pieces (frames-in (dsf.samples head))) h) refl
+  piece-is i h = rw (le-leb (channels head) 6 (few-channels head n w taken), le-leb (frames-in (dsf.samples head)) 540000 (few head n w taken), lt-ltb i (pieces (frames-in (dsf.samples head))) h) refl
 
   module _ (first : ℕ) (within : first < frames head) where
     abbrev count : ℕ
@@ -112,7 +108,7 @@ module _ (head : List ℕ) (n : ℕ) (w : Wanted) (taken : decide (album-places 
 
     in-order : start ≤ end
     unfolding frames
-    in-order = long-enough (channels head) (dsf.samples head) (frames head) first count (record { few = few-channels; is = refl; most = few; within = fits })
+    in-order = long-enough (channels head) (dsf.samples head) (frames head) first count (record { few = few-channels head n w taken; is = refl; most = few head n w taken; within = fits })
 
     held : decide (held-places a first count start (end - start)) ≡ accepted
     unfolding album-of frames
@@ -133,9 +129,22 @@ module _ (head : List ℕ) (n : ℕ) (w : Wanted) (taken : decide (album-places 
     unfolding step-places piece-places
     step-taken = decide-skip (album-places head n w) _ taken ∙ decide-skip (held-places a first count start (end - start)) _ held ∙ lent
 
+    -- the window ends with the data, or before
+    pub in-data : 92 + (start + (end - start)) ≤ n
+    unfolding stretch-end window-end blocks needed data-bytes
+    in-data =
+        let s = head-sound head n (head-taken head n w taken) in
+        let last = lesser (first + count) (frames-in (dsf.samples head) - 1) in
+        let e : start + (end - start) ≡ end = omega (arith, in-order) in
+        rw e (omega (arith, s .sized, s .ends, blocks-grow (channels head) (dsf.samples head / 8) (last * 4704 + 4704)))
+
+pub piece-in-file : PieceInFile
+unfolding some-piece frames
+piece-in-file head n w taken i h = rw (piece-is head n w taken i h) (in-data head n w taken (i * 128) (begins-in (frames head) i h))
+
 pub piece-accepted : PieceAccepted
 unfolding some-piece frames
-piece-accepted head n w taken i h = rw (piece-is head n w taken i h) (step-taken head n w taken (i * 128) (begins-in head n w taken i h))
+piece-accepted head n w taken i h = rw (piece-is head n w taken i h) (step-taken head n w taken (i * 128) (begins-in (frames head) i h))
 
 -- ---- the pieces in order
 next-at : (a f : ℕ) → a < f → lesser (a + 128) f ≡ a + lesser 128 (f - a)
@@ -165,7 +174,7 @@ module _ (file : List ℕ) (w : Wanted) (taken : decide (album-places file (leng
   unfolding piece-count
   at-next-piece k h =
       let e : (k + 1) * 128 ≡ k * 128 + 128 = omega arith in
-      rw (← at-piece k h, e) (next-at (k * 128) f (begins-in file (length file) w taken k h))
+      rw (← at-piece k h, e) (next-at (k * 128) f (begins-in f k h))
 
   first-is : (k : ℕ) → k < pieces f → piece-at file w k .first ≡ k * 128
   unfolding some-piece
@@ -222,33 +231,16 @@ parts-are-all file w jobs ps few some most e =
 -- ---- a call on a piece is a step
 module _ (file : List ℕ) (w : Wanted) (taken : decide (album-places file (length file) w) ≡ accepted) where
   module _ (c : PieceCall file w) where
-    same-header : file-header (c .head) ≡ file-header file
-    same-header = header-right file (c .head) (c .n) (c .of-head) .1
-
-    same-channels : channels (c .head) ≡ channels file
-    unfolding file-header
-    same-channels = ap (λ (h : DsfHeader). h .channels) same-header
-
-    same-samples : dsf.samples (c .head) ≡ dsf.samples file
-    unfolding file-header
-    same-samples = ap (λ (h : DsfHeader). h .samples) same-header
-
-    same-frames : frames (c .head) ≡ frames file
-    unfolding file-header
-    same-frames = ap (λ (h : DsfHeader). h .frames) same-header
-
     opens : decide (album-places (c .head) (c .n) w) ≡ accepted
     unfolding album-places
     opens =
-        let first = decide-first (header-places file (length file)) _ taken in
-        let head = header-right file (c .head) (c .n) (c .of-head) .0 ∙ sym (whole-head file) ∙ first in
-        decide-skip (header-places (c .head) (c .n)) _ head ∙ rw (same-channels, same-frames) (sym (decide-skip (header-places file (length file)) _ first) ∙ taken)
-
-    same-piece : piece-at (c .head) w (c .i) ≡ piece-at file w (c .i)
-    same-piece = rw (same-channels, same-samples) refl
+        let head = header-right file (c .head) (c .n) (c .of-head) .0 ∙ sym (whole-head file) ∙ head-taken file (length file) w taken in
+        decide-skip (header-places (c .head) (c .n)) _ head ∙ rw (same-channels file (c .head) (c .n) (c .of-head), same-frames file (c .head) (c .n) (c .of-head)) (later-taken file (length file) w taken)
 
     passes : decide (step-places (c .head) (c .n) w (piece-at file w (c .i) .first) (piece-at file w (c .i) .count) (piece-at file w (c .i) .start) (length (c .window)) (lent-lists (c .before) (c .frames) (c .after) (c .out))) ≡ accepted
-    passes = rw (c .long, c .lent) (rw (same-channels, same-samples) at (piece-accepted (c .head) (c .n) w opens (c .i) (rw same-frames (c .there))))
+    passes =
+        let there : c .i < pieces (frames (c .head)) = rw (same-frames file (c .head) (c .n) (c .of-head)) (c .there) in
+        rw (c .long, c .lent) (rw (same-channels file (c .head) (c .n) (c .of-head), same-samples file (c .head) (c .n) (c .of-head)) at (piece-accepted (c .head) (c .n) w opens (c .i) there))
 
     pub call-taken : decision (c .answer .verdict) ≡ accepted
     call-taken = c .promise .answered .decided ∙ passes

@@ -41,6 +41,11 @@ abbrev pub PieceAccepted : Type 0
 PieceAccepted = (head : List ℕ) (n : ℕ) (w : Wanted) → decide (album-places head n w) ≡ accepted → (i : ℕ) → i < pieces (frames head)
     → decide (step-places head n w (piece-at head w i .first) (piece-at head w i .count) (piece-at head w i .start) (piece-at head w i .window) (lent-for head (piece-at head w i))) ≡ accepted
 
+-- and its window is in the file, whose data start at byte 92. Proved in proofs/Planned, `piece-in-file`
+abbrev pub PieceInFile : Type 0
+PieceInFile = (head : List ℕ) (n : ℕ) (w : Wanted) → decide (album-places head n w) ≡ accepted → (i : ℕ) → i < pieces (frames head)
+    → 92 + (piece-at head w i .start + piece-at head w i .window) ≤ n
+
 -- ---- the pieces in order
 
 -- steps on the frames of pieces a, …, b - 1
