@@ -9,11 +9,11 @@ use lib.Seq.{drop-drop}
 use Rattle.numbers.specs.Lists.{Each}
 use native.Mathlib.Nat.{zero-add, sub-zero}
 use Rattle.numbers.proofs.Lists.{length-tabulate}
-use Rattle.reference.specs.Frames.{Run, frame-length, frame, frame-count, before-frame, after-frame, sequence, channel-byte}
+use Rattle.reference.specs.Frames.{Run, frame-length, frame, frame-count, sequence, channel-byte}
 use Rattle.reference.specs.Settings.{converter-of}
 use Rattle.reference.specs.Output.{samples, stats, s24le}
 use Rattle.reference.specs.Promises.{if-lent}
-use Rattle.reference.specs.Refusals.{rack, accepted, decide, decision, is-accepted, opening-places, held-places, lent-length, input-places, convert-places}
+use Rattle.reference.specs.Refusals.{rack, accepted, decide, is-accepted, opening-places, held-places, lent-length, input-places, convert-places}
 use Rattle.reference.specs.Statistics.{all-joined}
 use Rattle.reference.specs.declared.Converter.{Converter}
 use Rattle.reference.specs.declared.ConvertStats.{ConvertStats}
@@ -23,13 +23,13 @@ use Rattle.reference.proofs.Opening.{held-as-opened}
 use Rattle.joins.specs.Joins.{Call, convert, run-of, answer-of, samples-of, read-s24le, right-lengths, is-answered-accepted, keep, pieces, SameBytes, Agree, AllAgree, JoinTo, GiveWholeRun}
 use Rattle.joins.proofs.Bytes.{samples-back, bytes-join, no-bytes}
 use Rattle.joins.proofs.Joins.{cut-runs-join}
-use Rattle.dsf.specs.Dsf.{Bytes, channels, frames, frames-in, file-frame, data-frame}
+use Rattle.dsf.specs.Dsf.{Bytes, channels, frames, file-frame, data-frame}
 use Rattle.dsf.specs.Dsf as dsf
 use Rattle.dsf.specs.Reading.{HeadOf, header-places, file-header}
 use Rattle.dsf.specs.declared.DsfHeader.{DsfHeader}
 use Rattle.dsf.proofs.Accepted.{head-channels}
-use Rattle.dsf.proofs.Head.{header-right, whole-head}
-use Rattle.dsf_frames.specs.Reading.{window-places, window-frame, asked-places}
+use Rattle.dsf.proofs.Head.{header-right}
+use Rattle.dsf_frames.specs.Reading.{window-places, window-frame}
 use Rattle.dsf_frames.proofs.Asked.{window-right}
 use Rattle.interface.specs.Codes.{hertz}
 use Rattle.wav_format.specs.Wav.{header, wav-file, frame-size}
@@ -44,7 +44,7 @@ use Rattle.album_gather.specs.declared.Lent.{Lent}
 use borrow.Author.Tests.{eqb-true, not-false, le-ltb}
 use Rattle.album.proofs.Openings.{few-frames}
 use Rattle.album_gather.proofs.Fitting.{Held, is-held, asked-of}
-use Rattle.album_gather.proofs.Sequences.{none-from, from-join, from-length, before-is, after-is, run-same}
+use Rattle.album_gather.proofs.Sequences.{none-from, from-join, before-is, after-is, run-same}
 use Rattle.album_gather.proofs.StepCalls.{frames-are, fits-run, samples-are, accepted-call}
 
 -- ---- an album that is accepted

@@ -1,6 +1,6 @@
 -- The plan, from file to file.
 use mathlib.Core.Path.{_≡_, refl, sym, ap, ap₂, subst, _∙_}
-use mathlib.Core.Bool.{false, _&&_}
+use mathlib.Core.Bool.{false}
 use mathlib.Core.List.{List, [], _∷_, _++_, map, flatMap}
 use Prim.Native.Nat.{ℕ, _+_, _-_, _*_, _/_, _≤_, _<_}
 use native.Mathlib.Nat.{mul-le-mul-right}
@@ -11,25 +11,22 @@ use Rattle.reference.specs.Frames.{frame-length}
 use Rattle.reference.specs.Refusals.{decide, decision, accepted, lent-length}
 use Rattle.reference.specs.Statistics.{no-stats, add-clips, of-both, joined-stats, all-joined}
 use Rattle.reference.specs.declared.ConvertStats.{ConvertStats}
-use Rattle.reference.proofs.Refusals.{decide-first, decide-skip, at-next, at-end}
+use Rattle.reference.proofs.Refusals.{decide-skip, at-next, at-end}
 use Rattle.numbers.specs.Lists.{Each, tabulate}
 use Rattle.numbers.specs.Extremes.{pick-unmarked}
 use Rattle.stretches.specs.Joining.{joined-on}
 use Rattle.stretches.proofs.Ends.{either-end}
 use Rattle.dsf.specs.Dsf.{channels, frames, frames-in, blocks, data-bytes, needed}
 use Rattle.dsf.specs.Dsf as dsf
-use Rattle.dsf.specs.Reading.{header-places, file-header}
-use Rattle.dsf.specs.declared.DsfHeader.{DsfHeader}
+use Rattle.dsf.specs.Reading.{header-places}
 use Rattle.dsf.proofs.Accepted.{head-sound}
 use Rattle.dsf.proofs.Head.{header-right, whole-head}
 use Rattle.dsf_frames.specs.Reading.{lesser, window-end}
 use Rattle.wav_format.specs.Wav.{frame-size}
-use Rattle.album.specs.Album.{pieces, later-places, album-places, album-of, FitArgs}
+use Rattle.album.specs.Album.{pieces, album-places, album-of}
 use Rattle.album.specs.declared.Wanted.{Wanted}
 use Rattle.album.specs.declared.Album.{Album}
-use Rattle.album.proofs.Openings.{album-fits}
 use Rattle.album_plan.specs.Plan.{piece-count, stretch-start, stretch-end, place-of, some-piece, piece, part, part-first}
-use Rattle.album_plan.specs.declared.Part.{Part}
 use Rattle.album_plan.specs.declared.Piece.{Piece}
 use Rattle.album_plan.proofs.Cutting.{plan-cuts}
 use Rattle.album_plan.proofs.Stretches.{long-enough, lesser-right}
@@ -38,7 +35,7 @@ use Rattle.album_gather.specs.declared.Lent.{Lent}
 use Rattle.album_gather.proofs.Fitting.{all-there}
 use Rattle.sheet.specs.Sheet.{sheet}
 use Rattle.file_to_file.specs.FileToFile.{Step, Cut, Holds, Written}
-use Rattle.file_to_file.specs.Planned.{piece-at, lent-for, PieceAccepted, PieceInFile, OnPieces, PiecesCut, PieceCall, Calls, Parts, PartsAreAll, PlanWritten, JoinedByParts, PlanGives, PlanToFile, SheetToFile}
+use Rattle.file_to_file.specs.Planned.{piece-at, PieceAccepted, PieceInFile, OnPieces, PiecesCut, PieceCall, Calls, Parts, PartsAreAll, PlanWritten, JoinedByParts, PlanToFile, SheetToFile}
 use Rattle.file_to_file.proofs.FileToFile.{head-taken, later-taken, few, few-channels, same-channels, same-samples, same-frames, file-to-file}
 
 -- ---- statistics, part by part
