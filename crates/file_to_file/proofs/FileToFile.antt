@@ -9,11 +9,11 @@ use lib.Seq.{drop-drop}
 use Rattle.numbers.specs.Lists.{Each}
 use native.Mathlib.Nat.{zero-add, sub-zero}
 use Rattle.numbers.proofs.Lists.{length-tabulate}
-use Rattle.reference.specs.Frames.{Run, frame-length, frame, frame-count, before-frame, after-frame, sequence, channel-byte}
+use Rattle.reference.specs.Frames.{Run, frame-length, frame, frame-count, sequence, channel-byte}
 use Rattle.reference.specs.Settings.{converter-of}
 use Rattle.reference.specs.Output.{samples, stats, s24le}
 use Rattle.reference.specs.Promises.{if-lent}
-use Rattle.reference.specs.Refusals.{rack, accepted, decide, decision, is-accepted, opening-places, held-places, lent-length, input-places, convert-places}
+use Rattle.reference.specs.Refusals.{rack, accepted, decide, is-accepted, opening-places, held-places, lent-length, input-places, convert-places}
 use Rattle.reference.specs.Statistics.{all-joined}
 use Rattle.reference.specs.declared.Converter.{Converter}
 use Rattle.reference.specs.declared.ConvertStats.{ConvertStats}
@@ -23,13 +23,13 @@ use Rattle.reference.proofs.Opening.{held-as-opened}
 use Rattle.joins.specs.Joins.{Call, convert, run-of, answer-of, samples-of, read-s24le, right-lengths, is-answered-accepted, keep, pieces, SameBytes, Agree, AllAgree, JoinTo, GiveWholeRun}
 use Rattle.joins.proofs.Bytes.{samples-back, bytes-join, no-bytes}
 use Rattle.joins.proofs.Joins.{cut-runs-join}
-use Rattle.dsf.specs.Dsf.{Bytes, channels, frames, frames-in, file-frame, data-frame}
+use Rattle.dsf.specs.Dsf.{Bytes, channels, frames, file-frame, data-frame}
 use Rattle.dsf.specs.Dsf as dsf
-use Rattle.dsf.specs.Reading.{header-places, file-header}
+use Rattle.dsf.specs.Reading.{HeadOf, header-places, file-header}
 use Rattle.dsf.specs.declared.DsfHeader.{DsfHeader}
 use Rattle.dsf.proofs.Accepted.{head-channels}
-use Rattle.dsf.proofs.Head.{header-right, whole-head}
-use Rattle.dsf_frames.specs.Reading.{window-places, window-frame, asked-places}
+use Rattle.dsf.proofs.Head.{header-right}
+use Rattle.dsf_frames.specs.Reading.{window-places, window-frame}
 use Rattle.dsf_frames.proofs.Asked.{window-right}
 use Rattle.interface.specs.Codes.{hertz}
 use Rattle.wav_format.specs.Wav.{header, wav-file, frame-size}
@@ -44,24 +44,27 @@ use Rattle.album_gather.specs.declared.Lent.{Lent}
 use borrow.Author.Tests.{eqb-true, not-false, le-ltb}
 use Rattle.album.proofs.Openings.{few-frames}
 use Rattle.album_gather.proofs.Fitting.{Held, is-held, asked-of}
-use Rattle.album_gather.proofs.Sequences.{none-from, from-join, from-length, before-is, after-is, run-same}
+use Rattle.album_gather.proofs.Sequences.{none-from, from-join, before-is, after-is, run-same}
 use Rattle.album_gather.proofs.StepCalls.{frames-are, fits-run, samples-are, accepted-call}
 
 -- ---- an album that is accepted
-module _ (file : List ℕ) (w : Wanted) (taken : decide (album-places file (length file) w) ≡ accepted) where
-  head-taken : decide (header-places file (length file)) ≡ accepted
+module _ (file : List ℕ) (size : ℕ) (w : Wanted) (taken : decide (album-places file size w) ≡ accepted) where
+  pub head-taken : decide (header-places file size) ≡ accepted
   unfolding album-places
-  head-taken = decide-first (header-places file (length file)) _ taken
+  head-taken = decide-first (header-places file size) _ taken
 
-  later-taken : decide (later-places w (channels file) (frames file)) ≡ accepted
+  pub later-taken : decide (later-places w (channels file) (frames file)) ≡ accepted
   unfolding album-places
-  later-taken = sym (decide-skip (header-places file (length file)) _ head-taken) ∙ taken
+  later-taken = sym (decide-skip (header-places file size) _ head-taken) ∙ taken
 
   pub few : frames file ≤ 540000
   few = few-frames w (channels file) (frames file) later-taken
 
   pub some : 0 < channels file
-  some = head-channels file (length file) head-taken .0
+  some = head-channels file size head-taken .0
+
+  pub few-channels : channels file ≤ 6
+  few-channels = head-channels file size head-taken .1
 
   pub opens : decide (held-places (album-converter w file)) ≡ accepted
   unfolding later-places
@@ -71,6 +74,23 @@ pub file-frame-length : (file : List ℕ) (k : ℕ) → length (file-frame file 
 unfolding data-frame
 file-frame-length file k = length-tabulate _ _ _
 
+-- ---- the first bytes of a file tell its numbers
+module _ (file head : List ℕ) (n : ℕ) (h : HeadOf file head n) where
+  same-header : file-header head ≡ file-header file
+  same-header = header-right file head n h .1
+
+  pub same-channels : channels head ≡ channels file
+  unfolding file-header
+  same-channels = ap (λ (d : DsfHeader). d .channels) same-header
+
+  pub same-samples : dsf.samples head ≡ dsf.samples file
+  unfolding file-header
+  same-samples = ap (λ (d : DsfHeader). d .samples) same-header
+
+  pub same-frames : frames head ≡ frames file
+  unfolding file-header
+  same-frames = ap (λ (d : DsfHeader). d .frames) same-header
+
 -- ---- a step that was taken
 pub record Good {file : List ℕ} {w : Wanted} (s : Step file w) : Type 0 where
   pub within : s .first + s .count ≤ frames file
@@ -79,21 +99,6 @@ pub record Good {file : List ℕ} {w : Wanted} (s : Step file w) : Type 0 where
   pub room : length (s .out) ≡ s .count * frame-size (w .rate) (channels file)
 
 module _ (file : List ℕ) (b : Bytes file) (w : Wanted) (s : Step file w) where
-  same-header : file-header (s .head) ≡ file-header file
-  same-header = header-right file (s .head) (s .n) (s .of-head) .1
-
-  same-channels : channels (s .head) ≡ channels file
-  unfolding file-header
-  same-channels = ap (λ (h : DsfHeader). h .channels) same-header
-
-  same-samples : dsf.samples (s .head) ≡ dsf.samples file
-  unfolding file-header
-  same-samples = ap (λ (h : DsfHeader). h .samples) same-header
-
-  same-frames : frames (s .head) ≡ frames file
-  unfolding file-header
-  same-frames = ap (λ (h : DsfHeader). h .frames) same-header
-
   abbrev numbers : Album
   numbers = album-of (w .rate) (channels (s .head)) (dsf.samples (s .head))
 
@@ -130,7 +135,7 @@ module _ (file : List ℕ) (b : Bytes file) (w : Wanted) (s : Step file w) where
   unfolding lent-places lent-length album-of
   out-long =
       let last = pass _ _ (pass _ _ (pass _ _ (pass _ _ lent .1) .1) .1) .0 in
-      eqb-true (length (s .out)) (s .count * frame-size (w .rate) (channels (s .head))) (not-false _ last) ∙ rw same-channels refl
+      eqb-true (length (s .out)) (s .count * frame-size (w .rate) (channels (s .head))) (not-false _ last) ∙ rw (same-channels file (s .head) (s .n) (s .of-head)) refl
 
   -- the album's frames, as the window's numbers have them
   count-is : numbers .frames ≡ frames (s .head)
@@ -152,14 +157,14 @@ module _ (file : List ℕ) (b : Bytes file) (w : Wanted) (s : Step file w) where
       (λ h. is-file-frame (s .first - 1) (omega arith) (omega arith) (omega (arith, fits)))
       (λ k h. is-file-frame (s .first + k) (omega arith) (omega arith) (omega (arith, fits)))
       (λ h. is-file-frame (s .first + s .count) (omega arith) (omega arith) h)
-      ∙ ap (λ (f : ℕ). run-from (file-frame file) f (s .first) (s .count)) same-frames
+      ∙ ap (λ (f : ℕ). run-from (file-frame file) f (s .first) (s .count)) (same-frames file (s .head) (s .n) (s .of-head))
 
   converter-is : album-converter w (s .head) ≡ album-converter w file
-  converter-is = ap (λ (n : ℕ). converter-of (settings-for w n)) same-channels
+  converter-is = ap (λ (n : ℕ). converter-of (settings-for w n)) (same-channels file (s .head) (s .n) (s .of-head))
 
   pub good : Good s
   good = record {
-    within = subst (λ (f : ℕ). s .first + s .count ≤ f) same-frames fits;
+    within = subst (λ (f : ℕ). s .first + s .count ≤ f) (same-frames file (s .head) (s .n) (s .of-head)) fits;
     bytes = s .promise .written ∙ exit-accepted _ _ _ all-taken ∙ ap₂ (λ (c : Converter) (r : Run). s24le (samples c r)) converter-is run-is;
     told = s .promise .answered .counted ∙ exit-accepted _ _ _ all-taken ∙ ap₂ (λ (c : Converter) (r : Run). stats c r) converter-is run-is;
     room = out-long;
@@ -172,7 +177,7 @@ module _ (file : List ℕ) (b : Bytes file) (w : Wanted) (s : Step file w) where
 
     ok : decide (convert-places rack conv (file-run file (s .first) (s .count)) (s .out) false []) ≡ accepted
     unfolding converter-of
-    ok = accepted-call conv (some file w taken) (file-frame file) (file-frame-length file) (frames file) (s .first) (s .count) (omega (arith, few file w taken, good .within)) (s .out) (good .room) (opens file w taken)
+    ok = accepted-call conv (some file (length file) w taken) (file-frame file) (file-frame-length file) (frames file) (s .first) (s .count) (omega (arith, few file (length file) w taken, good .within)) (s .out) (good .room) (opens file (length file) w taken)
 
     pub call : Call conv
     unfolding if-lent
@@ -219,7 +224,7 @@ module _ (file : List ℕ) (b : Bytes file) (w : Wanted) (taken : decide (album-
 
   right : (s : Step file w) → right-lengths (step-call s) ≡ true
   unfolding right-lengths call convert-places is-accepted
-  right s = ap is-accepted (sym (decide-skip (held-places conv') _ (opens file w taken)) ∙ ok file b w s taken)
+  right s = ap is-accepted (sym (decide-skip (held-places conv') _ (opens file (length file) w taken)) ∙ ok file b w s taken)
 
   answered : (s : Step file w) → is-answered-accepted (step-call s) ≡ true
   unfolding is-answered-accepted call is-accepted
@@ -252,7 +257,7 @@ module _ (file : List ℕ) (b : Bytes file) (w : Wanted) (taken : decide (album-
 
   count-of : (s : Step file w) → frame-count n (run-of (step-call s) .frames) ≡ s .count
   unfolding call converter-of
-  count-of s = frames-are conv' (some file w taken) F (file-frame-length file) f (s .first) (s .count) (omega (arith, few file w taken, good file b w s .within))
+  count-of s = frames-are conv' (some file (length file) w taken) F (file-frame-length file) f (s .first) (s .count) (omega (arith, few file (length file) w taken, good file b w s .within))
 
   all-agree : (from : ℕ) (ss : List (Step file w)) → Cut from f ss → AllAgree conv' (sequence n (album-run file)) from (map run-of (map step-call ss))
   unfolding converter-of
@@ -265,7 +270,7 @@ module _ (file : List ℕ) (b : Bytes file) (w : Wanted) (taken : decide (album-
 
   fits-album : decide (input-places rack conv' (album-run file)) ≡ accepted
   unfolding converter-of
-  fits-album = rw (← whole-run) (fits-run conv' (some file w taken) F (file-frame-length file) f 0 f (few file w taken))
+  fits-album = rw (← whole-run) (fits-run conv' (some file (length file) w taken) F (file-frame-length file) f 0 f (few file (length file) w taken))
 
   joins : (ss : List (Step file w)) → Cut 0 f ss → JoinTo (album-run file) (map step-call ss)
   unfolding pieces album-run converter-of
@@ -275,7 +280,7 @@ module _ (file : List ℕ) (b : Bytes file) (w : Wanted) (taken : decide (album-
   }
 
   whole : (ss : List (Step file w)) → Cut 0 f ss → GiveWholeRun (album-run file) (map step-call ss)
-  whole ss e = cut-runs-join conv' (album-run file) (map step-call ss) (record { opens = opens file w taken }) (record { fits = fits-album }) (joins ss e)
+  whole ss e = cut-runs-join conv' (album-run file) (map step-call ss) (record { opens = opens file (length file) w taken }) (record { fits = fits-album }) (joins ss e)
 
   -- ---- bytes
   samples-of-step : (s : Step file w) → s24le (samples-of (step-call s)) ≡ s .out'
@@ -300,7 +305,7 @@ module _ (file : List ℕ) (b : Bytes file) (w : Wanted) (taken : decide (album-
   unfolding s24le samples converter-of
   bytes-long s =
       ap length (good file b w s .bytes) ∙ length-tabulate _ _ _ ∙ ap (λ (k : ℕ). 3 * k) (length-tabulate _ _ _)
-      ∙ samples-are conv' (some file w taken) F (file-frame-length file) f (s .first) (s .count) (omega (arith, few file w taken, good file b w s .within))
+      ∙ samples-are conv' (some file (length file) w taken) F (file-frame-length file) f (s .first) (s .count) (omega (arith, few file (length file) w taken, good file b w s .within))
 
   data-is : (out : List ℕ) → length out ≡ 44 + f * size → (from : ℕ) (ss : List (Step file w)) → Cut from f ss → Each (λ s. Holds out (place-of (w .rate) n (s .first)) (s .out')) ss
       → drop (44 + from * size) out ≡ flatMap (λ (s : Step file w). s .out') ss
