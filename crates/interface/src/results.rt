@@ -6,7 +6,6 @@ ghost use Rattle.reference.specs.Refusals.{error-decision, decision, gain-decis
 ghost use Rattle.reference.specs.Promises.{by-decision};
 ghost use Rattle.reference.specs.Scaling.{whole};
 ghost use Rattle.interface.specs.Codes.{report};
-ghost use Rattle.interface.specs.Settings.{stored};
 ghost use Rattle.interface.specs.Told as told;
 ghost use Rattle.interface.specs.Told.{stat-lists, told-stats, Told, ToldWhole, gain-floats};
 use crate::codes::both;
@@ -14,9 +13,7 @@ use crate::codes::cutoff_number;
 use crate::codes::hertz;
 use reference::ConvertStats;
 use reference::Converted;
-use reference::Converter;
 use reference::FromDb;
-use reference::Opened;
 use reference::PcmError;
 use reference::Verdict;
 
@@ -104,34 +101,6 @@ pub fn put_two(list: &mut [u64], first: u64, second: u64)
 {
     list[0] = first;
     list[1] = second;
-}
-
-// The numbers that a converter stores, in a list of three.
-pub fn put_stored(conv: Converter, list: &mut [u64])
-    requires { ⌜ length (now list) ≡ 3 ⌝ }
-    ensures { λ _. ⌜ now (list .exit) ≡ stored conv ⌝ }
-{
-    list[0] = conv.samples_per_frame as u64;
-    list[1] = conv.reach as u64;
-    list[2] = conv.frame_length as u64;
-}
-
-// An opening's decision, or a change's, is told, and the numbers of its converter are written if it was accepted.
-pub fn tell_opening(made: Opened, numbers: &mut [u64], data: &mut [u64], decibels: &mut [f64]) -> u8
-    requires { ⌜ length (now numbers) ≡ 3 ⌝ }
-    requires { ⌜ (length (now «data») ≡ 2) × (length (now decibels) ≡ 1) ⌝ }
-    ensures { λ r. ⌜ ToldWhole (decision (made .verdict)) r (now («data» .exit)) (now (decibels .exit)) ⌝ }
-    ensures { λ _. ⌜ now (numbers .exit) ≡ by-decision (decision (made .verdict)) (stored (made .converter)) (now (numbers .entry)) ⌝ }
-{
-    let verdict = made.verdict;
-    match verdict {
-        Verdict::Accepted => {
-            let conv = made.converter;
-            put_stored(conv, numbers);
-            tell(verdict, data, decibels)
-        }
-        Verdict::Refused(_) => tell(verdict, data, decibels),
-    }
 }
 
 // Statistics in their lists, a mark as 1.

@@ -1,8 +1,8 @@
 -- `put_stored` meets its contract.
 use Rattle.interface.proofs.Lists.{three-set}
 use borrow.Author.Needs.{needs}
-use Rattle.interface.proofs.results.put_stored.Statement.{statement}
-use Rattle.interface.proofs.results.put_stored.Tie as tie
+use Rattle.interface.proofs.opening.put_stored.Statement.{statement}
+use Rattle.interface.proofs.opening.put_stored.Tie as tie
 
 returns : tie.Need-returns
 returns c =

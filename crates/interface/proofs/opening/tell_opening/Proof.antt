@@ -4,8 +4,8 @@ use Rattle.reference.specs.Promises.{by-decision}
 use Rattle.reference.proofs.Refusals.{error-refuses}
 use Rattle.reference.proofs.Promises.{exit-refused}
 use borrow.Author.Needs.{needs}
-use Rattle.interface.proofs.results.tell_opening.Statement.{statement}
-use Rattle.interface.proofs.results.tell_opening.Tie as tie
+use Rattle.interface.proofs.opening.tell_opening.Statement.{statement}
+use Rattle.interface.proofs.opening.tell_opening.Tie as tie
 
 enum-told : tie.Need-enum-told
 enum-told c = search needs
