@@ -1,4 +1,5 @@
 // A DSF album as a WAV file: whether it can be one, and its numbers. The definitions are in specs/.
+#![tactic(auto)]
 ghost use Rattle.std.specs.Prelude.{◌≡◌, ◌*◌, ◌≤◌, [], ◌∷◌, ◌++◌};
 ghost use Rattle.reference.specs.Refusals.{decision, decide, opening_places, too_many, rack};
 ghost use Rattle.wav_format.specs.Wav as wav;
@@ -11,7 +12,7 @@ use dsf::DsfHeader;
 use reference::{Cutoff, Gain, PcmError, PcmRate, Settings, Verdict};
 
 // What is asked of an album: opening's settings, but for the channels, which are the file's.
-#[derive(Drop)]
+#[derive(Clone, Copy)]
 pub struct Wanted {
     pub rate: PcmRate,
     pub cutoff: Cutoff,
@@ -20,7 +21,7 @@ pub struct Wanted {
 
 // An album's numbers: one-bit samples of a channel, frames, bytes of the WAV file's data and of what a frame gives, how many bytes of each
 // channel are filled up in the last frame, and pieces of the plan.
-#[derive(Drop)]
+#[derive(Clone, Copy)]
 pub struct Album {
     pub channels: u64,
     pub samples: u64,
@@ -32,7 +33,7 @@ pub struct Album {
 }
 
 // A refused album's numbers are 0.
-#[derive(Drop)]
+#[derive(Clone, Copy)]
 pub struct Opened {
     pub verdict: Verdict,
     pub album: Album,

@@ -1,4 +1,5 @@
 // What a step asks of its window and its lists, and frames gathered out of a window.
+#![tactic(auto)]
 ghost use Rattle.std.specs.Prelude.{◌≡◌, true, [], ◌∷◌, ◌*◌, ◌≤◌, length};
 ghost use Rattle.reference.specs.Refusals.{decision, decide, lent_length};
 ghost use Rattle.dsf_frames.specs.Reading.{window_frame};
@@ -11,7 +12,7 @@ use dsf_frames::reaches;
 use reference::{PcmError, Verdict};
 
 // Lengths of the lists that a step is lent: for the frame before, the frames, the frame after, and the bytes.
-#[derive(Drop)]
+#[derive(Clone, Copy)]
 pub struct Lent {
     pub before: usize,
     pub frames: usize,

@@ -1,4 +1,5 @@
 // The plan: an album's frames cut into pieces, and the pieces into parts.
+#![tactic(auto)]
 ghost use Rattle.std.specs.Prelude.{◌≡◌, ◌≤◌, ◌<◌};
 ghost use Rattle.album_plan.specs.Plan as plan;
 
@@ -7,7 +8,7 @@ use dsf_frames::{FrameWindow, lesser_of};
 use reference::PcmRate;
 
 // Pieces from `first` on, `end` not among them.
-#[derive(Drop)]
+#[derive(Clone, Copy)]
 pub struct Part {
     pub first: u64,
     pub end: u64,
@@ -15,7 +16,7 @@ pub struct Part {
 
 // A piece: its frames, the stretch of the file's data that holds them and the frames next to them, where its bytes stand in the WAV file,
 // and the bytes of its frames.
-#[derive(Drop)]
+#[derive(Clone, Copy)]
 pub struct Piece {
     pub first: u64,
     pub count: u64,

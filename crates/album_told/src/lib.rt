@@ -1,4 +1,5 @@
 // What is told of an album: its numbers in a list, and the numbers that a refusal's sentence tells.
+#![tactic(auto)]
 ghost use Rattle.std.specs.Prelude.{◌≡◌, ◌≤◌, length};
 ghost use Rattle.reference.specs.Refusals.{decision, refusal_number};
 ghost use Rattle.reference.specs.Promises.{by_decision};
@@ -8,7 +9,7 @@ use album::Opened;
 use reference::PcmRate;
 
 // Two numbers of a sentence.
-#[derive(Drop)]
+#[derive(Clone, Copy)]
 pub struct Said {
     pub first: u64,
     pub second: u64,

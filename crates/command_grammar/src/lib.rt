@@ -1,9 +1,10 @@
 // The command's arguments: what they may ask for, and what is read of them. The grammar is in specs/Grammar; no code.
+#![tactic(auto)]
 use reference::{Cutoff, PcmRate};
 
 // What the options ask for. The gain is its whole decibels above -120: 120 is 0 dB. Words are counted from 0; jobs and sheet are 0 where they
 // are not given.
-#[derive(Drop)]
+#[derive(Clone, Copy)]
 pub struct Options {
     pub rate: PcmRate,
     pub cutoff: Cutoff,
@@ -13,7 +14,7 @@ pub struct Options {
     pub sheet: u64,
 }
 
-#[derive(Drop)]
+#[derive(Clone, Copy)]
 pub enum Asked {
     Convert,
     Help,
@@ -22,7 +23,7 @@ pub enum Asked {
 }
 
 // What a command line asks for: of a conversion the options and the two names' words, of a wrong use the word at fault.
-#[derive(Drop)]
+#[derive(Clone, Copy)]
 pub struct Line {
     pub asked: Asked,
     pub options: Options,
@@ -32,7 +33,7 @@ pub struct Line {
 }
 
 // What the next word is: an option or the first name; an option's value; a name; nothing more. Help, Version and Fault end the reading.
-#[derive(Drop)]
+#[derive(Clone, Copy)]
 pub enum Expect {
     Option,
     Rate,
@@ -50,7 +51,7 @@ pub enum Expect {
 }
 
 // `input` is the first name's word, `last` the second name's or the word at fault.
-#[derive(Drop)]
+#[derive(Clone, Copy)]
 pub struct State {
     pub expect: Expect,
     pub options: Options,

@@ -1,4 +1,5 @@
 // Words that are names.
+#![tactic(auto)]
 ghost use Rattle.std.specs.Prelude.{◌≡◌};
 ghost use Rattle.command_words.specs.Words as words;
 

@@ -1,1 +1,2 @@
 // Laws of whole decibels; no code.
+#![tactic(auto)]

@@ -31,7 +31,7 @@ fn parts(factor: f64) -> u64 {
 }
 
 // Digits of which the last `decimals` stand behind the point, and what is left behind them, in 2^59ths.
-#[derive(Drop)]
+#[derive(Clone, Copy)]
 pub struct Figure {
     pub digits: u64,
     pub decimals: u64,

@@ -1,4 +1,5 @@
 // The factors of whole decibels, to six digits: a table to hold beside a console's.
+#![tactic(auto)]
 mod figure;
 
 use figure::{Figure, to_six_digits};

@@ -1,4 +1,5 @@
 // A DSF file's header, in Sony's layout: what is refused, and what the file holds. The definition is in specs/.
+#![tactic(auto)]
 mod bytes;
 mod fields;
 mod header;
@@ -9,7 +10,7 @@ pub use header::{read, read_header};
 use reference::Verdict;
 
 // What a file holds: samples of one channel, and frames, the last perhaps short.
-#[derive(Drop)]
+#[derive(Clone, Copy)]
 pub struct DsfHeader {
     pub channel_type: u64,
     pub channels: u64,
@@ -19,7 +20,7 @@ pub struct DsfHeader {
 }
 
 // A refused file's numbers are 0.
-#[derive(Drop)]
+#[derive(Clone, Copy)]
 pub struct DsfOpened {
     pub verdict: Verdict,
     pub header: DsfHeader,

@@ -1,4 +1,5 @@
 // Frames of a DSF file in our layout. The definition is in dsf's specs, the promises in specs/.
+#![tactic(auto)]
 mod bits;
 mod columns;
 mod frames;
@@ -8,7 +9,7 @@ pub use columns::lesser_of;
 pub use frames::{frame, reaches, window, window_frame};
 
 // A stretch of the data, which begins at byte 92 of a file.
-#[derive(Drop)]
+#[derive(Clone, Copy)]
 pub struct FrameWindow {
     pub start: u64,
     pub end: u64,

@@ -1,4 +1,5 @@
 // How early an upload can be given up. The definition is in specs/Uploads.
+#![tactic(auto)]
 ghost use Rattle.std.specs.Prelude.{◌≡◌, true, ◌<◌, length};
 ghost use Rattle.reference.specs.Refusals.{decide, is_accepted};
 ghost use Rattle.dsf.specs.Dsf.{layout, all, fits};
@@ -11,7 +12,7 @@ use dsf_frames::lesser_of;
 use reference::Verdict;
 
 // The answer for a file: accepted; refused, but a longer file may be accepted; or the length of its shortest hopeless beginning.
-#[derive(Drop)]
+#[derive(Clone, Copy)]
 pub enum Upload {
     Accepted,
     Unfinished,

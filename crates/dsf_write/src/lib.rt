@@ -1,4 +1,5 @@
 // Frames written back as a DSF file. The definition is in specs/Written.
+#![tactic(auto)]
 ghost use Rattle.std.specs.Prelude.{◌≡◌, ◌/◌, ◌*◌, ◌≤◌, length};
 ghost use Rattle.reference.specs.Refusals.{decide, decision};
 ghost use Rattle.dsf_write.specs.Written.{file_length, length_places, written, LengthPromise, WritePromise, Writable};
@@ -12,7 +13,7 @@ use header::{kind_of, put_header};
 use reference::{PcmError, Verdict};
 
 // The length that a file needs; 0 where it is refused.
-#[derive(Drop)]
+#[derive(Clone, Copy)]
 pub struct DsfLengthAnswer {
     pub verdict: Verdict,
     pub length: usize,

@@ -1,4 +1,6 @@
 // Module 4: sums of look-ups in byte tables, over windows of bytes. Of the tables of S1 or S1_WIDE they are u: crate stages.
+#![tactic(auto)]
+
 ghost use Rattle.std.specs.Prelude.{◌≡◌, ◌+◌, ◌*◌, ◌≤◌, pos, length, get_or};
 ghost use Rattle.numbers.specs.Sums.{sum_to, at0};
 ghost use Rattle.numbers.specs.Lists.{Held};

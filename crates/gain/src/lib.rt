@@ -1,4 +1,5 @@
 // The gain call, and module 6 of document 01: scaling.
+#![tactic(auto)]
 ghost use Rattle.std.specs.Prelude.{◌≡◌};
 ghost use Rattle.gain.specs.Tallies.{none, joined, Joins};
 
@@ -10,7 +11,7 @@ pub use scale::scale_block;
 
 // What a stretch of samples tells beside them: how many the clamp changed, the lowest and the highest number before the clamp, and whether there are
 // no samples. Then all numbers are 0.
-#[derive(Drop)]
+#[derive(Clone, Copy)]
 pub struct Tally {
     pub clipped: u64,
     pub lowest: i64,

@@ -9,7 +9,7 @@ ghost use Rattle.gain.specs.Scale.{bounded, unrounded, Clamped, ScaledBlock};
 
 use crate::Tally;
 
-#[derive(Drop)]
+#[derive(Clone, Copy)]
 struct Scaled {
     sample: i32,
     clipped: u64,

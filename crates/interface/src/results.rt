@@ -11,7 +11,7 @@ use crate::codes::{both, cutoff_number, hertz};
 use reference::{ConvertStats, Converted, FromDb, PcmError, Verdict};
 
 // A decision's number, data and decibels.
-#[derive(Drop)]
+#[derive(Clone, Copy)]
 pub struct Report {
     pub number: u8,
     pub first: u64,

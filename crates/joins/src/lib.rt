@@ -1,1 +1,2 @@
 // Demand 3: that cut runs join. No code.
+#![tactic(auto)]

@@ -1,4 +1,5 @@
 // Whether a label's low-pass is taken.
+#![tactic(auto)]
 ghost use Rattle.std.specs.Prelude.{◌≡◌, ◌^◌, ◌<◌, ◌≤◌, ◌&&◌, leb, nat_abs, length, take};
 ghost use Rattle.reference.specs.Stages as stages;
 ghost use Rattle.reference.specs.Refusals as table;
@@ -6,7 +7,7 @@ ghost use Rattle.reference.specs.Refusals.{decision, decide, filter_places};
 
 use reference::{Filter, PcmError, Verdict};
 
-#[derive(Drop)]
+#[derive(Clone, Copy)]
 struct Both {
     sum: i64,
     size: u64,

@@ -1,9 +1,10 @@
 // Reading from a descriptor, which may give its bytes in pieces of any size; and the buffer of three frames moved on.
+#![tactic(auto)]
 ghost use Rattle.std.specs.Prelude.{◌≡◌, ◌+◌, ◌*◌, ◌<◌, ◌≤◌, length};
 ghost use Rattle.level_input.specs.Moved.{moved_on};
 
 // How many bytes came, and whether a read failed; where none did, fewer bytes than asked for mean that the input has ended.
-#[derive(Drop)]
+#[derive(Clone, Copy)]
 pub struct Filled {
     pub n: usize,
     pub failed: bool,
@@ -42,7 +43,7 @@ pub fn fill(from: i32, bytes: &mut [u8]) -> Filled
 }
 
 // What came of a line: its bytes without the newline, and whether the newline came.
-#[derive(Drop)]
+#[derive(Clone, Copy)]
 pub struct Line {
     pub n: usize,
     pub whole: bool,

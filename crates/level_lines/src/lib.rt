@@ -1,4 +1,5 @@
 // The lines that the level report prints.
+#![tactic(auto)]
 ghost use Rattle.std.specs.Prelude.{◌+◌, ◌≤◌, length};
 ghost use Rattle.level_lines.specs.Text.{Printed};
 ghost use Rattle.level_lines.specs.Lines as lines;
@@ -6,7 +7,7 @@ ghost use Rattle.level_lines.specs.Lines as lines;
 pub mod text;
 
 // What is told of one channel of a frame.
-#[derive(Drop)]
+#[derive(Clone, Copy)]
 pub struct Level {
     pub clipped: u64,
     pub low: i32,

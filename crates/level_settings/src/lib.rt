@@ -1,4 +1,5 @@
 // The level report's first line, which it reads.
+#![tactic(auto)]
 ghost use Rattle.level_settings.specs.Settings.{LineRead};
 
 use reference::{Cutoff, PcmRate};
@@ -8,7 +9,7 @@ mod reading;
 pub use reading::{decibels, number};
 
 // What the first line sets.
-#[derive(Drop)]
+#[derive(Clone, Copy)]
 pub struct LineSettings {
     pub rate: PcmRate,
     pub cutoff: Cutoff,
@@ -16,7 +17,7 @@ pub struct LineSettings {
     pub db: i32,
 }
 
-#[derive(Drop)]
+#[derive(Clone, Copy)]
 pub enum FirstLine {
     Set(LineSettings),
     Refused,

@@ -14,7 +14,7 @@ use reference::Converter;
 
 // Frames that are told, their clips, what is in progress after them in each channel, bytes that have come of the frame at hand, bytes of the
 // text to pass on, and whether every read and write has succeeded.
-#[derive(Drop)]
+#[derive(Clone, Copy)]
 struct State {
     frames: u64,
     clipped: u64,

@@ -1,4 +1,5 @@
 // The level report over descriptors: it reads the line and the frames, and writes the lines.
+#![tactic(auto)]
 ghost use Rattle.std.specs.Prelude.{◌≡◌, ◌≤◌, length};
 ghost use Rattle.reference.specs.Refusals.{accepted, decide, held_places};
 ghost use Rattle.level_stream.specs.Usable.{Opens, Usable};
@@ -12,7 +13,7 @@ use frames::written;
 pub use frames::{refused, write_first};
 
 // What the first line leads to: settings that opening accepts, or an end, of which all is written.
-#[derive(Drop)]
+#[derive(Clone, Copy)]
 pub enum Begun {
     Open(LineSettings),
     Ended,

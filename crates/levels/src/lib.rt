@@ -1,4 +1,5 @@
 // The figures of the level report: a frame is converted with its neighbours, and the lines of its channels are printed.
+#![tactic(auto)]
 ghost use Rattle.std.specs.Prelude.{◌≡◌, ℕ, ◌+◌, ◌*◌, ◌/◌, ◌<◌, ◌≤◌, length, get_or, pos, slice_index, slice_index_or};
 ghost use Rattle.numbers.specs.Extremes as extremes;
 ghost use Rattle.numbers.specs.Lists.{tabulate, total};
@@ -18,7 +19,7 @@ use reference::{ConvertStats, Converter, Gain, Opened, PcmError, Settings, Verdi
 
 // What is told of a frame: how the call was decided, how long its lines are, its clips over all channels, and what is in progress after it
 // in each channel.
-#[derive(Drop)]
+#[derive(Clone, Copy)]
 pub struct Reported {
     pub verdict: Verdict,
     pub length: usize,
@@ -74,7 +75,7 @@ pub fn refusal_number(e: PcmError) -> u64
     }
 }
 
-#[derive(Drop)]
+#[derive(Clone, Copy)]
 struct Extremes {
     low: i32,
     high: i32,
@@ -116,7 +117,7 @@ fn overs_of(samples: &[i32], ch: usize, c: usize, e: Extremes, p: Progress) -> O
 }
 
 // What is told of a channel of a frame, and what is in progress after it.
-#[derive(Drop)]
+#[derive(Clone, Copy)]
 struct ChannelTold {
     level: Level,
     next: Progress,
@@ -158,7 +159,7 @@ fn clips(stats: ConvertStats, ch: usize) -> u64
 }
 
 // How long the lines of a frame are, and what is in progress after it in each channel.
-#[derive(Drop)]
+#[derive(Clone, Copy)]
 struct LinesTold {
     length: usize,
     states: [Progress; 6],

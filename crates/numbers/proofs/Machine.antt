@@ -35,7 +35,7 @@ module _ (z : ℤ) (m : mag z < 2 ^ 31) where
 
 -- a call's result, as a local holds it: the value that the callee ensures, with that value's size
 pub val : (r v : ℤ) → mag r < 2 ^ 63 → r ≡ v → t r ≡ v
-val r v m e = to_z-of_z (record { sfits = m }) ∙ e
+val r v m e = to_z-of_z {w = w64} (record { sfits = m }) ∙ e
 
 pub sized : (r v : ℤ) (B : ℕ) → mag r < 2 ^ 63 → r ≡ v → nat_abs v ≤ B → nat_abs (t r) ≤ B
 sized r v B m e h = rw (val r v m e) h

@@ -1,1 +1,2 @@
 // Laws of numbers and lists, with no code.
+#![tactic(auto)]

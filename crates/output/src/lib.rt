@@ -1,4 +1,5 @@
 // Module 7, output: a block's samples of one channel go to their places; and samples are packed as bytes.
+#![tactic(auto)]
 ghost use Rattle.std.specs.Prelude.{◌≡◌, ℕ, ◌+◌, ◌*◌, ◌/◌, ◌%◌, ◌≤◌, ◌<◌, min, ℤ, pos, length};
 ghost use Rattle.numbers.specs.Lists.{Held};
 ghost use Rattle.reference.specs.Output.{low24};

@@ -1,10 +1,11 @@
 // Overs by the studio rule: three samples in a row at one end of full scale, counted at the third.
+#![tactic(auto)]
 ghost use Rattle.std.specs.Prelude.{◌≡◌, ◌+◌, ◌*◌, ◌≤◌, pos, length, get_or};
 ghost use Rattle.overs.specs.Overs as overs;
 ghost use Rattle.overs.specs.Overs.{Passed};
 
 // An end of full scale, or none.
-#[derive(Drop)]
+#[derive(Clone, Copy)]
 pub enum End {
     Neither,
     High,
@@ -12,14 +13,14 @@ pub enum End {
 }
 
 // What is in progress at a place of a channel: the end at which the samples just before it stand, and how many, held at 3.
-#[derive(Drop)]
+#[derive(Clone, Copy)]
 pub struct Progress {
     pub end: End,
     pub length: u64,
 }
 
 // Overs of a stretch, and what is in progress after it.
-#[derive(Drop)]
+#[derive(Clone, Copy)]
 pub struct OverCount {
     pub count: u64,
     pub next: Progress,

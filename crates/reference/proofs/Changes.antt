@@ -46,7 +46,7 @@ unfolding after_changes last_accepted settled
 after_held s ok [] = (refl, ok)
 after_held s ok (w ∷ ws) =
     let next = step s ok w (decide (change_places (converter_of s) w)) refl in
-    let later = after_held _ next.1 ws in
+    let later = after_held (settled s ok w (is_accepted (decide (change_places (converter_of s) w)))) next.1 ws in
     (ap (λ (c : Converter). after_changes c ws) next.0 ∙ later.0, later.1)
 
 pub changes_keep : ChangesKeep

@@ -13,7 +13,7 @@ use Rattle.reference.specs.Stages.{taps_of, whole_sum, whole_size, y, reach}
 use Rattle.reference.specs.Scaling.{scaled}
 use Rattle.reference.specs.Settings.{built_in, filter_of, true_numbers, with_filter}
 use Rattle.reference.specs.Output.{samples_per_frame, unclamped}
-use Rattle.reference.specs.Refusals.{accepted, Place, place, decide, right_sums, filter_places, opening_places, held_places}
+use Rattle.reference.specs.Refusals.{accepted, place, decide, right_sums, filter_places, opening_places, held_places}
 use Rattle.reference.specs.Promises.{FilterPlacesFree}
 use Rattle.reference.specs.declared.Filter.{Filter}
 use Rattle.reference.specs.declared.Converter.{Converter}

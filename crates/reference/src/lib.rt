@@ -1,4 +1,6 @@
 // The records and numbers of document 01. The definition of a conversion is in specs/.
+#![tactic(auto)]
+
 ghost use Rattle.std.specs.Prelude.{◌≡◌, ◌≤◌};
 ghost use Rattle.numbers.specs.Extremes as extremes;
 ghost use Rattle.reference.specs.Frames.{frame_length};
@@ -16,7 +18,7 @@ pub const FRAME_BYTES: usize = 4704;
 // Frames of the longest run.
 pub const MOST_FRAMES: usize = 540000;
 
-#[derive(Drop)]
+#[derive(Clone, Copy)]
 pub enum PcmRate {
     Hz88200,
     Hz176400,
@@ -34,7 +36,7 @@ pub fn samples_per_frame(rate: PcmRate) -> usize
     }
 }
 
-#[derive(Drop)]
+#[derive(Clone, Copy)]
 pub enum Cutoff {
     Standard,
     Low,
@@ -42,14 +44,14 @@ pub enum Cutoff {
 }
 
 // A gain in decibels and the factor that it stands for.
-#[derive(Drop)]
+#[derive(Clone, Copy)]
 pub struct Gain {
     pub db: f64,
     pub linear: f64,
 }
 
 // A low-pass: its first `count` taps, from the centre outwards. The places past them are free.
-#[derive(Drop)]
+#[derive(Clone, Copy)]
 pub struct Filter {
     pub taps: [i32; 117],
     pub count: usize,
@@ -64,7 +66,7 @@ pub fn built_in() -> Filter
 }
 
 // What opening is given: with a filter if `own` says so, else its record is not read.
-#[derive(Drop)]
+#[derive(Clone, Copy)]
 pub struct Settings {
     pub rate: PcmRate,
     pub cutoff: Cutoff,
@@ -76,7 +78,7 @@ pub struct Settings {
 
 // What opening gives, and each conversion is given: the settings, and three numbers of theirs. These are samples of a channel in a frame, the reach in
 // bytes, and the bytes of a frame over all channels.
-#[derive(Drop)]
+#[derive(Clone, Copy)]
 pub struct Converter {
     pub rate: PcmRate,
     pub cutoff: Cutoff,
@@ -165,7 +167,7 @@ pub fn converter_of(settings: Settings) -> Converter
 
 // What a conversion tells of its samples, by channel: how many the clamp changed, the lowest and the highest number before the clamp, and whether
 // the channel has no samples. Then all its numbers are 0.
-#[derive(Drop)]
+#[derive(Clone, Copy)]
 pub struct ConvertStats {
     pub clipped: [u64; 6],
     pub lowest: [i64; 6],
@@ -224,14 +226,14 @@ pub fn highest_of(no_x: bool, x: i64, no_y: bool, y: i64) -> i64
 }
 
 // Whose limit of frames a call has: the rack's, or the listening desk's.
-#[derive(Drop)]
+#[derive(Clone, Copy)]
 pub enum Limit {
     Rack,
     Desk,
 }
 
 // Why a call is refused. specs/Refusals.antt gives each case its number and data.
-#[derive(Drop)]
+#[derive(Clone, Copy)]
 pub enum PcmError {
     Channels(u8),
     Unsupported(PcmRate, Cutoff),
@@ -265,14 +267,14 @@ pub enum PcmError {
     Stored,
 }
 
-#[derive(Drop)]
+#[derive(Clone, Copy)]
 pub enum Verdict {
     Accepted,
     Refused(PcmError),
 }
 
 // What the gain call answers.
-#[derive(Drop)]
+#[derive(Clone, Copy)]
 pub enum FromDb {
     Made(Gain),
     Refused(PcmError),
@@ -280,14 +282,14 @@ pub enum FromDb {
 
 // What opening answers: the converter of the settings given, also where they are refused. What a change answers: the new converter, or the one held
 // where it is refused.
-#[derive(Drop)]
+#[derive(Clone, Copy)]
 pub struct Opened {
     pub verdict: Verdict,
     pub converter: Converter,
 }
 
 // What a conversion answers: a refused one has counted nothing.
-#[derive(Drop)]
+#[derive(Clone, Copy)]
 pub struct Converted {
     pub verdict: Verdict,
     pub stats: ConvertStats,

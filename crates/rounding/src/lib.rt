@@ -1,6 +1,7 @@
 // Module 1, the rounding step: v / 2^q to the nearest whole number, a tie to the even one, at the two shifts of the stages. No branch: beside the
 // floor stands one sum over the remainder and the lowest kept bit. The filters lift their sums by 2^53, so that the machine divides numbers that
 // are not negative; the lift is taken away last.
+#![tactic(auto)]
 ghost use Rattle.std.specs.Prelude.{◌≡◌, ◌^◌, ◌≤◌, pos, nat_abs, ◌-ℤ◌};
 ghost use Rattle.reference.specs.Rounding.{R};
 

@@ -1,4 +1,5 @@
 // The frames of a run, and the channels of a frame. Samples n count from the run's start.
+#![tactic(auto)]
 ghost use Rattle.std.specs.Prelude.{◌≡◌, ◌+◌, ◌*◌, ◌≤◌, ◌<◌, ◌%◌, length};
 ghost use Rattle.reference.specs.Frames.{frame_count};
 ghost use Rattle.reference.specs.Output.{samples_per_frame, sample, channel_samples, all_samples};
@@ -11,7 +12,7 @@ use gain::Tally;
 use reference::{ConvertStats, Converter};
 
 // What a frame tells: the tallies of the channels up to its end, and its own clips over all channels.
-#[derive(Drop)]
+#[derive(Clone, Copy)]
 struct Framed {
     tallies: [Tally; 6],
     clips: u64,

@@ -7,7 +7,7 @@ use crate::{convert_desk_parts, convert_frame_parts, convert_parts, convert_run_
 use reference::{Converted, Converter};
 
 // The slice of a neighbour that is not there is not read.
-#[derive(Drop)]
+#[derive(Clone, Copy)]
 pub struct Run<'a> {
     pub has_before: bool,
     pub before: &'a [u8],

@@ -1,1 +1,2 @@
 // Laws of the level sheet of a run; no code.
+#![tactic(auto)]

@@ -10,7 +10,7 @@ use level_stream::write_first;
 use reference::{ConvertStats, Converter, Verdict};
 
 // Frames that are told, their statistics, bytes that have come of the frame at hand, and whether every read has succeeded.
-#[derive(Drop)]
+#[derive(Clone, Copy)]
 struct State {
     frames: u64,
     stats: ConvertStats,

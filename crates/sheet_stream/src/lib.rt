@@ -1,4 +1,5 @@
 // The level sheet over descriptors: it reads the line and the frames, and writes the sheet of the whole input.
+#![tactic(auto)]
 use level_stream::Begun;
 
 mod frames;

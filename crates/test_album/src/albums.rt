@@ -131,7 +131,7 @@ fn conversions<'a>(
 }
 
 // The tallies of openings, and of headers and conversions.
-#[derive(Drop)]
+#[derive(Clone, Copy)]
 struct Both {
     openings: Tally,
     made: Tally,

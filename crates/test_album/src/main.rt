@@ -1,5 +1,6 @@
 // Albums from file to file, beside the answers of compare/albums.py: openings, WAV files and sheets by the plan and by other cuts, and the plan's
 // numbers.
+#![tactic(auto)]
 mod albums;
 mod numbers;
 mod steps;

@@ -4,7 +4,7 @@ use reference::ConvertStats;
 use test_files::number;
 
 // Whether every step was accepted with the right bytes, and their statistics.
-#[derive(Drop)]
+#[derive(Clone, Copy)]
 pub struct Done {
     pub right: bool,
     pub stats: ConvertStats,

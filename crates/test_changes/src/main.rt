@@ -1,4 +1,5 @@
 // Settings changed while a converter is open, beside what compare/changes.py works out (data/): lists of changes, and records made by hand.
+#![tactic(auto)]
 mod by_hand;
 mod lists;
 mod records;

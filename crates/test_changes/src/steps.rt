@@ -63,7 +63,7 @@ fn changed(conv: Converter, part: &[u64]) -> Opened {
 }
 
 // The record after a row's changes, and how many of them were answered right.
-#[derive(Drop)]
+#[derive(Clone, Copy)]
 struct Held {
     converter: Converter,
     right: u64,
@@ -152,7 +152,7 @@ fn converts(conv: Converter, row: &[u64], frame: &[u8]) -> bool {
 }
 
 // Openings, changes and conversions that were right.
-#[derive(Drop)]
+#[derive(Clone, Copy)]
 struct Right {
     openings: u64,
     changes: u64,

@@ -40,7 +40,7 @@ pub fn fill(pattern: u64, seed: u64, period: usize, bytes: &mut [u8]) {
 }
 
 // Two digests of a list.
-#[derive(Drop)]
+#[derive(Clone, Copy)]
 pub struct Digest {
     pub first: u64,
     pub second: u64,

@@ -297,7 +297,7 @@ fn answer(
 }
 
 // How many rows a question is put to, and how many are right.
-#[derive(Drop)]
+#[derive(Clone, Copy)]
 struct Score {
     all: u64,
     yes: u64,

@@ -1,4 +1,5 @@
 // One-bit albums cut into pieces of whole frames and converted in turns: every piece beside the whole run.
+#![tactic(auto)]
 mod call;
 mod compare;
 mod input;

@@ -4,7 +4,7 @@ use crate::{call, compare, input, junk, row, tally};
 use reference::Converted;
 
 // A piece starts at a frame of the album and has so many frames.
-#[derive(Drop)]
+#[derive(Clone, Copy)]
 pub struct Piece {
     pub from: usize,
     pub frames: usize,

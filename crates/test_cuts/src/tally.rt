@@ -4,7 +4,7 @@ use reference::Converted;
 use test_support::one;
 
 // Calls and those accepted, samples and those equal, the clips of the two channels, counts and those equal.
-#[derive(Drop)]
+#[derive(Clone, Copy)]
 pub struct Tally {
     pub calls: u64,
     pub accepted: u64,

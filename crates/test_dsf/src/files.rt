@@ -51,7 +51,7 @@ fn frames(fd: i32, asked: u64, file: &[u8], out: &mut [u8], t: Tally) -> Tally {
 }
 
 // The tallies of files and of frames.
-#[derive(Drop)]
+#[derive(Clone, Copy)]
 struct Both {
     files: Tally,
     frames: Tally,

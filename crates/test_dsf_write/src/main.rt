@@ -1,4 +1,5 @@
 // DSF files written, beside the answers of compare/files; read back; and an album that goes through a file.
+#![tactic(auto)]
 mod album;
 mod lengths;
 mod written;

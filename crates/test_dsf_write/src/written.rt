@@ -69,7 +69,7 @@ fn all_back<'a>(ch: u8, file: &'a [u8], frames: &'a [u8], out: &mut [u8], t: Tal
 }
 
 // The tallies of files and of the frames that are read back.
-#[derive(Drop)]
+#[derive(Clone, Copy)]
 struct Both {
     files: Tally,
     frames: Tally,

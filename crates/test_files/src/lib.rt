@@ -1,5 +1,6 @@
 // What the programs over stored cases share: numbers in bytes, bytes that a seed stands for, digests, counts. compare/files has the same for the
 // cases' own side.
+#![tactic(auto)]
 ghost use Rattle.std.specs.Prelude.{◌≡◌, cond, ◌+◌, ◌/◌, ◌%◌, ◌≤◌, get_or};
 ghost use Rattle.test_files.specs.Cases.{with_below, four_at, eight_at, mix, digest_on};
 
@@ -143,7 +144,7 @@ pub fn cases(fd: i32) -> u64 {
 }
 
 // Calls, those that answered as stored, and those that were accepted.
-#[derive(Drop)]
+#[derive(Clone, Copy)]
 pub struct Tally {
     pub calls: u64,
     pub equal: u64,

@@ -1,4 +1,5 @@
 // The gain and the scaling beside what the original gives (data/, written by compare/factors.sh) and the figures of document 01.
+#![tactic(auto)]
 ghost use Rattle.std.specs.Prelude.{◌<◌, nat_abs};
 
 use reference::{FromDb, Gain, PcmError};

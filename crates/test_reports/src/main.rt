@@ -8,6 +8,7 @@
 // 81        0x00 at 0 dB: an over in frame 1, which has no clip
 // 82, 83    a run over a border at 176,400 and at 352,800 Hz
 // 84        two channels, each with its own run over the border
+#![tactic(auto)]
 
 // Two digits.
 fn digit(n: u64) -> u8 {

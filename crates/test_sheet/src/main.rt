@@ -1,4 +1,5 @@
 // Sheets and joined statistics beside those that compare/sheets.py lays out (data/).
+#![tactic(auto)]
 mod cases;
 mod joins;
 mod rows;

@@ -1,4 +1,5 @@
 // What the programs that compare share: floats by their bits, refusals as numbers, parts of lists, stored answers, lines.
+#![tactic(auto)]
 ghost use Rattle.std.specs.Prelude.{◌≡◌, cond, ◌&&◌, ◌+◌, ◌*◌, ◌%◌, ◌≤◌, eqb, ltb, pos, ◌+ℤ◌, length, take, get_or};
 ghost use Rattle.std.specs.Float.{binary64};
 ghost use Rattle.std.specs.Float.Ieee.{of_bits, to_bits};
@@ -32,7 +33,7 @@ pub fn bits(x: f64) -> u64
 }
 
 // A refusal's number and data; number 0 is no refusal.
-#[derive(Drop)]
+#[derive(Clone, Copy)]
 pub struct Told {
     pub number: u64,
     pub first: u64,

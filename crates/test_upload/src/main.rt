@@ -1,5 +1,6 @@
 // Uploads given up early, beside the answers of compare/files. A case has the number of a header, what is changed in it (place, number of bytes,
 // bytes), the upload's length, and the answer. Short uploads are also given whole.
+#![tactic(auto)]
 use dsf_upload::Upload;
 use test_files::{Tally, number};
 
@@ -14,7 +15,7 @@ fn head<'a>(heads: &'a [u8], rec: &'a [u8], file: &mut [u8]) {
 }
 
 // An answer's kind and number.
-#[derive(Drop)]
+#[derive(Clone, Copy)]
 struct Told {
     kind: u64,
     n: u64,
@@ -34,7 +35,7 @@ fn with(t: Tally, rec: &[u8], a: Told) -> Tally {
 }
 
 // The tallies of headers with a length, and of whole files.
-#[derive(Drop)]
+#[derive(Clone, Copy)]
 struct Both {
     heads: Tally,
     files: Tally,

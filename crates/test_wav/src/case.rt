@@ -3,7 +3,7 @@ ghost use Rattle.std.specs.Prelude.{◌≤◌};
 
 use reference::PcmRate;
 
-#[derive(Drop)]
+#[derive(Clone, Copy)]
 pub struct Case {
     pub rate: u64,
     pub channels: u64,

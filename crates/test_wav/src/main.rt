@@ -1,4 +1,5 @@
 // WAV files beside what Python's `wave` writes (data/headers, made by compare/wav/headers.py): written, read, written back, damaged, refused.
+#![tactic(auto)]
 mod case;
 mod damaged;
 mod files;

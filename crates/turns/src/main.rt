@@ -1,4 +1,5 @@
 // Turns on one board. Standard input has a line with the turn length, and a line FRAMES DUE for each album.
+#![tactic(auto)]
 ghost use Rattle.std.specs.Prelude.{◌≤◌, length};
 
 // Input that is no board.

@@ -58,7 +58,7 @@ fn number(text: &[u8]) -> u64
 }
 
 // A number, and the place after the byte that ends it.
-#[derive(Drop)]
+#[derive(Clone, Copy)]
 pub struct Taken {
     pub value: u64,
     pub next: usize,

@@ -1,4 +1,5 @@
 // WAV files: read, and made from sample bytes. Neither call asks anything.
+#![tactic(auto)]
 ghost use Rattle.std.specs.Prelude.{◌≡◌, ◌++◌, ◌+◌, ◌*◌, ◌-◌, ◌≤◌, ◌<◌, length, take, drop};
 ghost use Rattle.byte_lists.specs.Lists.{same};
 ghost use Rattle.interface.specs.Codes as codes;
@@ -15,14 +16,14 @@ use header::copy;
 pub use header::put_header;
 
 // What the header of a file tells.
-#[derive(Drop)]
+#[derive(Clone, Copy)]
 pub struct WavFormat {
     pub rate: PcmRate,
     pub channels: u8,
 }
 
 // What the reader answers.
-#[derive(Drop)]
+#[derive(Clone, Copy)]
 pub enum WavRead {
     Wav(WavFormat),
     Refused(PcmError),

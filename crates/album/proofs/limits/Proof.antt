@@ -5,16 +5,16 @@ use Rattle.album.proofs.Bounds.{bytes_bound}
 use Rattle.album.proofs.limits.Statement.{statement}
 use Rattle.album.proofs.limits.Tie as tie
 
-returns : tie.Need-returns
-returns c = sym (at_first _ _ (lt-ltb 540000 c.before.args.frames c.if1.true))
+returns : tie.Need-returns-then-frames-gt540000
+returns c = sym (at_first _ _ (lt-ltb 540000 c.args.frames c.if-frames-gt540000.true))
 
-mul_bytes : tie.Need-overflow-mul-bytes
-mul_bytes c = omega (arith, bytes_bound c.before.before.args.frames c.frame_size.result c.before.if1.false c.frame_size.ensures.1)
+mul_bytes : tie.Need-overflow_mul-bytes
+mul_bytes c = omega (arith, bytes_bound c.args.frames c.frame_size.result c.if-frames-gt540000.false c.frame_size.ensures.1)
 
-returns-2 : tie.Need-returns-2
+returns-2 : tie.Need-returns
 returns-2 c =
     let else = c.before.before in
-    (rw c.before.frame_size.ensures.0 at c.told.ensures) ∙ sym (at_next _ _ (le-ltb 540000 else.before.args.frames else.if1.false))
+    (rw c.frame_size.ensures.0 at c.told.ensures) ∙ sym (at_next _ _ (le-ltb 540000 else.args.frames else.if-frames-gt540000.false))
 
 pub limits_spec : {M : Type 1} → statement M
 limits_spec = tie.close (tie.spec returns (λ c κs. search rules) mul_bytes (λ c κs. search rules) returns-2)

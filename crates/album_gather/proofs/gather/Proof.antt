@@ -15,49 +15,49 @@ use Rattle.album_gather.proofs.Gathered.{no_frames, taken_frame, next_frame, win
 use Rattle.album_gather.proofs.gather.Statement.{statement}
 use Rattle.album_gather.proofs.gather.Tie as tie
 
-abbrev invariant-loop : tie.invariant-loop
+abbrev invariant-loop : tie.invariant-loop-k
 invariant-loop head total size from count window start out₀ k₀ out k =
     (k ≤ count) × (length out ≡ length out₀) × Printed (frames_from (λ f. window_frame head f window start) from k) out₀ 0 out (k * size)
 
-abbrev decreases-loop : tie.decreases-loop
+abbrev decreases-loop : tie.decreases-loop-k
 decreases-loop head total size from count window start out₀ k₀ out k = count - k
 
-loop-holds : tie.Need-loop-init invariant-loop decreases-loop
+loop-holds : tie.Need-loop-k-init invariant-loop decreases-loop
 loop-holds c = let s = c.before.before.before in
     (omega arith, refl, no_frames (λ f. window_frame s.args.head.now f s.args.window.now s.args.start) s.args.from s.args.size s.args.out.now)
 
-mul_at : tie.Need-overflow-mul-at invariant-loop decreases-loop
+mul_at : tie.Need-overflow_mul-at invariant-loop decreases-loop
 mul_at c = let s = c.before.before.before.before.before in
-    omega (arith, part_end c.before.loop.k s.args.count s.args.size (omega arith), s.requires.lent)
+    omega (arith, part_end c.loop-k.k s.args.count s.args.size (omega arith), s.requires.lent)
 
-add_end : tie.Need-overflow-add-end invariant-loop decreases-loop
+add_end : tie.Need-overflow_add-end invariant-loop decreases-loop
 add_end c = let s = c.before.before.before.before.before in
-    omega (arith, part_end c.before.loop.k s.args.count s.args.size (omega arith), s.requires.lent)
+    omega (arith, part_end c.loop-k.k s.args.count s.args.size (omega arith), s.requires.lent)
 
-add_window_frame : tie.Need-overflow-add-window-frame invariant-loop decreases-loop
+add_window_frame : tie.Need-overflow_add-from invariant-loop decreases-loop
 add_window_frame c = let s = c.before.before.before.before.before in omega (arith, s.requires.small)
 
-sub_window_frame : tie.Need-overflow-sub-window-frame invariant-loop decreases-loop
+sub_window_frame : tie.Need-slice_bounds-window_frame-count invariant-loop decreases-loop
 sub_window_frame c = search rules
 
-part_window_frame_start : tie.Need-slice-bounds-window-frame-start invariant-loop decreases-loop
+part_window_frame_start : tie.Need-slice_bounds-window_frame-start invariant-loop decreases-loop
 part_window_frame_start c = search rules
 
-part_window_frame_end : tie.Need-slice-bounds-window-frame-end invariant-loop decreases-loop
+part_window_frame_end : tie.Need-slice_bounds-window_frame-end invariant-loop decreases-loop
 part_window_frame_end c = let s = c.before.before.before.before.before in
-    omega (arith, part_end c.before.loop.k s.args.count s.args.size (omega arith), s.requires.lent, c.before.loop.invariant.1)
+    omega (arith, part_end c.loop-k.k s.args.count s.args.size (omega arith), s.requires.lent, c.loop-k.invariant.1)
 
-add_k : tie.Need-overflow-add-k invariant-loop decreases-loop
+add_k : tie.Need-overflow_add-k invariant-loop decreases-loop
 add_k c = search rules
 
-loop-less : tie.Need-loop-smaller invariant-loop decreases-loop
+loop-less : tie.Need-loop-k-smaller invariant-loop decreases-loop
 loop-less c = omega arith
 
-loop-again : tie.Need-loop-preserved invariant-loop decreases-loop
+loop-again : tie.Need-loop-k-preserved invariant-loop decreases-loop
 loop-again c =
     let called = c.before.before in
     let in-loop = called.before.before in
-    let l = in-loop.before.loop in
+    let l = in-loop.loop-k in
     let s = in-loop.before.before.before.before.before in
     let a = s.args in
     let head = a.head.now in
@@ -72,12 +72,12 @@ loop-again c =
       next_frame (λ f. window_frame head f window a.start) a.from l.k a.size a.out.now l.out _ l.invariant.2 is long,
     )
 
-same_length : tie.Need-same-length invariant-loop decreases-loop
-same_length c = c.before.loop.invariant.1
+same_length : tie.Need-shape_of-out invariant-loop decreases-loop
+same_length c = c.loop-k.invariant.1
 
 returns : tie.Need-returns invariant-loop decreases-loop
 returns c =
-    let l = c.before.loop in
+    let l = c.loop-k in
     let s = c.before.before.before.before.before in
     let all : l.k ≡ s.args.count = omega arith in
     whole_list (rw all at l.invariant.2) (sym s.requires.lent)

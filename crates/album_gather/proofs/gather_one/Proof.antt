@@ -9,17 +9,17 @@ use Rattle.album_gather.proofs.gather_one.Tie as tie
 gather_requires : tie.Need-gather-requires
 gather_requires c κs =
     let then = c.before in
-    then.before.before.before.before.requires then.if1.true
+    then.requires then.if-there.true
 
-returns : tie.Need-returns
+returns : tie.Need-returns-then-there
 unfolding worked
 returns c =
     let called = c.before.before in
-    rw called.before.before.if1.true (called.gather.ensures ∙ from_one _ _)
+    rw called.if-there.true (called.gather.ensures ∙ from_one _ _)
 
-returns-2 : tie.Need-returns-2
+returns-2 : tie.Need-returns
 unfolding worked
-returns-2 c = rw c.if1.false refl
+returns-2 c = rw c.if-there.false refl
 
 pub gather_one_spec : {M : Type 1} → statement M
 gather_one_spec = tie.close (tie.spec gather_requires (λ c. search rules) returns returns-2)

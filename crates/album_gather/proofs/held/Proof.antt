@@ -10,51 +10,51 @@ use Rattle.album_gather.proofs.Fitting.{begins_past, ends_past, begins_late, end
 use Rattle.album_gather.proofs.held.Statement.{statement}
 use Rattle.album_gather.proofs.held.Tie as tie
 
-returns : tie.Need-returns
-returns c = let a = c.before.args in begins_past a.a a.first a.count a.start a.window c.if1.true
+returns : tie.Need-returns-then-frames-first
+returns c = let a = c.args in begins_past a.a a.first a.count a.start a.window c.if-frames-first.true
 
-returns-2 : tie.Need-returns-2
-returns-2 c = let a = c.before.before.args in ends_past a.a a.first a.count a.start a.window c.before.if1.false c.if2.true
+returns-2 : tie.Need-returns-then-frames-first-2
+returns-2 c = let a = c.args in ends_past a.a a.first a.count a.start a.window c.if-frames-first.false c.if-frames-first-2.true
 
-stretch_requires : tie.Need-stretch-requires
+stretch_requires : tie.Need-stretch-needed-requires
 stretch_requires c κs = let s = c.before.before in
     record { few = s.requires.few; is = s.requires.is; most = s.requires.most; within = omega arith }
 
-returns-3 : tie.Need-returns-3
+returns-3 : tie.Need-returns-then-needed-start
 returns-3 c =
     let held = c.before.before in
     let else = held.before in
-    let a = else.before.before.args in
-    let late : stretch_start a.a.channels a.first < a.start = rw (← held.stretch.ensures.begins) c.if3.true in
-    begins_late a.a a.first a.count a.start a.window else.before.if1.false else.if2.false late
+    let a = else.args in
+    let late : stretch_start a.a.channels a.first < a.start = rw (← held.stretch-needed.ensures.begins) c.if-needed-start.true in
+    begins_late a.a a.first a.count a.start a.window else.if-frames-first.false else.if-frames-first-2.false late
 
 -- where the stretch is known, and the start
-abbrev at_stretch : tie.After-reaches → tie.After-stretch
+abbrev at_stretch : tie.After-reaches → tie.After-stretch-needed
 at_stretch c = c.before.before.before
 
 abbrev begin : tie.After-reaches → tie.Start
 begin c = (at_stretch c).before.before.before
 
 begins : (c : tie.After-reaches) → (begin c).args.start ≤ stretch_start (begin c).args.a.channels (begin c).args.first
-begins c = rw (← (at_stretch c).stretch.ensures.begins) c.before.if3.false
+begins c = rw (← (at_stretch c).stretch-needed.ensures.begins) c.if-needed-start.false
 
-returns-4 : tie.Need-returns-4
+returns-4 : tie.Need-returns-then-reaches
 returns-4 c =
     let reached = c.before in
     let held = reached.before.before.before in
     let else = held.before in
-    let a = else.before.before.args in
-    let covers : leb (stretch_end a.a.channels a.a.samples a.first a.count) (a.start + a.window) ≡ true = rw (← held.stretch.ensures.ends) (sym reached.reaches.ensures ∙ c.if4.true) in
-    all_there a.a a.first a.count a.start a.window else.before.if1.false else.if2.false (begins reached) covers
+    let a = else.args in
+    let covers : leb (stretch_end a.a.channels a.a.samples a.first a.count) (a.start + a.window) ≡ true = rw (← held.stretch-needed.ensures.ends) (sym reached.reaches.ensures ∙ c.if-reaches.true) in
+    all_there a.a a.first a.count a.start a.window else.if-frames-first.false else.if-frames-first-2.false (begins reached) covers
 
-returns-5 : tie.Need-returns-5
+returns-5 : tie.Need-returns
 returns-5 c =
     let reached = c.before in
     let held = reached.before.before.before in
     let else = held.before in
-    let a = else.before.before.args in
-    let covers : leb (stretch_end a.a.channels a.a.samples a.first a.count) (a.start + a.window) ≡ false = rw (← held.stretch.ensures.ends) (sym reached.reaches.ensures ∙ c.if4.false) in
-    ends_early a.a a.first a.count a.start a.window else.before.if1.false else.if2.false (begins reached) covers
+    let a = else.args in
+    let covers : leb (stretch_end a.a.channels a.a.samples a.first a.count) (a.start + a.window) ≡ false = rw (← held.stretch-needed.ensures.ends) (sym reached.reaches.ensures ∙ c.if-reaches.false) in
+    ends_early a.a a.first a.count a.start a.window else.if-frames-first.false else.if-frames-first-2.false (begins reached) covers
 
 pub held_spec : {M : Type 1} → statement M
 held_spec = tie.close (tie.spec returns returns-2 stretch_requires returns-3 (λ c κs. search rules) returns-4 returns-5)

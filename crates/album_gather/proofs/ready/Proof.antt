@@ -13,23 +13,23 @@ use Rattle.album_gather.proofs.ready.Statement.{statement}
 use Rattle.album_gather.proofs.ready.Tie as tie
 
 -- the album is accepted
-module _ (c : tie.Then1) where
-  abbrev at_open : tie.After-open
+module _ (c : tie.Then-accepted) where
+  abbrev at_open : tie.After-open-opened
   at_open = c.before.before.before
 
   abbrev begin : tie.Start
   begin = at_open.before.before
 
   taken : decide (album_places begin.args.head.now begin.args.length begin.args.wanted) ≡ accepted
-  taken = sym at_open.«open».ensures.decided ∙ accepted_is _ (sym c.before.accepted.ensures ∙ c.if1.true)
+  taken = sym at_open.«open».ensures.decided ∙ accepted_is _ (sym c.accepted.ensures ∙ c.if-accepted.true)
 
   numbers_are : at_open.«open».result.album ≡ album_of begin.args.wanted.rate (channels begin.args.head.now) (samples begin.args.head.now)
   numbers_are = at_open.«open».ensures.album ∙ exit_accepted _ _ _ taken
 
-fits_requires : tie.Need-fits-requires
+fits_requires : tie.Need-fits-verdict-requires
 fits_requires c κs = subst (λ (x : Album). FitArgs x) (sym (numbers_are c)) (album_fits _ _ _ (taken c))
 
-returns : tie.Need-returns
+returns : tie.Need-returns-then-accepted
 unfolding step_places
 returns c =
     let then = c.before in
@@ -40,12 +40,12 @@ returns c =
       album = (at_open then).«open».ensures.album;
     }
 
-returns-2 : tie.Need-returns-2
+returns-2 : tie.Need-returns
 unfolding step_places
 returns-2 c =
     let at_open = c.before.before.before in
-    let a = at_open.before.before.args in
-    let refused = ap is_accepted (sym at_open.«open».ensures.decided) ∙ sym c.before.accepted.ensures ∙ c.if1.false in
+    let a = at_open.args in
+    let refused = ap is_accepted (sym at_open.«open».ensures.decided) ∙ sym c.accepted.ensures ∙ c.if-accepted.false in
     record {
       decided = at_open.«open».ensures.decided ∙ sym (decide_stop (album_places a.head.now a.length a.wanted) _ refused);
       album = at_open.«open».ensures.album;

@@ -11,25 +11,25 @@ use Rattle.album_gather.proofs.Fitting.{stopped, passed}
 use Rattle.album_gather.proofs.room.Statement.{statement}
 use Rattle.album_gather.proofs.room.Tie as tie
 
-returns : tie.Need-returns
+returns : tie.Need-returns-then-not-accepted
 unfolding lent_places
 returns c =
     let at_long = c.before.before in
-    stopped _ _ at_long.long.result at_long.long.ensures (sym c.before.accepted.ensures ∙ not-true _ c.if1.true)
+    stopped _ _ at_long.long-before.result at_long.long-before.ensures (sym c.accepted.ensures ∙ not-true _ c.if-not-accepted.true)
 
-mul_long : tie.Need-overflow-mul-long
+mul_long : tie.Need-overflow_mul-count
 mul_long c = let s = c.before.before.before in omega (arith, small_room s.args.count s.args.a.channels s.requires.0 s.requires.1.few)
 
-returns-2 : tie.Need-returns-2
+returns-2 : tie.Need-returns-then-not-accepted-2
 unfolding lent_places
 returns-2 c =
     let at-long2 = c.before.before in
     let else1 = at-long2.before in
     let at_long = else1.before.before in
-    stopped _ _ at-long2.long2.result at-long2.long2.ensures (sym c.before.accepted2.ensures ∙ not-true _ c.if2.true)
-    ∙ passed _ _ at_long.long.result at_long.long.ensures (sym else1.before.accepted.ensures ∙ not-false _ else1.if1.false)
+    stopped _ _ at-long2.long-frames.result at-long2.long-frames.ensures (sym c.accepted-2.ensures ∙ not-true _ c.if-not-accepted-2.true)
+    ∙ passed _ _ at_long.long-before.result at_long.long-before.ensures (sym else1.accepted.ensures ∙ not-false _ else1.if-not-accepted.false)
 
-returns-3 : tie.Need-returns-3
+returns-3 : tie.Need-returns-then-not-accepted-3
 unfolding lent_places
 returns-3 c =
     let at-long3 = c.before.before in
@@ -37,18 +37,18 @@ returns-3 c =
     let at-long2 = else2.before.before in
     let else1 = at-long2.before in
     let at_long = else1.before.before in
-    stopped _ _ at-long3.long3.result at-long3.long3.ensures (sym c.before.accepted3.ensures ∙ not-true _ c.if3.true)
-    ∙ passed _ _ at-long2.long2.result at-long2.long2.ensures (sym else2.before.accepted2.ensures ∙ not-false _ else2.if2.false)
-    ∙ passed _ _ at_long.long.result at_long.long.ensures (sym else1.before.accepted.ensures ∙ not-false _ else1.if1.false)
+    stopped _ _ at-long3.long-after.result at-long3.long-after.ensures (sym c.accepted-3.ensures ∙ not-true _ c.if-not-accepted-3.true)
+    ∙ passed _ _ at-long2.long-frames.result at-long2.long-frames.ensures (sym else2.accepted-2.ensures ∙ not-false _ else2.if-not-accepted-2.false)
+    ∙ passed _ _ at_long.long-before.result at_long.long-before.ensures (sym else1.accepted.ensures ∙ not-false _ else1.if-not-accepted.false)
 
-mul_long_2 : tie.Need-overflow-mul-long-2
+mul_long_2 : tie.Need-overflow_mul-count-2
 mul_long_2 c =
     let else2 = c.before.before.before.before in
     let else1 = else2.before.before.before in
     let s = else1.before.before.before in
     omega (arith, bytes_bound s.args.count s.args.a.frame s.requires.0 s.requires.1.sized)
 
-returns-4 : tie.Need-returns-4
+returns-4 : tie.Need-returns
 unfolding lent_places
 returns-4 c =
     let else3 = c.before.before in
@@ -57,10 +57,10 @@ returns-4 c =
     let at-long2 = else2.before.before in
     let else1 = at-long2.before in
     let at_long = else1.before.before in
-    c.long4.ensures
-    ∙ passed _ _ at-long3.long3.result at-long3.long3.ensures (sym else3.before.accepted3.ensures ∙ not-false _ else3.if3.false)
-    ∙ passed _ _ at-long2.long2.result at-long2.long2.ensures (sym else2.before.accepted2.ensures ∙ not-false _ else2.if2.false)
-    ∙ passed _ _ at_long.long.result at_long.long.ensures (sym else1.before.accepted.ensures ∙ not-false _ else1.if1.false)
+    c.long.ensures
+    ∙ passed _ _ at-long3.long-after.result at-long3.long-after.ensures (sym else3.accepted-3.ensures ∙ not-false _ else3.if-not-accepted-3.false)
+    ∙ passed _ _ at-long2.long-frames.result at-long2.long-frames.ensures (sym else2.accepted-2.ensures ∙ not-false _ else2.if-not-accepted-2.false)
+    ∙ passed _ _ at_long.long-before.result at_long.long-before.ensures (sym else1.accepted.ensures ∙ not-false _ else1.if-not-accepted.false)
 
 pub room_spec : {M : Type 1} → statement M
 room_spec =

@@ -10,33 +10,33 @@ use Rattle.album_plan.proofs.Stretches.{small_share}
 use Rattle.album_plan.proofs.part_of.Statement.{statement}
 use Rattle.album_plan.proofs.part_of.Tie as tie
 
-returns : tie.Need-returns
+returns : tie.Need-returns-then-frames-gt540000
 unfolding part
-returns c = rw (lt-leb c.before.args.frames 540000 c.if1.true) refl
+returns c = rw (lt-leb c.args.frames 540000 c.if-frames-gt540000.true) refl
 
-returns-2 : tie.Need-returns-2
+returns-2 : tie.Need-returns-then-jobs-gt64
 unfolding part
 returns-2 c =
     let s = c.before.before in
-    rw (le-leb s.args.frames 540000 c.before.if1.false, lt-leb s.args.jobs 64 c.if2.true) refl
+    rw (le-leb s.args.frames 540000 c.if-frames-gt540000.false, lt-leb s.args.jobs 64 c.if-jobs-gt64.true) refl
 
-returns-3 : tie.Need-returns-3
+returns-3 : tie.Need-returns-then-jobs-j
 unfolding part
 returns-3 c =
     let s = c.before.before.before in
-    rw (le-leb s.args.frames 540000 c.before.before.if1.false, le-leb s.args.jobs 64 c.before.if2.false, le-ltb s.args.j s.args.jobs c.if3.true) refl
+    rw (le-leb s.args.frames 540000 c.if-frames-gt540000.false, le-leb s.args.jobs 64 c.if-jobs-gt64.false, le-ltb s.args.j s.args.jobs c.if-jobs-j.true) refl
 
-mul_t6 : tie.Need-overflow-mul-t6
+mul_t6 : tie.Need-overflow_mul-result
 mul_t6 c = let s = c.before.before.before in omega (arith, small_share ((s.args.frames + 127) / 128) s.args.j (omega arith) (omega arith))
 
-mul_t9 : tie.Need-overflow-mul-t9
+mul_t9 : tie.Need-overflow_mul-result-2
 mul_t9 c = let s = c.before.before.before in omega (arith, small_share ((s.args.frames + 127) / 128) (s.args.j + 1) (omega arith) (omega arith))
 
-returns-4 : tie.Need-returns-4
+returns-4 : tie.Need-returns
 unfolding part part_first pieces
 returns-4 c =
     let s = c.before.before.before in
-    rw (le-leb s.args.frames 540000 c.before.before.if1.false, le-leb s.args.jobs 64 c.before.if2.false, lt-ltb s.args.j s.args.jobs c.if3.false) refl
+    rw (le-leb s.args.frames 540000 c.if-frames-gt540000.false, le-leb s.args.jobs 64 c.if-jobs-gt64.false, lt-ltb s.args.j s.args.jobs c.if-jobs-j.false) refl
 
 pub part_of_spec : {M : Type 1} → statement M
 part_of_spec =

@@ -9,34 +9,34 @@ use Rattle.album_plan.specs.Plan.{piece}
 use Rattle.album_plan.proofs.piece_of.Statement.{statement}
 use Rattle.album_plan.proofs.piece_of.Tie as tie
 
-returns : tie.Need-returns
+returns : tie.Need-returns-then-channels-gt6
 unfolding piece
-returns c = let s = c.before.before in rw (lt-leb s.args.channels 6 c.before.if1.true) c.none.ensures
+returns c = let s = c.before.before in rw (lt-leb s.args.channels 6 c.if-channels-gt6.true) c.none.ensures
 
-returns-2 : tie.Need-returns-2
+returns-2 : tie.Need-returns-then-frames-gt540000
 unfolding piece frames_in
 returns-2 c =
     let then = c.before in
     let s = then.before.before in
-    rw (le-leb s.args.channels 6 then.before.if1.false, lt-leb _ 540000 then.if2.true) c.none2.ensures
+    rw (le-leb s.args.channels 6 then.if-channels-gt6.false, lt-leb _ 540000 then.if-frames-gt540000.true) c.none-then-frames-gt540000.ensures
 
-returns-3 : tie.Need-returns-3
+returns-3 : tie.Need-returns-then-frames-i
 unfolding piece frames_in pieces
 returns-3 c =
     let then = c.before in
     let s = then.before.before.before in
-    rw (le-leb s.args.channels 6 then.before.before.if1.false, le-leb _ 540000 then.before.if2.false, le-ltb s.args.i _ then.if3.true) c.none3.ensures
+    rw (le-leb s.args.channels 6 then.if-channels-gt6.false, le-leb _ 540000 then.if-frames-gt540000.false, le-ltb s.args.i _ then.if-frames-i.true) c.none-then-frames-i.ensures
 
 some_requires : tie.Need-some-requires
 unfolding frames_in
 some_requires c κs = record { few = omega arith; is = refl; most = omega arith; within = omega arith }
 
-returns-4 : tie.Need-returns-4
+returns-4 : tie.Need-returns
 unfolding piece frames_in pieces
 returns-4 c =
     let else = c.before in
     let s = else.before.before.before in
-    rw (le-leb s.args.channels 6 else.before.before.if1.false, le-leb _ 540000 else.before.if2.false, lt-ltb s.args.i _ else.if3.false) c.some.ensures
+    rw (le-leb s.args.channels 6 else.if-channels-gt6.false, le-leb _ 540000 else.if-frames-gt540000.false, lt-ltb s.args.i _ else.if-frames-i.false) c.some.ensures
 
 pub piece_of_spec : {M : Type 1} → statement M
 piece_of_spec =

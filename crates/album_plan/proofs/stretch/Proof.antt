@@ -14,8 +14,8 @@ returns c =
     let at_from = at_last.before.before in
     let s = at_from.before.before in
     let a = s.args in
-    let starts = ap (λ (w : FrameWindow). w.start) at_from.window.ensures ∙ begins a.channels a.samples a.frames a.first a.count s.requires at_from.before.less_one.result at_from.before.less_one.ensures in
-    let stops = ap (λ (w : FrameWindow). w.end) c.window2.ensures ∙ ends a.channels a.samples a.frames a.first a.count s.requires at_last.lesser-of.result (at_last.lesser-of.ensures ∙ rw at_last.before.less-one2.ensures refl) in
+    let starts = ap (λ (w : FrameWindow). w.start) at_from.window-from.ensures ∙ begins a.channels a.samples a.frames a.first a.count s.requires at_from.less_one.result at_from.less_one.ensures in
+    let stops = ap (λ (w : FrameWindow). w.end) c.window-to.ensures ∙ ends a.channels a.samples a.frames a.first a.count s.requires at_last.lesser_of-last.result (at_last.lesser_of-last.ensures ∙ rw at_last.less_one-2.ensures refl) in
     record { begins = starts; ends = stops; in_order = rw (starts, stops) (long_enough a.channels a.samples a.frames a.first a.count s.requires) }
 
 pub stretch_spec : {M : Type 1} → statement M

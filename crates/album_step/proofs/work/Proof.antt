@@ -10,33 +10,33 @@ use Rattle.album_step.proofs.work.Statement.{statement}
 use Rattle.album_step.proofs.work.Tie as tie
 
 -- places in the code: the start, the frame before gathered, the frames, the frame after, the two neighbours' parts, converted
-abbrev begin : tie.After-less-one → tie.Start
+abbrev begin : tie.After-less_one-previous → tie.Start
 begin c = let k = c.before.before.before.before in k.before.before.before.before
 
-abbrev previous : tie.After-gather-one → tie.After-less-one
+abbrev previous : tie.After-gather_one → tie.After-less_one-previous
 previous c = c.before.before
 
-abbrev first : tie.After-gather → tie.After-gather-one
+abbrev first : tie.After-gather → tie.After-gather_one
 first c = c.before.before.before.before
 
-abbrev middle : tie.After-gather-one2 → tie.After-gather
+abbrev middle : tie.After-gather_one-2 → tie.After-gather
 middle c = c.before.before.before.before
 
-abbrev last : tie.After-present → tie.After-gather-one2
+abbrev last : tie.After-present → tie.After-gather_one-2
 last c = c.before.before.before.before
 
-abbrev parted : tie.After-present2 → tie.After-present
+abbrev parted : tie.After-present-2 → tie.After-present
 parted c = c.before.before.before
 
-abbrev made : tie.After-result → tie.After-convert-parts
+abbrev made : tie.After-result-1 → tie.After-convert_parts-made
 made c = c.before.before.before.before
 
-gather_one_requires : tie.Need-gather-one-requires
+gather_one_requires : tie.Need-gather_one-requires
 gather_one_requires c κs e =
     let lo = c.before in
     let s = begin lo in
     let a = s.args in
-    rw lo.less_one.ensures (one_before a.head.now a.length a.conv a.total a.first a.count a.window.now a.start a.before.now a.frames.now a.after.now a.out.now s.pre e)
+    rw lo.less_one-previous.ensures (one_before a.head.now a.length a.conv a.total a.first a.count a.window.now a.start a.before.now a.frames.now a.after.now a.out.now s.pre e)
 
 gather_requires : tie.Need-gather-requires
 gather_requires c κs =
@@ -44,13 +44,13 @@ gather_requires c κs =
     let a = s.args in
     many a.head.now a.length a.conv a.total a.first a.count a.window.now a.start a.before.now a.frames.now a.after.now a.out.now s.pre
 
-gather_one_requires_2 : tie.Need-gather-one-requires-2
+gather_one_requires_2 : tie.Need-gather_one-requires-2
 gather_one_requires_2 c κs e =
     let s = begin (previous (first c.before.before.before)) in
     let a = s.args in
     one_after a.head.now a.length a.conv a.total a.first a.count a.window.now a.start a.before.now a.frames.now a.after.now a.out.now s.pre e
 
-same_length : tie.Need-same-length
+same_length : tie.Need-shape_of-before
 same_length c =
     let g1 = first (middle (last (parted (made c).before.before.before))) in
     g1.gather-one.kept.1.1.1.1.1.1.1.0

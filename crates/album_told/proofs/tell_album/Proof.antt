@@ -7,7 +7,7 @@ use Rattle.album_told.specs.Told.{album_numbers}
 use Rattle.album_told.proofs.tell_album.Statement.{statement}
 use Rattle.album_told.proofs.tell_album.Tie as tie
 
-returns : tie.Need-returns
+returns : tie.Need-returns-then-accepted
 unfolding album_numbers
 returns c =
     let put = c.before.before in
@@ -16,10 +16,10 @@ returns c =
     let yes = accepted_is _ (sym asked.accepted.ensures ∙ then1.if1.taken) in
     (ap (λ (r : Report). r.number) asked.before.of-verdict.ensures, put.put.ensures ∙ sym (exit_accepted _ _ _ yes))
 
-returns-2 : tie.Need-returns-2
+returns-2 : tie.Need-returns
 returns-2 c =
     let asked = c.before in
-    (ap (λ (r : Report). r.number) asked.before.of-verdict.ensures, sym (exit_refused _ _ _ (sym asked.accepted.ensures ∙ c.if1.false)))
+    (ap (λ (r : Report). r.number) asked.of_verdict-report.ensures, sym (exit_refused _ _ _ (sym asked.accepted.ensures ∙ c.if-accepted.false)))
 
 pub tell_album_spec : {M : Type 1} → statement M
 tell_album_spec =

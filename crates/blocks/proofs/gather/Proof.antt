@@ -14,7 +14,7 @@ use Rattle.blocks.proofs.gather.Statement.{statement}
 use Rattle.blocks.proofs.gather.Tie as tie
 
 -- places: the numbers of the cutoff are known; the function's start
-abbrev entry : tie.After-struct-known → tie.Start
+abbrev entry : tie.After-struct_known-1 → tie.Start
 entry c = c.before.before.before.before.before
 
 -- the step is the definition's, and small
@@ -24,17 +24,17 @@ step_is c = ap (λ z. z * (entry c.before).args.values) c.stride.ensures.0
 step_few : (c : tie.After-stride) → c.stride.result * (entry c.before).args.values ≤ 2 * 336
 step_few c = mul-le-mul c.stride.ensures.1 (entry c.before).requires.1.2
 
-mul_step : tie.Need-overflow-mul-step
+mul_step : tie.Need-overflow_mul-step
 mul_step c = omega (arith, step_few c)
 
-add_n : tie.Need-overflow-add-n
+add_n : tie.Need-overflow_add-n
 add_n c = omega (arith, step_few c.before, c.around.ensures.1)
 
 -- what is read is as the contract has it
-read_is : (c : tie.After-around) → c.before.stride.result * (entry c.before.before).args.values + c.around.result ≤ length (entry c.before.before).args.bytes.now
+read_is : (c : tie.After-around) → c.stride.result * (entry c.before.before).args.values + c.around.result ≤ length (entry c.before.before).args.bytes.now
 read_is c = omega (arith, step_is c.before, c.around.ensures.0, (entry c.before.before).requires.1.3)
 
-part_gather_end : tie.Need-slice-bounds-gather-end
+part_gather_end : tie.Need-slice_bounds-gather-end
 part_gather_end c = read_is c
 
 gather_requires : tie.Need-gather-requires
@@ -42,10 +42,10 @@ unfolding frame_count
 gather_requires c κs =
     let a = c.before in
     let s = entry a.before.before in
-    let n = a.before.stride.result * s.args.values + a.around.result in
+    let n = a.stride.result * s.args.values + a.around.result in
     (s.pre.0, (s.pre.1.0, omega (arith, s.pre.1.1, step_few a.before, a.around.ensures.1, part_length 0 n s.args.bytes.now (read_is a))))
 
-add_result : tie.Need-overflow-add-result
+add_result : tie.Need-overflow_add-result
 add_result c =
     let a = c.before.before.before.before in
     omega (arith, (entry a.before.before).requires.1.1, step_few a.before)
@@ -55,7 +55,7 @@ returns c =
     let g = c.before.before in
     let a = g.before.before in
     let s = entry a.before.before in
-    let n = a.before.stride.result * s.args.values + a.around.result in
+    let n = a.stride.result * s.args.values + a.around.result in
     let long = part_length 0 n s.args.bytes.now (read_is a) in
     (omega (arith, step_is a.before), first_held (held_some _ (omega (arith, step_is a.before, a.around.ensures.0, long)) g.gather.ensures) _ (omega (arith, step_is a.before, a.around.ensures.0, long, g.gather.auto.1.1.1.1.1.1.1.0)))
 

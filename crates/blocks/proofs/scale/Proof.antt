@@ -11,7 +11,7 @@ use Rattle.blocks.proofs.Sums.{part_scaled, part_told}
 use Rattle.blocks.proofs.scale.Statement.{statement}
 use Rattle.blocks.proofs.scale.Tie as tie
 
-scale_block_requires : tie.Need-scale-block-requires
+scale_block_requires : tie.Need-scale_block-requires
 scale_block_requires c κs =
     let s = c.before.before.before in
     let m = s.args.m in
@@ -21,7 +21,7 @@ scale_block_requires c κs =
 
 returns : tie.Need-returns
 returns c =
-    let g = c.before.scale-block in
+    let g = c.scale_block in
     let s = c.before.before.before.before.before in
     let m = s.args.m in
     let y = s.args.y.now in

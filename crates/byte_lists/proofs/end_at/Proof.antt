@@ -9,26 +9,26 @@ use Rattle.numbers.proofs.Lists.{below_or}
 use Rattle.byte_lists.proofs.end_at.Statement.{statement}
 use Rattle.byte_lists.proofs.end_at.Tie as tie
 
-abbrev invariant-loop : tie.invariant-loop
+abbrev invariant-loop : tie.invariant-loop-k
 invariant-loop text at end k₀ k = (at ≤ k) × (k ≤ length text) × ((i : ℕ) → at ≤ i → i < k → get_or text i 0 ≡ end → ⊥)
 
-abbrev decreases-loop : tie.decreases-loop
+abbrev decreases-loop : tie.decreases-loop-k
 decreases-loop text at end k₀ k = length text - k
 
-loop-holds : tie.Need-loop-init invariant-loop decreases-loop
+loop-holds : tie.Need-loop-k-init invariant-loop decreases-loop
 loop-holds c = (omega arith, omega arith, λ i l m e. omega arith)
 
-returns : tie.Need-returns invariant-loop decreases-loop
+returns : tie.Need-returns-then-text-k invariant-loop decreases-loop
 returns c =
-    let l = c.before.before.before.loop in
-    record { from = l.invariant.0; within = l.invariant.1; none_before = l.invariant.2; holds = λ h. c.if1.true }
+    let l = c.loop-k in
+    record { from = l.invariant.0; within = l.invariant.1; none_before = l.invariant.2; holds = λ h. c.if-text-k.true }
 
-loop-again : tie.Need-loop-preserved invariant-loop decreases-loop
-loop-again c = let l = c.before.before.before.loop in
-    (omega arith, omega arith, λ i p m e. ⊎_elim (λ q. l.invariant.2 i p q e) (λ q. let s : i ≡ l.k = omega arith in c.if1.false (rw s at e)) (below_or i l.k))
+loop-again : tie.Need-loop-k-preserved invariant-loop decreases-loop
+loop-again c = let l = c.loop-k in
+    (omega arith, omega arith, λ i p m e. ⊎_elim (λ q. l.invariant.2 i p q e) (λ q. let s : i ≡ l.k = omega arith in c.if-text-k.false (rw s at e)) (below_or i l.k))
 
-returns-2 : tie.Need-returns-2 invariant-loop decreases-loop
-returns-2 c = let l = c.before.loop in
+returns-2 : tie.Need-returns invariant-loop decreases-loop
+returns-2 c = let l = c.loop-k in
     record { from = l.invariant.0; within = l.invariant.1; none_before = l.invariant.2; holds = λ h. absurd (omega arith) }
 
 pub end_at_spec : {M : Type 1} → statement M

@@ -7,17 +7,17 @@ use Rattle.channel_bytes.proofs.copy.Statement.{statement}
 use Rattle.channel_bytes.proofs.copy.Tie as tie
 
 pick_requires : tie.Need-pick-requires
-pick_requires c κs = (search rules, search rules, search rules, search rules, c.before.before.before.before.requires.4 c.before.if1.true)
+pick_requires c κs = (search rules, search rules, search rules, search rules, c.requires.4 c.if-part-gt0.true)
 
-returns-2 : tie.Need-returns-2
+returns-2 : tie.Need-returns
 returns-2 c =
     let at-if1 = c.before.before.before.before in
-    let w = c.before.before.fill-idle.ensures in
+    let w = c.fill_idle.ensures in
     let s = at-if1.before.before.before in
     record {
       same = w.same;
       kept = w.kept;
-      done = λ k l. w.done k l ∙ sym (get_or-eq_default s.args.part.now 0x69 (omega (arith, at-if1.if1.false)));
+      done = λ k l. w.done k l ∙ sym (get_or-eq_default s.args.part.now 0x69 (omega (arith, at-if1.if-part-gt0.false)));
     }
 
 pub copy_spec : {M : Type 1} → statement M

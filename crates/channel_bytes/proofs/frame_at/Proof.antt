@@ -10,40 +10,40 @@ use Rattle.numbers.proofs.Lists.{part_end}
 use Rattle.channel_bytes.proofs.frame_at.Statement.{statement}
 use Rattle.channel_bytes.proofs.frame_at.Tie as tie
 
-returns : tie.Need-returns
+returns : tie.Need-returns-then-q-eq0
 unfolding frame_part
-returns c = rw (eq-eqb _ _ c.if1.true)
+returns c = rw (eq-eqb _ _ c.if-q-eq0.true)
 
-within : (c : tie.Then2) →
-    (c.before.before.before.before.before.args.p / 4704 - 1) * (4704 * c.before.before.before.before.before.args.ch) + 4704 * c.before.before.before.before.before.args.ch
-    ≤ c.before.before.before.before.before.args.count * (4704 * c.before.before.before.before.before.args.ch)
+within : (c : tie.Then-q-count) →
+    (c.args.p / 4704 - 1) * (4704 * c.args.ch) + 4704 * c.args.ch
+    ≤ c.args.count * (4704 * c.args.ch)
 within c = part_end _ _ _ (omega arith)
 
-mul_start : tie.Need-overflow-mul-start
+mul_start : tie.Need-overflow_mul-start
 mul_start c = omega (arith, within c)
 
-add_end : tie.Need-overflow-add-end
+add_end : tie.Need-overflow_add-end
 add_end c = omega (arith, within c)
 
-part_result_end : tie.Need-slice-bounds-result-end
+part_result_end : tie.Need-slice_bounds-result-end
 part_result_end c = omega (arith, within c)
 
-returns-2 : tie.Need-returns-2
+returns-2 : tie.Need-returns-then-q-count
 unfolding frame_part frame
 returns-2 c =
     let at-if1 = c.before.before in
     let entry = at-if1.before.before.before.before in
     let s = entry.args in
     let e : (s.p / 4704 - 1) * (4704 * s.ch) + 4704 * s.ch - (s.p / 4704 - 1) * (4704 * s.ch) ≡ 4704 * s.ch = omega arith in
-    rw (e, ne_eqb _ _ at-if1.if1.false, le-leb _ _ c.before.if2.true)
+    rw (e, ne_eqb _ _ at-if1.if-q-eq0.false, le-leb _ _ c.if-q-count.true)
 
-returns-3 : tie.Need-returns-3
+returns-3 : tie.Need-returns-then-q-count-2
 unfolding frame_part
-returns-3 c = rw (ne_eqb _ _ c.before.before.if1.false, lt-leb _ _ c.before.if2.false, eq-eqb _ _ c.if3.true)
+returns-3 c = rw (ne_eqb _ _ c.if-q-eq0.false, lt-leb _ _ c.if-q-count.false, eq-eqb _ _ c.if-q-count-2.true)
 
-returns-4 : tie.Need-returns-4
+returns-4 : tie.Need-returns
 unfolding frame_part
-returns-4 c = c.nothing.ensures ∙ sym (rw (ne_eqb _ _ c.before.before.before.if1.false, lt-leb _ _ c.before.before.if2.false, ne_eqb _ _ c.before.if3.false))
+returns-4 c = c.nothing.ensures ∙ sym (rw (ne_eqb _ _ c.if-q-eq0.false, lt-leb _ _ c.if-q-count.false, ne_eqb _ _ c.if-q-count-2.false))
 
 pub frame_at_spec : {M : Type 1} → statement M
 frame_at_spec =

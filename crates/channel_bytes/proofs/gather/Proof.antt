@@ -10,55 +10,55 @@ use Rattle.channel_bytes.proofs.Frames.{part_length, gathered}
 use Rattle.channel_bytes.proofs.gather.Statement.{statement}
 use Rattle.channel_bytes.proofs.gather.Tie as tie
 
-abbrev invariant-loop : tie.invariant-loop
+abbrev invariant-loop : tie.invariant-loop-k
 invariant-loop before frames after ch count c p bytes₀ n k₀ bytes k = (k ≤ length bytes₀) × (length bytes ≡ length bytes₀) × Held 0 (byte_at ch before frames after c) p k bytes
 
-abbrev decreases-loop : tie.decreases-loop
+abbrev decreases-loop : tie.decreases-loop-k
 decreases-loop before frames after ch count c p bytes₀ n k₀ bytes k = length bytes₀ - k
 
-loop-holds : tie.Need-loop-init invariant-loop decreases-loop
+loop-holds : tie.Need-loop-k-init invariant-loop decreases-loop
 loop-holds c = (omega arith, refl, record { is = λ j l. absurd (omega arith) })
 
-add_frame_at : tie.Need-overflow-add-frame-at invariant-loop decreases-loop
+add_frame_at : tie.Need-overflow_add-p invariant-loop decreases-loop
 add_frame_at c = omega arith
 
-add_off : tie.Need-overflow-add-off invariant-loop decreases-loop
+add_off : tie.Need-overflow_add-off invariant-loop decreases-loop
 add_off c = omega arith
 
-sub_least : tie.Need-overflow-sub-least invariant-loop decreases-loop
+sub_least : tie.Need-overflow_sub-off invariant-loop decreases-loop
 sub_least c = omega arith
 
-sub_least_2 : tie.Need-overflow-sub-least-2 invariant-loop decreases-loop
+sub_least_2 : tie.Need-overflow_sub-n invariant-loop decreases-loop
 sub_least_2 c = omega arith
 
 copy_requires : tie.Need-copy-requires invariant-loop decreases-loop
 copy_requires c κs =
     let l = c.before.before.before.before in
     let s = l.before.before.before.before.before in
-    (omega arith, omega arith, omega arith, omega arith, part_length s.requires.0 ((s.args.p + l.loop.k) / 4704) c.before.before.frame_at.ensures)
+    (omega arith, omega arith, omega arith, omega arith, part_length s.requires.0 ((s.args.p + l.loop-k.k) / 4704) c.frame_at-part.ensures)
 
-add_k : tie.Need-overflow-add-k invariant-loop decreases-loop
+add_k : tie.Need-overflow_add-k invariant-loop decreases-loop
 add_k c = omega arith
 
-loop-less : tie.Need-loop-smaller invariant-loop decreases-loop
-loop-less c = omega (arith, c.before.before.before.before.least.ensures.2 (omega arith) (omega arith))
+loop-less : tie.Need-loop-k-smaller invariant-loop decreases-loop
+loop-less c = omega (arith, c.least-m.ensures.2 (omega arith) (omega arith))
 
-loop-again : tie.Need-loop-preserved invariant-loop decreases-loop
+loop-again : tie.Need-loop-k-preserved invariant-loop decreases-loop
 loop-again c =
     let at-frame-at = c.before.before.before.before.before in
     let l = at-frame-at.before.before in
     let s = l.before.before.before.before.before in (
       omega arith,
-      c.before.before.copy.ensures.same ∙ l.loop.invariant.1,
-      gathered s.requires.0 s.args.c s.args.p l.loop.k c.before.before.before.before.least.result (omega arith) (omega arith)
-          at-frame-at.frame_at.ensures l.loop.invariant.2 c.before.before.copy.ensures,
+      c.copy.ensures.same ∙ l.loop-k.invariant.1,
+      gathered s.requires.0 s.args.c s.args.p l.loop-k.k c.least-m.result (omega arith) (omega arith)
+          at-frame-at.frame_at-part.ensures l.loop-k.invariant.2 c.copy.ensures,
     )
 
-same_length : tie.Need-same-length invariant-loop decreases-loop
-same_length c = c.before.loop.invariant.1
+same_length : tie.Need-shape_of-bytes invariant-loop decreases-loop
+same_length c = c.loop-k.invariant.1
 
 returns : tie.Need-returns invariant-loop decreases-loop
-returns c = record { is = λ k l. c.before.loop.invariant.2.is k (omega arith) }
+returns c = record { is = λ k l. c.loop-k.invariant.2.is k (omega arith) }
 
 pub gather_spec : {M : Type 1} → statement M
 gather_spec =

@@ -13,17 +13,17 @@ use Rattle.columns.proofs.level.Statement.{statement}
 use Rattle.columns.proofs.level.Tie as tie
 
 -- as many blanks as are left
-module _ (c : tie.After-level-width) where
+module _ (c : tie.After-level_width) where
   abbrev entry : tie.Start
   entry = c.before.before.before
 
-  width : c.level-width.result ≡ length (level entry.args.empty entry.args.z)
-  width = c.level-width.ensures ∙ ap (λ (z : ℤ). length (level entry.args.empty z)) (to_z-of_z entry.fits.z)
+  width : c.level_width.result ≡ length (level entry.args.empty entry.args.z)
+  width = c.level_width.ensures ∙ ap (λ (z : ℤ). length (level entry.args.empty z)) (to_z-of_z entry.fits.z)
 
-sub_blanks : tie.Need-overflow-sub-blanks
+sub_blanks : tie.Need-overflow_sub-level_width
 sub_blanks c = omega (arith, width c)
 
-blanks_requires : tie.Need-blanks-requires
+blanks_requires : tie.Need-blanks-next-requires
 blanks_requires c κs = omega (arith, width c)
 
 put_requires : tie.Need-put-requires
@@ -31,17 +31,17 @@ put_requires c κs =
     let at-if1 = c.before.before in
     let at-blanks = at-if1.before.before.before in
     let at_width = at-blanks.before in
-    let e = no_level _ (entry at_width).args.z at-if1.if1.true in
-    omega (arith, ap length e, width at_width, at-blanks.blanks.ensures.after, length-replicate {A = ℕ} (12 - at_width.level-width.result) 32)
+    let e = no_level _ (entry at_width).args.z at-if1.if-empty.true in
+    omega (arith, ap length e, width at_width, at-blanks.blanks-next.ensures.after, length-replicate {A = ℕ} (12 - at_width.level_width.result) 32)
 
-returns : tie.Need-returns
+returns : tie.Need-returns-then-empty
 returns c =
     let at-put = c.before.before in
     let at-if1 = at-put.before.before.before in
     let at-blanks = at-if1.before.before.before in
     let at_width = at-blanks.before in
-    let e = no_level _ (entry at_width).args.z at-if1.if1.true in
-    rw e (in_column (width at_width ∙ ap length e) (rw e at (entry at_width).requires.0) at-blanks.blanks.ensures at-put.put.ensures)
+    let e = no_level _ (entry at_width).args.z at-if1.if-empty.true in
+    rw e (in_column (width at_width ∙ ap length e) (rw e at (entry at_width).requires.0) at-blanks.blanks-next.ensures at-put.put.ensures)
 
 signed_requires : tie.Need-signed-requires
 signed_requires c κs =
@@ -49,18 +49,18 @@ signed_requires c κs =
     let at-blanks = at-if1.before.before.before in
     let at_width = at-blanks.before in
     let s = entry at_width in
-    let e = some_level _ s.args.z at-if1.if1.false in
-    rw (to_z-of_z s.fits.z) (omega (arith, ap length e, width at_width, at-blanks.blanks.ensures.after, length-replicate {A = ℕ} (12 - at_width.level-width.result) 32))
+    let e = some_level _ s.args.z at-if1.if-empty.false in
+    rw (to_z-of_z s.fits.z) (omega (arith, ap length e, width at_width, at-blanks.blanks-next.ensures.after, length-replicate {A = ℕ} (12 - at_width.level_width.result) 32))
 
-returns-2 : tie.Need-returns-2
+returns-2 : tie.Need-returns
 returns-2 c =
     let at-signed = c.before.before in
     let at-if1 = at-signed.before.before in
     let at-blanks = at-if1.before.before.before in
     let at_width = at-blanks.before in
     let s = entry at_width in
-    let e = some_level _ s.args.z at-if1.if1.false in
-    rw e (in_column (width at_width ∙ ap length e) (rw e at s.pre.0) at-blanks.blanks.ensures (rw (to_z-of_z s.fits.z) at at-signed.signed.ensures))
+    let e = some_level _ s.args.z at-if1.if-empty.false in
+    rw e (in_column (width at_width ∙ ap length e) (rw e at s.pre.0) at-blanks.blanks-next.ensures (rw (to_z-of_z s.fits.z) at at-signed.signed.ensures))
 
 pub level_spec : {M : Type 1} → statement M
 level_spec =
@@ -69,7 +69,6 @@ level_spec =
     (λ c κs. search rules)
     sub_blanks
     blanks_requires
-    (λ c. search rules)
     put_requires
     (λ c. search rules)
     returns

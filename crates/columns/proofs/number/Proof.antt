@@ -11,15 +11,15 @@ decimal_requires : tie.Need-decimal-requires
 decimal_requires c κs =
     let at-blanks = c.before.before.before in
     let at-digits = at-blanks.before in
-    let s = at-digits.before.before.before.args in
-    omega (arith, at-digits.digits.ensures, at-blanks.blanks.ensures.after, length-replicate {A = ℕ} (s.width - at-digits.digits.result) 32)
+    let s = at-digits.args in
+    omega (arith, at-digits.digits.ensures, at-blanks.blanks-next.ensures.after, length-replicate {A = ℕ} (s.width - at-digits.digits.result) 32)
 
 returns : tie.Need-returns
 returns c =
     let at-decimal = c.before.before in
     let at-blanks = at-decimal.before.before.before.before in
     let at-digits = at-blanks.before in
-    in_column at-digits.digits.ensures.0 at-digits.before.before.before.requires.0 at-blanks.blanks.ensures at-decimal.decimal.ensures
+    in_column at-digits.digits.ensures.0 at-digits.requires.0 at-blanks.blanks-next.ensures at-decimal.decimal.ensures
 
 pub number_spec : {M : Type 1} → statement M
 number_spec = tie.close (tie.spec (λ c κs. search rules) (λ c. search rules) (λ c κs. search rules) decimal_requires (λ c. search rules) returns)

@@ -23,45 +23,45 @@ read_on s k w ws rest e =
     let n : k + suc (length rest) ≡ k + 1 + length rest = omega arith in
     rw (e, n, add-one) refl
 
-abbrev invariant-loop : tie.invariant-loop
+abbrev invariant-loop : tie.invariant-loop-at
 invariant-loop words s₀ k₀ at₀ s k at =
     (finish (after s k (words_of (drop at words))) (k + length (words_of (drop at words))) ≡ line_of (words_of words)) × (k ≤ at) × (at ≤ length words + 1)
 
-abbrev decreases-loop : tie.decreases-loop
+abbrev decreases-loop : tie.decreases-loop-at
 decreases-loop words s₀ k₀ at₀ s k at = length words + 1 - at
 
-loop-holds : tie.Need-loop-init invariant-loop decreases-loop
+loop-holds : tie.Need-loop-at-init invariant-loop decreases-loop
 unfolding line_of
-loop-holds c = (rw (c.start.ensures, zero-add) refl, omega arith, omega arith)
+loop-holds c = (rw (c.start-s.ensures, zero-add) refl, omega arith, omega arith)
 
-end_at_requires : tie.Need-end-at-requires invariant-loop decreases-loop
+end_at_requires : tie.Need-end_at-end-requires invariant-loop decreases-loop
 end_at_requires c κs = omega arith
 
-add_k : tie.Need-overflow-add-k invariant-loop decreases-loop
+add_k : tie.Need-overflow_add-k invariant-loop decreases-loop
 add_k c = omega arith
 
-add_at : tie.Need-overflow-add-at invariant-loop decreases-loop
-add_at c = omega (arith, c.before.before.end-at.ensures.within)
+add_at : tie.Need-overflow_add-at invariant-loop decreases-loop
+add_at c = omega (arith, c.end_at-end.ensures.within)
 
-loop-less : tie.Need-loop-smaller invariant-loop decreases-loop
-loop-less c = let e = c.before.before.end-at.ensures in omega (arith, e.from)
+loop-less : tie.Need-loop-at-smaller invariant-loop decreases-loop
+loop-less c = let e = c.end_at-end.ensures in omega (arith, e.from)
 
-loop-again : tie.Need-loop-preserved invariant-loop decreases-loop
+loop-again : tie.Need-loop-at-preserved invariant-loop decreases-loop
 loop-again c =
     let found = c.before.before in
     let at-loop = found.before.before in
-    let words = at-loop.before.before.before.args.words.now in
-    let l = at-loop.loop in
-    let e = found.end-at.ensures in
-    let on = read_on l.s l.k _ _ _ (cut words l.at found.end-at.result (omega arith) e) in
-    (rw c.next.ensures (sym on ∙ l.invariant.0), omega (arith, e.from), omega (arith, e.within))
+    let words = at-loop.args.words.now in
+    let l = at-loop.loop-at in
+    let e = found.end_at-end.ensures in
+    let on = read_on l.s l.k _ _ _ (cut words l.at found.end_at-end.result (omega arith) e) in
+    (rw c.next-s.ensures (sym on ∙ l.invariant.0), omega (arith, e.from), omega (arith, e.within))
 
 returns : tie.Need-returns invariant-loop decreases-loop
 unfolding words_of after
 returns c =
     let at-loop = c.before.before in
-    let words = at-loop.before.before.before.args.words.now in
-    let l = at-loop.loop in
+    let words = at-loop.args.words.now in
+    let l = at-loop.loop-at in
     let none : drop l.at words ≡ [] = drop_of_length-le words {i = l.at} (omega arith) in
     rw (c.finish.ensures ∙ ap (finish l.s) (sym (add-zero l.k)) ∙ (rw none at l.invariant.0)) (line_read (words_of words))
 

@@ -13,24 +13,24 @@ use Rattle.command_grammar.proofs.Values.{gain_is, gain_small}
 use Rattle.command_options.proofs.gain_of.Statement.{statement}
 use Rattle.command_options.proofs.gain_of.Tie as tie
 
-module _ (c : tie.After-decibels) where
+module _ (c : tie.After-decibels-db) where
   abbrev word : List ℕ
-  word = c.before.before.args.word.now
+  word = c.args.word.now
 
   -- what the sum is
-  sum : to_z w32 (of_z w32 c.decibels.result) +ℤ pos 120 ≡ pos (gain_of word)
-  sum = rw (to_z-of_z {w = w32} {z = c.decibels.result} (record { sfits = c.decibels.type-inv })) (gain_is c.decibels.ensures)
+  sum : to_z w32 (of_z w32 c.decibels-db.result) +ℤ pos 120 ≡ pos (gain_of word)
+  sum = rw (to_z-of_z {w = w32} {z = c.decibels-db.result} (record { sfits = c.decibels-db.type_inv })) (gain_is c.decibels-db.ensures)
 
   small : SFits w32 (pos (gain_of word))
   small = record { sfits = omega (arith, gain_small word) }
 
-  back : to_z w32 (of_z w32 (to_z w32 (of_z w32 c.decibels.result) +ℤ pos 120)) ≡ pos (gain_of word)
+  back : to_z w32 (of_z w32 (to_z w32 (of_z w32 c.decibels-db.result) +ℤ pos 120)) ≡ pos (gain_of word)
   back = rw sum (to_z-of_z {w = w32} {z = pos (gain_of word)} small)
 
-add_result : tie.Need-overflow-add-result
+add_result : tie.Need-overflow_add-result
 add_result c = rw (sum c) (small c)
 
-cast_result : tie.Need-overflow-cast-result
+cast_result : tie.Need-overflow_cast-result
 cast_result c = rw (back c) (tt, record { fits = omega (arith, gain_small (word c)) })
 
 returns : tie.Need-returns

@@ -5,13 +5,13 @@ use Rattle.command_grammar.specs.Reading.{input}
 use Rattle.command_options.proofs.input.Statement.{statement}
 use Rattle.command_options.proofs.input.Tie as tie
 
-returns : tie.Need-returns
+returns : tie.Need-returns-then-name
 unfolding input
-returns c = rw (sym c.before.before.name.ensures ∙ c.before.if1.true) c.state.ensures
+returns c = rw (sym c.name.ensures ∙ c.if-name.true) c.state.ensures
 
-returns-2 : tie.Need-returns-2
+returns-2 : tie.Need-returns
 unfolding input
-returns-2 c = rw (sym c.before.before.name.ensures ∙ c.before.if1.false) c.state2.ensures
+returns-2 c = rw (sym c.name.ensures ∙ c.if-name.false) c.state-2.ensures
 
 pub input_spec : {M : Type 1} → statement M
 input_spec = tie.close (tie.spec (λ c κs. search rules) (λ c κs. search rules) returns (λ c κs. search rules) returns-2)

@@ -5,11 +5,11 @@ use Rattle.command_grammar.proofs.Values.{jobs_is, no_jobs}
 use Rattle.command_options.proofs.jobs_of.Statement.{statement}
 use Rattle.command_options.proofs.jobs_of.Tie as tie
 
-returns : tie.Need-returns
-returns c = sym (no_jobs c.before.number.ensures c.if1.true)
+returns : tie.Need-returns-then-n-gt64
+returns c = sym (no_jobs c.number-n.ensures c.if-n-gt64.true)
 
-returns-2 : tie.Need-returns-2
-returns-2 c = sym (jobs_is c.before.number.ensures c.if1.false)
+returns-2 : tie.Need-returns
+returns-2 c = sym (jobs_is c.number-n.ensures c.if-n-gt64.false)
 
 pub jobs_of_spec : {M : Type 1} → statement M
 jobs_of_spec = tie.close (tie.spec (λ c κs. search rules) returns (λ c. search rules) returns-2)

@@ -11,20 +11,20 @@ use Rattle.command_words.specs.Words.{name}
 use Rattle.command_words.proofs.name.Statement.{statement}
 use Rattle.command_words.proofs.name.Tie as tie
 
-returns : tie.Need-returns
+returns : tie.Need-returns-then-word-eq0
 unfolding name
 returns c =
-    let w = c.before.args.word.now in
+    let w = c.args.word.now in
     let e : ltb 0 (length w) ≡ false = le-ltb 0 (length w) (omega arith) in
     rw e refl
 
-returns-2 : tie.Need-returns-2
+returns-2 : tie.Need-returns-then-marked
 unfolding name
-returns-2 c = rw (lt-ltb 0 _ (pos_of_ne-zero c.before.if1.false), c.if2.true) refl
+returns-2 c = rw (lt-ltb 0 _ (pos_of_ne-zero c.if-word-eq0.false), c.if-marked.true) refl
 
-returns-3 : tie.Need-returns-3
+returns-3 : tie.Need-returns
 unfolding name
-returns-3 c = rw (lt-ltb 0 _ (pos_of_ne-zero c.before.before.if1.false), c.before.if2.false) refl
+returns-3 c = rw (lt-ltb 0 _ (pos_of_ne-zero c.if-word-eq0.false), c.if-marked.false) refl
 
 pub name_spec : {M : Type 1} → statement M
 name_spec = tie.close (tie.spec returns returns-2 (λ c. search rules) returns-3)

@@ -4,10 +4,10 @@ use borrow.Author.Rules.{rules}
 use Rattle.decibels.proofs.main.Statement.{statement}
 use Rattle.decibels.proofs.main.Tie as tie
 
-abbrev invariant-loop : tie.invariant-loop
+abbrev invariant-loop : tie.invariant-loop-k
 invariant-loop k₀ k = k ≤ 145
 
-abbrev decreases-loop : tie.decreases-loop
+abbrev decreases-loop : tie.decreases-loop-k
 decreases-loop k₀ k = 145 - k
 
 pub main_spec : {M : Type 1} → statement M

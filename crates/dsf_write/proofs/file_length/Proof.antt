@@ -8,31 +8,31 @@ use Rattle.dsf_write.proofs.Writing.{accepted_few}
 use Rattle.dsf_write.proofs.file_length.Statement.{statement}
 use Rattle.dsf_write.proofs.file_length.Tie as tie
 
-verdict_requires : tie.Need-verdict-requires
+verdict_requires : tie.Need-verdict-verdict-requires
 verdict_requires c κs = search rules
 
-enum_told : tie.Need-enum-told
+enum_told : tie.Need-enum_told-1
 enum_told c = search rules
 
-length_of_requires : tie.Need-length-of-requires
+length_of_requires : tie.Need-length_of-length-requires
 length_of_requires c κs =
-    let v = c.before.before.verdict in
-    let f = accepted_few _ _ (sym v.ensures ∙ ap decision c.enum_told.given.1) in
+    let v = c.verdict-verdict in
+    let f = accepted_few _ _ (sym v.ensures ∙ ap decision c.in-Accepted.is) in
     (f.0, f.1, f.3)
 
-enum_told_2 : tie.Need-enum-told-2
+enum_told_2 : tie.Need-enum_told-in-Refused
 enum_told_2 c = search rules
 
-returns : tie.Need-returns
+returns : tie.Need-returns-in-Accepted
 returns c =
-    let v = c.before.before.before.verdict in
-    let e = sym v.ensures ∙ ap decision c.before.enum_told.given.1 in
-    record { decided = v.ensures; sized = c.length_of.ensures ∙ sym (exit_accepted _ _ _ e) }
+    let v = c.verdict-verdict in
+    let e = sym v.ensures ∙ ap decision c.in-Accepted.is in
+    record { decided = v.ensures; sized = c.length_of-length.ensures ∙ sym (exit_accepted _ _ _ e) }
 
-returns-2 : tie.Need-returns-2
+returns-2 : tie.Need-returns-in-Refused
 returns-2 c =
-    let v = c.before.before.verdict in
-    let told = c.enum-told2.given in
+    let v = c.verdict-verdict in
+    let told = c.in-Refused.given in
     let e = ap is_accepted (sym v.ensures ∙ ap decision told.1) ∙ error_refuses told.0.0 in
     record { decided = v.ensures; sized = sym (exit_refused _ _ _ e) }
 

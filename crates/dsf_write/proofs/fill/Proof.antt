@@ -9,32 +9,32 @@ use Rattle.dsf_write.proofs.Writing.{whole_file, header_put, frames_fit, frames_
 use Rattle.dsf_write.proofs.fill.Statement.{statement}
 use Rattle.dsf_write.proofs.fill.Tie as tie
 
-mul_bytes : tie.Need-overflow-mul-bytes
-mul_bytes c = omega (arith, c.before.before.requires.0.six)
+mul_bytes : tie.Need-overflow_mul-bytes
+mul_bytes c = omega (arith, c.requires.0.six)
 
-div_bytes : tie.Need-nonzero-div-bytes
-div_bytes c = omega (arith, c.before.before.requires.0.one)
+div_bytes : tie.Need-nonzero_div-bytes
+div_bytes c = omega (arith, c.requires.0.one)
 
-mul_bytes_2 : tie.Need-overflow-mul-bytes-2
+mul_bytes_2 : tie.Need-overflow_mul-bytes-2
 unfolding frame_count
-mul_bytes_2 c = omega (arith, c.before.before.requires.0.few)
+mul_bytes_2 c = omega (arith, c.requires.0.few)
 
-mul_samples : tie.Need-overflow-mul-samples
+mul_samples : tie.Need-overflow_mul-samples
 unfolding frame_count
-mul_samples c = omega (arith, c.before.before.requires.0.few)
+mul_samples c = omega (arith, c.requires.0.few)
 
-data_bytes_requires : tie.Need-data-bytes-requires
-data_bytes_requires c κs = c.before.before.requires.0.six
+data_bytes_requires : tie.Need-data_bytes-need-requires
+data_bytes_requires c κs = c.requires.0.six
 
-kind_of_requires : tie.Need-kind-of-requires
-kind_of_requires c κs = c.before.before.before.requires.0.six
+kind_of_requires : tie.Need-kind_of-kind-requires
+kind_of_requires c κs = c.requires.0.six
 
-put_header_requires : tie.Need-put-header-requires
+put_header_requires : tie.Need-put_header-requires
 put_header_requires c κs =
     let s = c.before.before.before.before.before in
-    (s.requires.0.one, s.requires.0.six, c.before.kind-of.ensures, omega (arith, s.requires.1, length_is s.args.channels s.args.frames.now))
+    (s.requires.0.one, s.requires.0.six, c.kind_of-kind.ensures, omega (arith, s.requires.1, length_is s.args.channels s.args.frames.now))
 
-put_data_requires : tie.Need-put-data-requires
+put_data_requires : tie.Need-put_data-requires
 unfolding frame_count written_channel
 put_data_requires c κs =
     let headed = c.before.before.before in
@@ -42,7 +42,7 @@ put_data_requires c κs =
     let s = needed.before.before.before in
     let n = s.args.channels in
     let fr = s.args.frames.now in
-    record { one = s.requires.0.one; bytes_are = refl; held = frames_fit n fr; room = frames_few n fr s.requires.0; lent = headed.put-header.ensures.same ∙ s.requires.1 ∙ length_is n fr }
+    record { one = s.requires.0.one; bytes_are = refl; held = frames_fit n fr; room = frames_few n fr s.requires.0; lent = headed.put_header.ensures.same ∙ s.requires.1 ∙ length_is n fr }
 
 returns : tie.Need-returns
 unfolding frame_count written_data written_channel written
@@ -53,9 +53,9 @@ returns c =
     let s = needed.before.before.before in
     let n = s.args.channels in
     let fr = s.args.frames.now in
-    let e : needed.data_bytes.result ≡ written_data n fr = needed.data_bytes.ensures.0 in
-    let h = headed.put-header.ensures in
-    let w = whole_file _ _ _ (written_byte n fr) (written_data n fr) (header_put _ _ _ _ _ _ h) (h.same ∙ s.requires.1 ∙ length_is n fr) filled.put-data.ensures in
+    let e : needed.data_bytes-need.result ≡ written_data n fr = needed.data_bytes-need.ensures.0 in
+    let h = headed.put_header.ensures in
+    let w = whole_file _ _ _ (written_byte n fr) (written_data n fr) (header_put _ _ _ _ _ _ h) (h.same ∙ s.requires.1 ∙ length_is n fr) filled.put_data.ensures in
     rw e at w
 
 pub fill_spec : {M : Type 1} → statement M

@@ -7,13 +7,13 @@ use Rattle.dsf_write.specs.Written.{file_length}
 use Rattle.dsf_write.proofs.length_of.Statement.{statement}
 use Rattle.dsf_write.proofs.length_of.Tie as tie
 
-div_count : tie.Need-nonzero-div-count
+div_count : tie.Need-nonzero_div-count
 div_count c = omega (arith, c.requires)
 
-mul_samples : tie.Need-overflow-mul-samples
+mul_samples : tie.Need-overflow_mul-samples
 mul_samples c = omega (arith, c.requires)
 
-mul_samples_2 : tie.Need-overflow-mul-samples-2
+mul_samples_2 : tie.Need-overflow_mul-samples-2
 mul_samples_2 c = omega (arith, c.requires)
 
 returns : tie.Need-returns

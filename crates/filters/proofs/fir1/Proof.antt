@@ -22,11 +22,11 @@ centre_requires c κs =
     let tapped = c.before.before in
     let raised = tapped.before.before in
     let s = raised.before.before in
-    ((omega arith, got 0 s.requires.1.0.small tapped.c.given), raised.raise.ensures.low)
+    ((omega arith, got 0 s.requires.1.0.small tapped.c-1.given), raised.raise.ensures.low)
 
 -- places in the code, from the centre's products back: the centre's tap is read; the copy is there
 module _ (c : tie.After-centre) where
-  abbrev tapped : tie.After-c
+  abbrev tapped : tie.After-c-1
   tapped = c.before.before.before
 
   abbrev copied : tie.After-raise
@@ -35,7 +35,7 @@ module _ (c : tie.After-centre) where
   abbrev start : tie.Start
   start = copied.before.before
 
-add_pairs_requires : tie.Need-add-pairs-requires
+add_pairs_requires : tie.Need-add_pairs-requires
 add_pairs_requires c κs =
     let p = c.before.before.before in
     let h = (start p).args.h.now in
@@ -43,22 +43,22 @@ add_pairs_requires c κs =
     let low = (copied p).raise.ensures.low in
     let u = p.centre.ensures.same in (
       (omega arith, omega arith, omega arith, omega arith, omega arith, omega arith),
-      (small, (low, filled_small ((127 - length h) * 2 ^ 56) p.centre.ensures (λ j. omega (arith, centre_size (t (at0 h 0)) (got 0 small (tapped p).c.given) low (length h - 1 + j))))),
+      (small, (low, filled_small ((127 - length h) * 2 ^ 56) p.centre.ensures (λ j. omega (arith, centre_size (t (at0 h 0)) (got 0 small (tapped p).c-1.given) low (length h - 1 + j))))),
     )
 
 -- the sums, lifted by 2^53, are there
-module _ (c : tie.After-add-pairs) where
+module _ (c : tie.After-add_pairs) where
   abbrev centred : tie.After-centre
   centred = c.before.before.before.before
 
   abbrev sum : ℕ → ℤ
   sum = same_rate (start centred).args.h.now (start centred).args.x.now
 
-  summed : Filled (λ k. sum k +ℤ pos (2 ^ 53)) (start centred).args.y.now c.add-pairs.new.0
+  summed : Filled (λ k. sum k +ℤ pos (2 ^ 53)) (start centred).args.y.now c.add_pairs.new.0
   summed =
       let s = start centred in
       same_filled s.args.h.now s.args.x.now s.pre.1.0
-      (fir_filled s.args.h.now s.args.x.now _ (tapped centred).c.given (omega arith) (copied centred).raise.ensures centred.centre.ensures c.add-pairs.ensures)
+      (fir_filled s.args.h.now s.args.x.now _ (tapped centred).c-1.given (omega arith) (copied centred).raise.ensures centred.centre.ensures c.add_pairs.ensures)
 
 all24_requires : tie.Need-all24-requires
 all24_requires c κs =
@@ -68,7 +68,7 @@ all24_requires c κs =
 returns : tie.Need-returns
 returns c =
     let q = c.before.before.before.before in
-    filled_again (summed q) (filled_round (sum q) (summed q) 24 (λ j. j) c.before.all24.ensures (λ j m. omega (arith, (summed q).same)))
+    filled_again (summed q) (filled_round (sum q) (summed q) 24 (λ j. j) c.all24.ensures (λ j m. omega (arith, (summed q).same)))
 
 pub fir1_spec : {M : Type 1} → statement M
 fir1_spec =

@@ -13,8 +13,8 @@ raise_requires : tie.Need-raise-requires
 raise_requires c κs = let s = c.before in (omega arith, (s.requires.1.1.0, low_zeros 247))
 
 -- places in the code, from where the arrays are lent to `places` back: the taps are there, the copy is there
-module _ (c : tie.After-v3) where
-  abbrev tapped : tie.After-half-taps
+module _ (c : tie.After-v-3-1) where
+  abbrev tapped : tie.After-half_taps-h
   tapped = c.before.before.before
 
   abbrev copied : tie.After-raise
@@ -28,13 +28,13 @@ places_requires c κs =
     let s = start c in
     let r = (copied c).raise.ensures in
     let long = length-replicate {A = ℕ} 247 0 in
-    rw (tapped c).half-taps.ensures ((odd_eight, omega (arith, long, (copied c).raise.auto.1.0), omega (arith, long, (copied c).raise.auto.1.0)), (between_HB.small, (r.low, (s.pre.1.0, band_whole s.args.y.now s.args.xo.now _ (omega arith) r s.pre.1.1.1))))
+    rw (tapped c).half_taps-h.ensures ((odd_eight, omega (arith, long, (copied c).raise.auto.1.0), omega (arith, long, (copied c).raise.auto.1.0)), (between_HB.small, (r.low, (s.pre.1.0, band_whole s.args.y.now s.args.xo.now _ (omega arith) r s.pre.1.1.1))))
 
 returns : tie.Need-returns
 returns c =
     let lent = c.before.before in
     let s = start lent in
-    band_rounded s.args.y.now s.args.xo.now _ (omega arith) (copied lent).raise.ensures (rw (tapped lent).half-taps.ensures at c.before.places.ensures)
+    band_rounded s.args.y.now s.args.xo.now _ (omega arith) (copied lent).raise.ensures (rw (tapped lent).half_taps-h.ensures at c.places.ensures)
 
 pub half_spec : {M : Type 1} → statement M
 half_spec =

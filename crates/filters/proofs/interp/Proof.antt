@@ -6,13 +6,13 @@ use Rattle.filters.proofs.Bands.{odd_eight}
 use Rattle.filters.proofs.interp.Statement.{statement}
 use Rattle.filters.proofs.interp.Tie as tie
 
-middle_by_requires : tie.Need-middle-by-requires
+middle_by_requires : tie.Need-middle_by-requires
 middle_by_requires c κs =
     let k = c.before.before.before in
-    rw c.before.before.half-taps.ensures ((omega (arith, odd_eight), omega (arith, odd_eight), omega arith), (between_HB, (k.requires.1.0, k.requires.1.1)))
+    rw c.half_taps-h.ensures ((omega (arith, odd_eight), omega (arith, odd_eight), omega arith), (between_HB, (k.requires.1.0, k.requires.1.1)))
 
 returns : tie.Need-returns
-returns c = rw c.before.before.before.before.half-taps.ensures at c.before.middle-by.ensures
+returns c = rw c.half_taps-h.ensures at c.middle_by.ensures
 
 pub interp_spec : {M : Type 1} → statement M
 interp_spec =

@@ -20,7 +20,7 @@ module _ (c : tie.After-level) where
   abbrev start : tie.Start
   start = copied.before.before
 
-add_pairs_requires : tie.Need-add-pairs-requires
+add_pairs_requires : tie.Need-add_pairs-requires
 add_pairs_requires c κs =
     let p = c.before.before.before in
     let u = p.level.ensures.same in (
@@ -29,17 +29,17 @@ add_pairs_requires c κs =
     )
 
 -- the sums, lifted by 2^53, are there
-module _ (c : tie.After-add-pairs) where
+module _ (c : tie.After-add_pairs) where
   abbrev levelled : tie.After-level
   levelled = c.before.before.before.before
 
   abbrev sum : ℕ → ℤ
   sum = middle (start levelled).args.ho.now (start levelled).args.x.now
 
-  summed : Filled (λ k. sum k +ℤ pos (2 ^ 53)) (start levelled).args.y.now c.add-pairs.new.0
+  summed : Filled (λ k. sum k +ℤ pos (2 ^ 53)) (start levelled).args.y.now c.add_pairs.new.0
   summed =
       let s = start levelled in
-      middle_filled s.args.ho.now s.args.x.now _ (omega arith) (copied levelled).raise.ensures s.pre.1.0 levelled.level.ensures c.add-pairs.ensures
+      middle_filled s.args.ho.now s.args.x.now _ (omega arith) (copied levelled).raise.ensures s.pre.1.0 levelled.level.ensures c.add_pairs.ensures
 
 all23_requires : tie.Need-all23-requires
 all23_requires c κs =
@@ -49,7 +49,7 @@ all23_requires c κs =
 returns : tie.Need-returns
 returns c =
     let q = c.before.before.before.before in
-    filled_again (summed q) (filled_round (sum q) (summed q) 23 (λ j. j) c.before.all23.ensures (λ j m. omega (arith, (summed q).same)))
+    filled_again (summed q) (filled_round (sum q) (summed q) 23 (λ j. j) c.all23.ensures (λ j m. omega (arith, (summed q).same)))
 
 pub middle_by_spec : {M : Type 1} → statement M
 middle_by_spec =

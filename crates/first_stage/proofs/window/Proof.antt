@@ -11,9 +11,9 @@ use Rattle.first_stage.proofs.window.Tie as tie
 
 returns : tie.Need-returns
 returns c =
-    let k = c.before.before.before.args in
+    let k = c.args in
     let n : k.at + 2 * k.half - k.at ≡ 2 * k.half = omega arith in
-    val _ _ c.table-sum.type-inv (c.table-sum.ensures ∙ window_is k.tables.now k.half k.bytes.now k.at _ (ap (λ m. take m (drop k.at k.bytes.now)) n) (omega arith))
+    val _ _ c.table_sum.type_inv (c.table_sum.ensures ∙ window_is k.tables.now k.half k.bytes.now k.at _ (ap (λ m. take m (drop k.at k.bytes.now)) n) (omega arith))
 
 pub window_spec : {M : Type 1} → statement M
 window_spec =

@@ -10,15 +10,15 @@ returns c =
     let fits = flags.before in
     let tests = fits.before in
     rw (
-      c.both5.ensures,
-      c.before.both4.ensures,
-      c.before.before.both3.ensures,
-      flags.both2.ensures,
-      fits.both.ensures,
+      c.both-4.ensures,
+      c.both-3.ensures,
+      c.both-2.ensures,
+      flags.both.ensures,
+      fits.both-fits.ensures,
       tests.room.ensures,
-      tests.before.known-flag2.ensures,
-      tests.before.before.known_flag.ensures,
-      tests.before.before.before.known_settings.ensures,
+      tests.known_flag-after.ensures,
+      tests.known_flag-before.ensures,
+      tests.known_settings-known.ensures,
     )
     refl
 

@@ -7,13 +7,13 @@ use Rattle.kernel.proofs.Arms.{in_narrow}
 use Rattle.kernel.proofs.around.Statement.{statement}
 use Rattle.kernel.proofs.around.Tie as tie
 
-returns : tie.Need-returns
+returns : tie.Need-returns-in-Standard
 unfolding around
-returns c = in_narrow c.before.args.cutoff c.match.keys1 (λ e. rw e (refl, lit≤ tt)) (λ e. rw e (refl, lit≤ tt))
+returns c = in_narrow c.args.cutoff c.in-Standard.keys1 (λ e. rw e (refl, lit≤ tt)) (λ e. rw e (refl, lit≤ tt))
 
-returns-2 : tie.Need-returns-2
+returns-2 : tie.Need-returns-in-Wide
 unfolding around
-returns-2 c = rw c.enum_told.given.1 (refl, lit≤ tt)
+returns-2 c = rw c.in-Wide.is (refl, lit≤ tt)
 
 pub around_spec : {M : Type 1} → statement M
 around_spec = tie.close (tie.spec (λ c. search rules) returns returns-2)

@@ -7,22 +7,22 @@ use Rattle.kernel.proofs.Arms.{in_narrow}
 use Rattle.kernel.proofs.block_length.Statement.{statement}
 use Rattle.kernel.proofs.block_length.Tie as tie
 
-returns : tie.Need-returns
+returns : tie.Need-returns-in-Hz88200
 unfolding block_length
-returns c = rw c.enum_told.given.1 (refl, lit< tt, lit≤ tt)
+returns c = rw c.in-Hz88200.is (refl, lit< tt, lit≤ tt)
 
-returns-2 : tie.Need-returns-2
+returns-2 : tie.Need-returns-in-Standard
 unfolding block_length
 returns-2 c = let t = c.before in
-    rw t.enum-told2.given.1 (in_narrow t.before.before.args.cutoff c.match2.keys1 (λ e. rw e (refl, lit< tt, lit≤ tt)) (λ e. rw e (refl, lit< tt, lit≤ tt)))
+    rw t.in-Hz176400.is (in_narrow t.args.cutoff c.in-Standard.keys1 (λ e. rw e (refl, lit< tt, lit≤ tt)) (λ e. rw e (refl, lit< tt, lit≤ tt)))
 
-returns-3 : tie.Need-returns-3
+returns-3 : tie.Need-returns-in-Wide
 unfolding block_length
-returns-3 c = rw (c.before.before.enum-told2.given.1, c.enum-told3.given.1) (refl, lit< tt, lit≤ tt)
+returns-3 c = rw (c.in-Hz176400.is, c.in-Wide.is) (refl, lit< tt, lit≤ tt)
 
-returns-4 : tie.Need-returns-4
+returns-4 : tie.Need-returns-in-Hz352800
 unfolding block_length
-returns-4 c = rw c.enum-told4.given.1 (refl, lit< tt, lit≤ tt)
+returns-4 c = rw c.in-Hz352800.is (refl, lit< tt, lit≤ tt)
 
 pub block_length_spec : {M : Type 1} → statement M
 block_length_spec =

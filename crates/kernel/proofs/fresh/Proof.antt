@@ -8,30 +8,30 @@ use Rattle.kernel.proofs.fresh.Statement.{statement}
 use Rattle.kernel.proofs.fresh.Tie as tie
 
 -- a frame's first block of Standard or Low at 352,800
-returns : tie.Need-returns
+returns : tie.Need-returns-then-first
 unfolding fresh
 returns c =
     let m = c.before in
-    let s = m.before.before.before in
-    rw (m.before.enum_told.given.1, c.if1.true) (in_narrow s.args.cutoff m.match2.keys1 (λ e. rw e (refl, lit≤ tt)) (λ e. rw e (refl, lit≤ tt)))
+    let s = m.before.before in
+    rw (m.in-Hz352800.is, c.if-first.true) (in_narrow s.args.cutoff m.in-Standard.keys1 (λ e. rw e (refl, lit≤ tt)) (λ e. rw e (refl, lit≤ tt)))
 
 -- the lower rates
-returns-2 : tie.Need-returns-2
+returns-2 : tie.Need-returns-in-Hz88200
 unfolding fresh
-returns-2 c = in_lower c.before.args.rate c.match.keys1 (λ e. rw e (refl, lit≤ tt)) (λ e. rw e (refl, lit≤ tt))
+returns-2 c = in_lower c.args.rate c.in-Hz88200.keys1 (λ e. rw e (refl, lit≤ tt)) (λ e. rw e (refl, lit≤ tt))
 
 -- another block of Standard or Low
-returns-3 : tie.Need-returns-3
+returns-3 : tie.Need-returns-else-first
 unfolding fresh
 returns-3 c =
     let m = c.before in
-    let s = m.before.before.before in
-    rw (m.before.enum_told.given.1, c.if1.false) (in_narrow s.args.cutoff m.match2.keys1 (λ e. rw e (refl, lit≤ tt)) (λ e. rw e (refl, lit≤ tt)))
+    let s = m.before.before in
+    rw (m.in-Hz352800.is, c.if-first.false) (in_narrow s.args.cutoff m.in-Standard.keys1 (λ e. rw e (refl, lit≤ tt)) (λ e. rw e (refl, lit≤ tt)))
 
 -- Wide
-returns-4 : tie.Need-returns-4
+returns-4 : tie.Need-returns-in-Wide
 unfolding fresh
-returns-4 c = rw (c.before.before.enum_told.given.1, c.enum-told2.given.1) (refl, lit≤ tt)
+returns-4 c = rw (c.in-Hz352800.is, c.in-Wide.is) (refl, lit≤ tt)
 
 pub fresh_spec : {M : Type 1} → statement M
 fresh_spec = tie.close (tie.spec (λ c. search rules) returns (λ c. search rules) returns-2 returns-3 returns-4)

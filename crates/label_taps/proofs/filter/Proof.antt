@@ -19,36 +19,36 @@ module _ (n : ℕ) {r : _} (is : r ≡ (leb 1 n && leb n 117)) (e : r ≡ true) 
   high : n ≤ 117
   high = leb-true n 117 (and_right (leb 1 n) (leb n 117) (sym is ∙ e))
 
-right_number_requires : tie.Need-right-number-requires
+right_number_requires : tie.Need-right_number-requires
 right_number_requires c κs = search rules
 
-right_sums_requires : tie.Need-right-sums-requires
+right_sums_requires : tie.Need-right_sums-requires
 right_sums_requires c κs =
     let t = c.before in
-    let is = t.before.right-number.ensures in
-    (low _ is t.if1.true, high _ is t.if1.true)
+    let is = t.right_number.ensures in
+    (low _ is t.if-right_number.true, high _ is t.if-right_number.true)
 
-returns : tie.Need-returns
+returns : tie.Need-returns-then-right_sums
 unfolding filter_places taps_of
 returns c =
     let t = c.before.before.before in
-    let is = t.before.right-number.ensures in
-    let f = t.before.before.args.f in
-    let sums = ap right_sums (take-take f.count 117 f.taps (high _ is t.if1.true)) ∙ sym c.before.right_sums.ensures in
-    sym (at_next _ _ (ap not (sym is ∙ t.if1.true)) ∙ at_next _ _ (ap not (sums ∙ c.if2.true)) ∙ at_end)
+    let is = t.right_number.ensures in
+    let f = t.args.f in
+    let sums = ap right_sums (take-take f.count 117 f.taps (high _ is t.if-right_number.true)) ∙ sym c.right_sums.ensures in
+    sym (at_next _ _ (ap not (sym is ∙ t.if-right_number.true)) ∙ at_next _ _ (ap not (sums ∙ c.if-right_sums.true)) ∙ at_end)
 
-returns-2 : tie.Need-returns-2
+returns-2 : tie.Need-returns-then-right_number
 unfolding filter_places taps_of
 returns-2 c =
     let t = c.before.before.before in
-    let is = t.before.right-number.ensures in
-    let f = t.before.before.args.f in
-    let sums = ap right_sums (take-take f.count 117 f.taps (high _ is t.if1.true)) ∙ sym c.before.right_sums.ensures in
-    sym (at_next _ _ (ap not (sym is ∙ t.if1.true)) ∙ at_first _ _ (ap not (sums ∙ c.if2.false)))
+    let is = t.right_number.ensures in
+    let f = t.args.f in
+    let sums = ap right_sums (take-take f.count 117 f.taps (high _ is t.if-right_number.true)) ∙ sym c.right_sums.ensures in
+    sym (at_next _ _ (ap not (sym is ∙ t.if-right_number.true)) ∙ at_first _ _ (ap not (sums ∙ c.if-right_sums.false)))
 
-returns-3 : tie.Need-returns-3
+returns-3 : tie.Need-returns
 unfolding filter_places
-returns-3 c = sym (at_first _ _ (ap not (sym c.before.right-number.ensures ∙ c.if1.false)))
+returns-3 c = sym (at_first _ _ (ap not (sym c.right_number.ensures ∙ c.if-right_number.false)))
 
 pub filter_spec : {M : Type 1} → statement M
 filter_spec = tie.close (tie.spec right_number_requires right_sums_requires returns returns-2 returns-3)

@@ -6,10 +6,10 @@ use lib.ListN.{length}
 use Rattle.level_input.proofs.fill.Statement.{statement}
 use Rattle.level_input.proofs.fill.Tie as tie
 
-abbrev invariant-loop : tie.invariant-loop
+abbrev invariant-loop : tie.invariant-loop-n
 invariant-loop from bytes₀ n₀ bytes n = (n ≤ length bytes) × (length bytes ≡ length bytes₀)
 
-abbrev decreases-loop : tie.decreases-loop
+abbrev decreases-loop : tie.decreases-loop-n
 decreases-loop from bytes₀ n₀ bytes n = length bytes - n
 
 pub fill_spec : {M : Type 1} → statement M

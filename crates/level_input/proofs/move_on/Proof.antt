@@ -34,26 +34,26 @@ all_moved d size e =
     let t : take (2 * size) (drop size d) ≡ drop size d = ap (λ n. take n (drop size d)) l ∙ take-length (drop size d) in
     rw (t, zero-add (2 * size)) refl
 
-abbrev invariant-loop : tie.invariant-loop
+abbrev invariant-loop : tie.invariant-loop-k
 invariant-loop three₀ size k₀ three k = (k ≤ 2 * size) × (three ≡ paste three₀ 0 (drop size three₀) k) × (length three ≡ length three₀)
 
-abbrev decreases-loop : tie.decreases-loop
+abbrev decreases-loop : tie.decreases-loop-k
 decreases-loop three₀ size k₀ three k = 2 * size - k
 
-loop-holds : tie.Need-loop-init invariant-loop decreases-loop
+loop-holds : tie.Need-loop-k-init invariant-loop decreases-loop
 loop-holds c = let a = c.args in (omega arith, paste-zero a.three.now 0 (drop a.size a.three.now), refl)
 
-loop-again : tie.Need-loop-preserved invariant-loop decreases-loop
-loop-again c = let l = c.before.before.loop in
-    let a = c.before.before.before.args in
+loop-again : tie.Need-loop-k-preserved invariant-loop decreases-loop
+loop-again c = let l = c.loop-k in
+    let a = c.args in
     let d = a.three.now in
     let long = length-drop a.size d in
     (omega arith, rw l.invariant.1 (one_moved d a.size l.k (omega arith) (omega arith)), length-set l.three _ _ ∙ l.invariant.2)
 
 returns : tie.Need-returns invariant-loop decreases-loop
-returns c = let a = c.before.before.args in
-    let e : c.before.loop.k ≡ 2 * a.size = omega arith in
-    (rw e at c.before.loop.invariant.1) ∙ all_moved a.three.now a.size c.before.before.requires
+returns c = let a = c.args in
+    let e : c.loop-k.k ≡ 2 * a.size = omega arith in
+    (rw e at c.loop-k.invariant.1) ∙ all_moved a.three.now a.size c.requires
 
 pub move_on_spec : {M : Type 1} → statement M
 move_on_spec =

@@ -6,10 +6,10 @@ use lib.ListN.{length}
 use Rattle.level_input.proofs.read_line.Statement.{statement}
 use Rattle.level_input.proofs.read_line.Tie as tie
 
-abbrev invariant-loop : tie.invariant-loop
+abbrev invariant-loop : tie.invariant-loop-n
 invariant-loop from line₀ n₀ line n = (n ≤ length line) × (length line ≡ length line₀)
 
-abbrev decreases-loop : tie.decreases-loop
+abbrev decreases-loop : tie.decreases-loop-n
 decreases-loop from line₀ n₀ line n = length line - n
 
 pub read_line_spec : {M : Type 1} → statement M

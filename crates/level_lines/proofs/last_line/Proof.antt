@@ -13,17 +13,14 @@ returns c =
     let p = c.before.before in
     let b = p.before.before.before.before.before in
     let a = b.before.before.before.before.before in
-    (line _ (then a.labelled.ensures.0 (then b.labelled2.ensures.0 p.put.ensures)), omega arith)
+    (line _ (then a.labelled-n.ensures.0 (then b.labelled-n-2.ensures.0 p.put.ensures)), omega arith)
 
 pub last_line_spec : {M : Type 1} → statement M
 last_line_spec =
     tie.close
     (tie.spec
-    (λ c. search rules)
     (λ c κs. search rules)
-    (λ c. search rules)
     (λ c κs. search rules)
-    (λ c. search rules)
     (λ c κs. search rules)
     (λ c. search rules)
     returns)

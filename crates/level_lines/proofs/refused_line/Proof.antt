@@ -12,15 +12,13 @@ unfolding refused_line joined text
 returns c =
     let p = c.before.before in
     let a = p.before.before.before.before.before in
-    (line _ (then a.labelled.ensures.0 p.put.ensures), omega arith)
+    (line _ (then a.labelled-n.ensures.0 p.put.ensures), omega arith)
 
 pub refused_line_spec : {M : Type 1} → statement M
 refused_line_spec =
     tie.close
     (tie.spec
-    (λ c. search rules)
     (λ c κs. search rules)
-    (λ c. search rules)
     (λ c κs. search rules)
     (λ c. search rules)
     returns)

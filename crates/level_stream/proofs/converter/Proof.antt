@@ -15,7 +15,7 @@ few_channels s l = l
 
 returns : tie.Need-returns
 returns c =
-    let o = c.before.opened.ensures in
+    let o = c.opened-o.ensures in
     let s = c.before.before in
     rw o.converter (held_as_opened (read_settings s.args.s) ∙ s.requires.0, few_channels s.args.s s.requires.1)
 

@@ -5,10 +5,10 @@ use Rattle.reference.specs.Refusals.{decision}
 use Rattle.level_stream.proofs.opened.Statement.{statement}
 use Rattle.level_stream.proofs.opened.Tie as tie
 
-returns : tie.Need-returns
+returns : tie.Need-returns-in-Accepted
 returns c =
-    let at-opened = c.before.before in
-    (sym at-opened.opened.ensures.decided ∙ ap decision c.enum_told.given.1, at-opened.before.requires)
+    let at-opened = c.before in
+    (sym at-opened.opened-o.ensures.decided ∙ ap decision c.in-Accepted.is, at-opened.requires)
 
 pub opened_spec : {M : Type 1} → statement M
 opened_spec =

@@ -6,9 +6,9 @@ use Rattle.level_stream.proofs.report.Statement.{statement}
 use Rattle.level_stream.proofs.report.Tie as tie
 
 converter_requires : tie.Need-converter-requires
-converter_requires c κs = subst Usable c.before.begun.given.1 c.before.before.before.start.ensures
+converter_requires c κs = subst Usable c.in-Open.is c.start-begun.ensures
 
-report_frames_requires : tie.Need-report-frames-requires
+report_frames_requires : tie.Need-report_frames-requires
 report_frames_requires c κs = c.converter.ensures
 
 pub report_spec : {M : Type 1} → statement M

@@ -5,11 +5,11 @@ use borrow.Author.Rules.{rules}
 use Rattle.level_stream.proofs.settings.Statement.{statement}
 use Rattle.level_stream.proofs.settings.Tie as tie
 
-slice_aggregate_first_line : tie.Need-slice-aggregate-first-line
+slice_aggregate_first_line : tie.Need-slice_bounds-first_line-end
 slice_aggregate_first_line c = let s = c.before.before in sym (length-take-le s.args.n s.args.line.now s.requires)
 
 opened_requires : tie.Need-opened-requires
-opened_requires c κs = (c.before.before.before.first-line.ensures.takes_only _ c.before.first.given.1).0.two
+opened_requires c κs = (c.first_line-first.ensures.takes_only _ c.in-Set.is).0.two
 
 pub settings_spec : {M : Type 1} → statement M
 settings_spec =

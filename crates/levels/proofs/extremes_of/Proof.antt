@@ -20,59 +20,59 @@ more pick l ch c k f g before picked =
     let e : k + 1 ≡ suc k = omega arith in
     to_z-of_z g ∙ picked ∙ rw (before, to_z-of_z f, e, zero-add k) refl
 
-abbrev invariant-loop : tie.invariant-loop
+abbrev invariant-loop : tie.invariant-loop-k
 invariant-loop samples ch c n low₀ high₀ k₀ low high k = (k ≤ length samples / ch) × (to_z w32 low ≡ extreme lesser (at samples ch c) 0 k) × (to_z w32 high ≡ extreme greater (at samples ch c) 0 k)
 
-abbrev decreases-loop : tie.decreases-loop
+abbrev decreases-loop : tie.decreases-loop-k
 decreases-loop samples ch c n low₀ high₀ k₀ low high k = length samples / ch - k
 
-loop-holds : tie.Need-loop-init invariant-loop decreases-loop
+loop-holds : tie.Need-loop-k-init invariant-loop decreases-loop
 unfolding picked
-loop-holds c = let a = c.before.before.args in
-    let e = start a.samples.now a.ch a.c (record { sfits = c.high.given }) in (omega arith, e, e)
+loop-holds c = let a = c.args in
+    let e = start a.samples.now a.ch a.c (record { sfits = c.high-1.given }) in (omega arith, e, e)
 
 -- the place that is read
-inside : (c : tie.In-loop invariant-loop decreases-loop) → let a = c.before.before.before.before.args in
-    c.before.loop.k * a.ch + a.c < length a.samples.now
+inside : (c : tie.In-loop-k invariant-loop decreases-loop) → let a = c.args in
+    c.loop-k.k * a.ch + a.c < length a.samples.now
 inside c = let s = c.before.before.before.before in
     let m = length s.args.samples.now in
-    let i = digits_lt {q = c.before.loop.k} {m = m / s.args.ch} (omega arith) s.requires.0 in
+    let i = digits_lt {q = c.loop-k.k} {m = m / s.args.ch} (omega arith) s.requires.0 in
     omega (arith, i, div-mul-le_self m s.args.ch)
 
-mul_s : tie.Need-overflow-mul-s invariant-loop decreases-loop
+mul_s : tie.Need-overflow_mul-s invariant-loop decreases-loop
 mul_s c = omega (arith, inside c)
 
-add_s : tie.Need-overflow-add-s invariant-loop decreases-loop
+add_s : tie.Need-overflow_add-s invariant-loop decreases-loop
 add_s c = omega (arith, inside c)
 
-mul_s_2 : tie.Need-overflow-mul-s-2 invariant-loop decreases-loop
+mul_s_2 : tie.Need-offset_bounds-samples-k invariant-loop decreases-loop
 mul_s_2 c = omega (arith, inside c)
 
-shared_slice_copy_out_s : tie.Need-shared-slice-copy-out-s invariant-loop decreases-loop
+shared_slice_copy_out_s : tie.Need-bounds-samples-k invariant-loop decreases-loop
 shared_slice_copy_out_s c = omega (arith, inside c)
 
-add_k : tie.Need-overflow-add-k invariant-loop decreases-loop
+add_k : tie.Need-overflow_add-k invariant-loop decreases-loop
 add_k c =
     let past = c.before.before.before.before.before in
     let s = past.before.before in
     omega (arith, div-le_self (length s.args.samples.now) s.args.ch)
 
-loop-again : tie.Need-loop-preserved invariant-loop decreases-loop
+loop-again : tie.Need-loop-k-preserved invariant-loop decreases-loop
 loop-again c =
     let at-loop = c.before.before.before.before in
     let entry = at-loop.before.before.before in
-    let l = at-loop.loop in
+    let l = at-loop.loop-k in
     let a = entry.args in
     let s = a.samples.now in
-    let f : SFits w32 (at s a.ch a.c l.k) = record { sfits = c.before.before.s.given } in (
+    let f : SFits w32 (at s a.ch a.c l.k) = record { sfits = c.s-1.given } in (
       omega arith,
-      more lesser s a.ch a.c l.k f (record { sfits = c.before.lesser.type-inv }) l.invariant.1 c.before.lesser.ensures,
-      more greater s a.ch a.c l.k f (record { sfits = c.greater.type-inv }) l.invariant.2 c.greater.ensures,
+      more lesser s a.ch a.c l.k f (record { sfits = c.lesser-low.type_inv }) l.invariant.1 c.lesser-low.ensures,
+      more greater s a.ch a.c l.k f (record { sfits = c.greater-high.type_inv }) l.invariant.2 c.greater-high.ensures,
     )
 
 returns : tie.Need-returns invariant-loop decreases-loop
-returns c = let l = c.before.loop in
-    let a = c.before.before.before.before.args in
+returns c = let l = c.loop-k in
+    let a = c.args in
     let e : l.k ≡ length a.samples.now / a.ch = omega arith in (rw e at l.invariant.1, rw e at l.invariant.2)
 
 pub extremes_of_spec : {M : Type 1} → statement M

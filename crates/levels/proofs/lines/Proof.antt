@@ -43,36 +43,36 @@ module _ (items : List ℤ) (ch : ℕ) (states : List Progress) where
           (λ more. rw (le-ltb i n more, le-ltb i (n + 1) (⊎_elim (λ less. absurd (o (omega arith))) (λ past. past) (below_or i (n + 1)))))
           (below_or i n))
 
-abbrev invariant-loop : tie.invariant-loop
+abbrev invariant-loop : tie.invariant-loop-c
 invariant-loop stats samples ch number out₀ states next₀ at₀ c₀ out next at c =
     (c ≤ ch) × (at ≤ 144 * c) × (length out ≡ length out₀) × (next ≡ states_after samples ch c states)
     × Printed (joined (tabulate (λ c. level_line number c (level_of stats.clipped samples ch c (get_or states c none))) 0 c)) out₀ 0 out at
 
-abbrev decreases-loop : tie.decreases-loop
+abbrev decreases-loop : tie.decreases-loop-c
 decreases-loop stats samples ch number out₀ states next₀ at₀ c₀ out next at c = ch - c
 
-loop-holds : tie.Need-loop-init invariant-loop decreases-loop
+loop-holds : tie.Need-loop-c-init invariant-loop decreases-loop
 unfolding tabulate joined
-loop-holds c = let a = c.before.before.args in
-    (omega arith, omega arith, refl, rw c.none.ensures (states_none a.samples.now a.ch a.t5), none_printed a.out.now)
+loop-holds c = let a = c.args in
+    (omega arith, omega arith, refl, rw c.none-none.ensures (states_none a.samples.now a.ch a.t5), none_printed a.out.now)
 
-loop-again : tie.Need-loop-preserved invariant-loop decreases-loop
+loop-again : tie.Need-loop-c-preserved invariant-loop decreases-loop
 loop-again c = let printed = c.before.before in
-    let put = printed.level_line in
+    let put = printed.level_line-at in
     let told = printed.before.before.before.before in
     let at-loop = told.before.before.before in
-    let l = at-loop.loop in
-    let a = at-loop.before.before.before.args in (
+    let l = at-loop.loop-c in
+    let a = at-loop.args in (
       omega arith,
       omega (arith, put.ensures.1),
       put.auto.0 ∙ l.invariant.2,
-      rw l.invariant.3 (states_more a.samples.now a.ch a.t5 l.c (omega arith) told.level.ensures.1),
-      more (λ c. level_line a.number c (level_of a.stats.clipped a.samples.now a.ch c (get_or a.t5 c none))) l.c l.invariant.4 put.ensures.0 (ap (level_line a.number l.c) told.level.ensures.0),
+      rw l.invariant.3 (states_more a.samples.now a.ch a.t5 l.c (omega arith) told.level-told.ensures.1),
+      more (λ c. level_line a.number c (level_of a.stats.clipped a.samples.now a.ch c (get_or a.t5 c none))) l.c l.invariant.4 put.ensures.0 (ap (level_line a.number l.c) told.level-told.ensures.0),
     )
 
 returns : tie.Need-returns invariant-loop decreases-loop
-returns c = let l = c.before.loop in
-    let e : l.c ≡ c.before.before.before.before.args.ch = omega arith in
+returns c = let l = c.loop-c in
+    let e : l.c ≡ c.args.ch = omega arith in
     (rw e at l.invariant.4, (omega arith, rw e at l.invariant.3))
 
 pub lines_spec : {M : Type 1} → statement M

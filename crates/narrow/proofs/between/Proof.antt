@@ -18,7 +18,7 @@ interp_requires c κs =
     ((omega (arith, long), omega (arith, long)), (small, middle_fit_small _ 168 small))
 
 -- places in the code: the values between are there
-abbrev interpolated : tie.After-weave-arg2 → tie.After-interp
+abbrev interpolated : tie.After-weave-arg-2-1 → tie.After-interp
 interpolated c = c.before.before.before.before
 
 abbrev start : tie.After-interp → tie.Start
@@ -35,7 +35,7 @@ returns c =
     let i = interpolated c.before.before in
     let t = (start i).args.kept.now in
     λ F β n l even held. record {
-      is = λ j m. c.before.weave.ensures.is j (omega arith) ∙ ap (woven _ _) (omega arith) ∙ woven_y F β (n / 2) (omega arith) t held n (omega arith) i.interp.ensures refl j m;
+      is = λ j m. c.weave.ensures.is j (omega arith) ∙ ap (woven _ _) (omega arith) ∙ woven_y F β (n / 2) (omega arith) t held n (omega arith) i.interp.ensures refl j m;
     }
 
 pub between_spec : {M : Type 1} → statement M

@@ -12,7 +12,7 @@ use Rattle.narrow.proofs.narrow176.Statement.{statement}
 use Rattle.narrow.proofs.narrow176.Tie as tie
 
 -- the new values of v are there
-module _ (c : tie.After-half-band) where
+module _ (c : tie.After-half_band) where
   abbrev start : tie.Start
   start = c.before.before.before.before
 
@@ -24,14 +24,14 @@ fir1_requires c κs =
     let made = c.before.before.before.before.before in
     let s = start made in
     let f = s.pre.1.0 in
-    fir1_asks (m made) (m made + 168) s.args.x.now made.half-band.new.1.1.1.0 (omega arith) (omega (arith, f)) made.half-band.auto.1.1.1.0 s.pre.1.1.1 made.half-band.ensures.0
+    fir1_asks (m made) (m made + 168) s.args.x.now made.half_band.new.1.1.1.0 (omega arith) (omega (arith, f)) made.half_band.auto.1.1.1.0 s.pre.1.1.1 made.half_band.ensures.0
     s.args.h.now s.args.y.now f.some f.few f.keeps (omega (arith, f)) (omega arith) (omega (arith, f))
 
 -- places in the code: y is there; x is lent to `fir1`
 abbrev filtered : tie.After-x3 → tie.After-fir1
 filtered c = c.before.before.before.before
 
-abbrev lent : tie.After-fir1 → tie.After-fir1-arg
+abbrev lent : tie.After-fir1 → tie.After-fir1-arg-1
 lent c = c.before.before.before
 
 returns : tie.Need-returns
@@ -46,7 +46,7 @@ returns c =
     let new = made.half-band.last.1.1.1.0 in
     let long = made.half-band.kept.1.1.1.0 in
     let m = m made in
-    let moved = c.before.shift.ensures in (
+    let moved = c.shift.ensures in (
       small_shift 168 m (joined_small m (m + 168) x new (omega arith) (omega (arith, f)) long s.pre.1.1.1 made.half-band.ensures.0) moved.0 moved.1,
       λ β n l bytes margin.
           let part = part_length m (m + 168) x (omega (arith, f)) in

@@ -16,15 +16,15 @@ use Rattle.narrow.proofs.narrow352.Statement.{statement}
 use Rattle.narrow.proofs.narrow352.Tie as tie
 
 -- the new values of v are there
-module _ (c : tie.After-half-band) where
+module _ (c : tie.After-half_band) where
   abbrev start : tie.Start
   start = c.before.before.before.before
 
   abbrev m : ℕ
   m = 2 * (length start.args.h.now - 1)
 
-  x_small : Small (2 ^ 27) (put_mid m (m + start.args.k - m) start.args.x.now c.half-band.new.1.1.1.0)
-  x_small = joined_small m (m + start.args.k) start.args.x.now _ (omega arith) (omega (arith, start)) c.half-band.auto.1.1.1.0 start.pre.1.1.1.0 c.half-band.ensures.0
+  x_small : Small (2 ^ 27) (put_mid m (m + start.args.k - m) start.args.x.now c.half_band.new.1.1.1.0)
+  x_small = joined_small m (m + start.args.k) start.args.x.now _ (omega arith) (omega (arith, start)) c.half_band.auto.1.1.1.0 start.pre.1.1.1.0 c.half_band.ensures.0
 
 fir1_requires : tie.Need-fir1-requires
 fir1_requires c κs =
@@ -33,15 +33,15 @@ fir1_requires c κs =
     let f = s.pre.1.0 in
     let k = s.args.k in
     let part = part_length (184 - k) 184 s.args.kept.now (omega (arith, s)) in
-    fir1_asks (m made) (m made + k) s.args.x.now made.half-band.new.1.1.1.0 (omega arith) (omega (arith, s)) made.half-band.auto.1.1.1.0 s.pre.1.1.1.0 made.half-band.ensures.0
+    fir1_asks (m made) (m made + k) s.args.x.now made.half_band.new.1.1.1.0 (omega arith) (omega (arith, s)) made.half_band.auto.1.1.1.0 s.pre.1.1.1.0 made.half_band.ensures.0
     s.args.h.now (take (184 - (184 - k)) (drop (184 - k) s.args.kept.now)) f.some f.few f.keeps (omega (arith, f)) (omega (arith, part, s)) (omega (arith, s))
 
 -- the new values of w are there
 module _ (c : tie.After-fir1) where
-  abbrev lent : tie.After-fir1-arg
+  abbrev lent : tie.After-fir1-arg-1
   lent = c.before.before.before
 
-  abbrev made : tie.After-half-band
+  abbrev made : tie.After-half_band
   made = lent.before.before.before
 
   abbrev begun : tie.Start
@@ -61,7 +61,7 @@ between_requires c κs =
     ((omega (arith, long, s), omega (arith, s)), kept_small w-made)
 
 -- places in the code: x is moved; y is there; w is there
-abbrev moved : tie.After-kept2 → tie.After-shift
+abbrev moved : tie.After-kept-2-1 → tie.After-shift
 moved c = c.before.before.before.before
 
 abbrev woven : tie.After-shift → tie.After-between
@@ -89,7 +89,7 @@ returns c =
     let m = m v-made in
     let a = a w-made in
     let moved-x = x-moved.shift.ensures in
-    let moved-w = c.before.shift2.ensures in (
+    let moved-w = c.shift-2.ensures in (
       small_shift k m (x_small v-made) moved-x.0 moved-x.1,
       (
         small_shift 168 16 (kept_small w-made) moved-w.0 moved-w.1,

@@ -12,7 +12,7 @@ use Rattle.narrow.proofs.narrow88.Statement.{statement}
 use Rattle.narrow.proofs.narrow88.Tie as tie
 
 -- the new values of v are there
-module _ (c : tie.After-half-band) where
+module _ (c : tie.After-half_band) where
   abbrev start : tie.Start
   start = c.before.before.before.before
 
@@ -25,16 +25,16 @@ halved_requires c κs =
     let s = start made in
     let x = s.args.x.now in
     let f = s.pre.1.0 in
-    let new = made.half-band.new.1.1.1.0 in
-    let long = made.half-band.auto.1.1.1.0 in
+    let new = made.half_band.new.1.1.1.0 in
+    let long = made.half_band.auto.1.1.1.0 in
     let front = joined_front (m made) (m made + 168) x new (omega arith) (omega (arith, f)) long in
-    (f, ((omega (arith, f, front), omega (arith, f, front)), small_front (m made + 168 - 0) (joined_small (m made) (m made + 168) x new (omega arith) (omega (arith, f)) long s.pre.1.1.1 made.half-band.ensures.0)))
+    (f, ((omega (arith, f, front), omega (arith, f, front)), small_front (m made + 168 - 0) (joined_small (m made) (m made + 168) x new (omega arith) (omega (arith, f)) long s.pre.1.1.1 made.half_band.ensures.0)))
 
 -- places in the code: y is there; x is lent to `halved`
 abbrev filtered : tie.After-x3 → tie.After-halved
 filtered c = c.before.before.before.before
 
-abbrev lent : tie.After-halved → tie.After-x2
+abbrev lent : tie.After-halved → tie.After-x-2-1
 lent c = c.before.before.before
 
 returns : tie.Need-returns
@@ -48,7 +48,7 @@ returns c =
     let new = made.half-band.last.1.1.1.0 in
     let long = made.half-band.kept.1.1.1.0 in
     let m = m made in
-    let moved = c.before.shift.ensures in (
+    let moved = c.shift.ensures in (
       small_shift 168 m (joined_small m (m + 168) x new (omega arith) (omega (arith, f)) long s.pre.1.1.1 made.half-band.ensures.0) moved.0 moved.1,
       λ F β n low e l bytes margin.
           let taps = halves_length F e in

@@ -9,13 +9,13 @@ use Rattle.output.proofs.Low24.{up_small, up_low, sum_is, up_fits, held_is}
 use Rattle.output.proofs.bits.Statement.{statement}
 use Rattle.output.proofs.bits.Tie as tie
 
-cast_result : tie.Need-overflow-cast-result
+cast_result : tie.Need-overflow_cast-result
 cast_result c = wide_fits c.args.v c.ranges.v.sfits
 
-add_result : tie.Need-overflow-add-result
+add_result : tie.Need-overflow_add-result
 add_result c = rw (sum_is c.args.v c.ranges.v.sfits) (up_fits c.args.v c.ranges.v.sfits)
 
-cast_result_2 : tie.Need-overflow-cast-result-2
+cast_result_2 : tie.Need-overflow_cast-result-2
 cast_result_2 c = rw (held_is c.args.v c.ranges.v.sfits) (tt, record { fits = omega (arith, up_small c.args.v c.ranges.v.sfits) })
 
 returns : tie.Need-returns

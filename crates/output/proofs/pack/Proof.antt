@@ -60,31 +60,31 @@ module _ (zs : List ℤ) (k : ℕ) where
       rw (ev, e1, e2, e3, s24le_more h) (sets-eq vs (p ++ q) (3 * k) (omega (arith, length-append p q, length-drop (3 * k) bytes, n))
       ∙ ap₂ (λ x y. x ++ vs ++ y) (take_at p q (3 * k) n) (rw n at (drop-append-add p q 3) ∙ drop-drop 3 (3 * k) bytes))
 
-abbrev invariant-loop : tie.invariant-loop
+abbrev invariant-loop : tie.invariant-loop-k
 invariant-loop samples bytes₀ n k₀ bytes k = (k ≤ n) × (length bytes ≡ length bytes₀) × (bytes ≡ so_far samples bytes₀ k)
 
-abbrev decreases-loop : tie.decreases-loop
+abbrev decreases-loop : tie.decreases-loop-k
 decreases-loop samples bytes₀ n k₀ bytes k = n - k
 
-loop-holds : tie.Need-loop-init invariant-loop decreases-loop
+loop-holds : tie.Need-loop-k-init invariant-loop decreases-loop
 unfolding so_far s24le tabulate
 loop-holds c = (omega arith, refl, refl)
 
-loop-again : tie.Need-loop-preserved invariant-loop decreases-loop
+loop-again : tie.Need-loop-k-preserved invariant-loop decreases-loop
 loop-again c =
     let at-put-arg2 = c.before.before.before in
     let w = at-put-arg2.before.before.before in
-    let l = w.loop in
-    let a = w.before.before.before.args in
-    let p = c.before.before.put in
-    let z = at-put-arg2.put-arg2.given in
+    let l = w.loop-k in
+    let a = w.args in
+    let p = c.put in
+    let z = at-put-arg2.put-arg-in-loop-k-1.given in
     (omega arith, p.auto.0 ∙ l.invariant.1, p.ensures ∙ rw l.invariant.2 (one_more a.samples.now l.k a.bytes.now (to_z-of_z (record { sfits = z })) (omega arith) (omega arith)))
 
 returns : tie.Need-returns invariant-loop decreases-loop
 unfolding packed so_far
 returns c =
-    let l = c.before.loop in
-    let a = c.before.before.before.before.args in
+    let l = c.loop-k in
+    let a = c.args in
     let e : l.k ≡ min (length a.samples.now) (length a.bytes.now / 3) = omega arith in
     record { written = rw e at l.invariant.2 }
 

@@ -26,23 +26,23 @@ other z k n e h = go (same_number z k) refl
     go true t = absurd (h (ap (of_z w32) (same_is z k t) ∙ e))
     go false t = refl
 
-returns : tie.Need-returns
+returns : tie.Need-returns-then-s-eq8388607
 unfolding end_of stands_at
 returns c =
-    let e : c.before.args.s ≡ pos 8388607 = sym (to_z-of_z c.before.ranges.s) ∙ ap (to_z w32) c.if1.true in
+    let e : c.args.s ≡ pos 8388607 = sym (to_z-of_z c.ranges.s) ∙ ap (to_z w32) c.if-s-eq8388607.true in
     rw e refl
 
-returns-2 : tie.Need-returns-2
+returns-2 : tie.Need-returns-then-s-eqminus8388608
 unfolding end_of stands_at
 returns-2 c =
-    let e : c.before.before.args.s ≡ negsuc 8388607 = sym (to_z-of_z c.before.before.ranges.s) ∙ ap (to_z w32) c.if2.true in
+    let e : c.args.s ≡ negsuc 8388607 = sym (to_z-of_z c.ranges.s) ∙ ap (to_z w32) c.if-s-eqminus8388608.true in
     rw e refl
 
-returns-3 : tie.Need-returns-3
+returns-3 : tie.Need-returns-else-s-eqminus8388608
 unfolding end_of stands_at
 returns-3 c =
-    let s = c.before.before.args.s in
-    rw (other s (pos 8388607) 8388607 refl c.before.if1.false, other s (negsuc 8388607) 4286578688 refl c.if2.false) refl
+    let s = c.args.s in
+    rw (other s (pos 8388607) 8388607 refl c.if-s-eq8388607.false, other s (negsuc 8388607) 4286578688 refl c.if-s-eqminus8388608.false) refl
 
 pub end_of_spec : {M : Type 1} → statement M
 end_of_spec = tie.close (tie.spec returns returns-2 returns-3)

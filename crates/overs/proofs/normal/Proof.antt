@@ -6,14 +6,14 @@ use Rattle.overs.specs.Overs.{normal}
 use Rattle.overs.proofs.normal.Statement.{statement}
 use Rattle.overs.proofs.normal.Tie as tie
 
-returns : tie.Need-returns
+returns : tie.Need-returns-then-length-eq0
 unfolding normal
-returns c = c.none.ensures ∙ rw (eq-eqb c.before.before.args.p.length 0 c.before.if1.true) refl
+returns c = c.none.ensures ∙ rw (eq-eqb c.args.p.length 0 c.if-length-eq0.true) refl
 
-returns-2 : tie.Need-returns-2
+returns-2 : tie.Need-returns-else-length-eq0
 unfolding normal
 returns-2 c =
-    rw (ne_eqb c.before.before.before.args.p.length 0 c.before.before.if1.false, c.standing.ensures, c.before.at_most_3.ensures) refl
+    rw (ne_eqb c.args.p.length 0 c.if-length-eq0.false, c.standing.ensures, c.at_most_3.ensures) refl
 
 pub normal_spec : {M : Type 1} → statement M
 normal_spec =

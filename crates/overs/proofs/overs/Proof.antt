@@ -28,18 +28,18 @@ record SoFar (items : List ℤ) (n c k : ℕ) (p q : Progress) (count : ℕ) : T
   state : q ≡ after p (tabulate (at items n c) 0 k)
   counted : count ≡ overs_from p (tabulate (at items n c) 0 k)
 
-abbrev invariant-loop : tie.invariant-loop
+abbrev invariant-loop : tie.invariant-loop-k
 invariant-loop items n c m state₀ count₀ k₀ state count k = (k ≤ m) × SoFar items n c k state₀ state count
 
-abbrev decreases-loop : tie.decreases-loop
+abbrev decreases-loop : tie.decreases-loop-k
 decreases-loop items n c m state₀ count₀ k₀ state count k = m - k
 
-loop-holds : tie.Need-loop-init invariant-loop decreases-loop
+loop-holds : tie.Need-loop-k-init invariant-loop decreases-loop
 unfolding tabulate after overs_from
 loop-holds c = (omega arith, record { state = refl; counted = refl })
 
-passed_over_requires : tie.Need-passed-over-requires invariant-loop decreases-loop
-passed_over_requires c κs = (c.before.before.before.channel_size.ensures, omega arith)
+passed_over_requires : tie.Need-passed_over-past-requires invariant-loop decreases-loop
+passed_over_requires c κs = (c.channel_size-m.ensures, omega arith)
 
 -- ---- samples passed over
 
@@ -56,35 +56,35 @@ module _ {items : List ℤ} {n c k e : ℕ} {p q : Progress} {count : ℕ} (s : 
         rw (joined, overs_append p (tabulate (at items n c) 0 k) (tabulate (at items n c) k (e - k)), ← s.state, past.no_overs) (omega (arith, s.counted));
   }
 
-loop-less : tie.Need-loop-smaller invariant-loop decreases-loop
-loop-less c = omega (arith, c.before.before.passed_over.ensures.0)
+loop-less : tie.Need-loop-k-smaller-then-k-past invariant-loop decreases-loop
+loop-less c = omega (arith, c.passed_over-past.ensures.0)
 
-loop-again : tie.Need-loop-preserved invariant-loop decreases-loop
+loop-again : tie.Need-loop-k-preserved-then-k-past invariant-loop decreases-loop
 loop-again c = let test = c.before.before in
-    let e = test.passed_over.ensures in
-    (e.0, rw c.none.ensures (on test.before.before.loop.invariant.1 e.1 c.before.if1.true))
+    let e = test.passed_over-past.ensures in
+    (e.0, rw c.none-state.ensures (on test.loop-k.invariant.1 e.1 c.if-k-past.true))
 
 -- ---- one sample more
 
 -- the place that is read
-inside : (c : tie.Else1 invariant-loop decreases-loop) → let l = c.before.before.before in
+inside : (c : tie.Else-k-past invariant-loop decreases-loop) → let l = c.before.before.before in
     let a = l.before.before.before.args in
     l.loop.k * a.n + a.c < length a.items.now
 inside c = let l = c.before.before.before in
     let s = l.before.before in
-    let a = s.before.args in
-    (place_inside (length a.items.now) a.n a.c l.loop.k (omega (arith, s.channel_size.ensures))).1
+    let a = s.args in
+    (place_inside (length a.items.now) a.n a.c l.loop-k.k (omega (arith, s.channel_size-m.ensures))).1
 
-mul_step : tie.Need-overflow-mul-step invariant-loop decreases-loop
+mul_step : tie.Need-overflow_mul-k invariant-loop decreases-loop
 mul_step c = omega (arith, inside c)
 
-add_step : tie.Need-overflow-add-step invariant-loop decreases-loop
+add_step : tie.Need-overflow_add-k invariant-loop decreases-loop
 add_step c = omega (arith, inside c)
 
-mul_step_2 : tie.Need-overflow-mul-step-2 invariant-loop decreases-loop
+mul_step_2 : tie.Need-offset_bounds-items-k invariant-loop decreases-loop
 mul_step_2 c = omega (arith, inside c)
 
-shared_slice_copy_out_step : tie.Need-shared-slice-copy-out-step invariant-loop decreases-loop
+shared_slice_copy_out_step : tie.Need-bounds-items-k invariant-loop decreases-loop
 shared_slice_copy_out_step c = omega (arith, inside c)
 
 module _ {items : List ℤ} {n c k : ℕ} {p q : Progress} {count : ℕ} (r : OverCount) (s : SoFar items n c k p q count) (f : SFits w32 (at items n c k))
@@ -108,7 +108,7 @@ module _ {items : List ℤ} {n c k : ℕ} {p q : Progress} {count : ℕ} (r : Ov
   few = omega (arith, one_more.counted, overs_few p (tabulate (at items n c) 0 (k + 1)), length_tabulate (at items n c) 0 (k + 1))
 
 -- the sample is counted: what has been passed with it
-stepped : (c : tie.After-struct-known invariant-loop decreases-loop) → let made = c.before.before in
+stepped : (c : tie.After-struct_known-1 invariant-loop decreases-loop) → let made = c.before.before in
     let at-loop = made.before.before.before.before.before in
     let a = at-loop.before.before.before.args in
     let o = made.step.result in
@@ -116,29 +116,29 @@ stepped : (c : tie.After-struct-known invariant-loop decreases-loop) → let mad
     × (at-loop.loop.count + o.count ≤ at-loop.loop.k + 1)
 stepped c = let made = c.before.before in
     let at-loop = made.before.before.before.before.before in
-    let l = at-loop.loop in
-    let a = at-loop.before.before.before.args in
-    let f : SFits w32 (at a.items.now a.n a.c l.k) = record { sfits = made.before.step-arg.given } in
-    (one_more made.step.result l.invariant.1 f made.step.ensures, few made.step.result l.invariant.1 f made.step.ensures)
+    let l = at-loop.loop-k in
+    let a = at-loop.args in
+    let f : SFits w32 (at a.items.now a.n a.c l.k) = record { sfits = made.step-arg-1.given } in
+    (one_more made.step-o.result l.invariant.1 f made.step-o.ensures, few made.step-o.result l.invariant.1 f made.step-o.ensures)
 
-add_count : tie.Need-overflow-add-count invariant-loop decreases-loop
+add_count : tie.Need-overflow_add-count invariant-loop decreases-loop
 add_count c = let test = c.before.before.before.before.before in
-    omega (arith, (stepped c).1, test.before.before.before.before.channel_size.type-inv)
+    omega (arith, (stepped c).1, test.channel_size-m.type_inv)
 
-add_k : tie.Need-overflow-add-k invariant-loop decreases-loop
+add_k : tie.Need-overflow_add-k-else-k-past invariant-loop decreases-loop
 add_k c = let test = c.before.before.before.before.before in
-    omega (arith, test.before.before.before.before.channel_size.type-inv)
+    omega (arith, test.channel_size-m.type_inv)
 
-loop-again-2 : tie.Need-loop-preserved-2 invariant-loop decreases-loop
+loop-again-2 : tie.Need-loop-k-preserved invariant-loop decreases-loop
 loop-again-2 c = (omega arith, (stepped c).0)
 
 returns : tie.Need-returns invariant-loop decreases-loop
 unfolding overs_of channel
-returns c = let l = c.before.loop in
+returns c = let l = c.loop-k in
     let s = c.before.before in
-    let a = s.before.before.args in
-    let e : l.k ≡ channel_size (length a.items.now) a.n a.c = omega (arith, s.before.channel_size.ensures) in
-    rw (l.invariant.1.state, l.invariant.1.counted, s.normal.ensures, e)
+    let a = s.args in
+    let e : l.k ≡ channel_size (length a.items.now) a.n a.c = omega (arith, s.channel_size-m.ensures) in
+    rw (l.invariant.1.state, l.invariant.1.counted, s.normal-state.ensures, e)
 
 pub overs_spec : {M : Type 1} → statement M
 overs_spec =

@@ -33,41 +33,41 @@ start c =
 
 -- what the test finds
 found : (c : tie.After-understood) → c.understood.result ≡ asked (start c)
-found c = rw c.before.room_for_stats.ensures at c.understood.ensures
+found c = rw c.room_for_stats-fits.ensures at c.understood.ensures
 
-known : (c : tie.Then1) → asked (start c.before) ≡ true
-known c = sym (found c.before) ∙ c.if1.true
+known : (c : tie.Then-understood) → asked (start c.before) ≡ true
+known c = sym (found c.before) ∙ c.if-understood.true
 
-fit : (c : tie.Then1) → let s = start c.before in Lengths s.args.gain.now s.args.«data».now s.args.decibels.now × (length s.args.numbers.now ≡ 3) × (has_room (old s).stats ≡ true)
+fit : (c : tie.Then-understood) → let s = start c.before in Lengths s.args.gain.now s.args.«data».now s.args.decibels.now × (length s.args.numbers.now ≡ 3) × (has_room (old s).stats ≡ true)
 fit c =
     let s = start c.before in
     lengths (the_converter s) (the_input s) (old s) (known c)
 
-converter_requires : tie.Need-converter-requires
+converter_requires : tie.Need-converter-conv-requires
 converter_requires c κs = let l = fit c in (l.0.floats, l.1)
 
-tell_conversion_requires : tie.Need-tell-conversion-requires
+tell_conversion_requires : tie.Need-tell_conversion-requires
 tell_conversion_requires c κs =
     let lent = c.before.before.before.before.before in
     let taken = lent.before.before.before.before.before in
     let l = fit taken in
     (six_each (old (start taken.before)).stats l.2, l.0.told)
 
-returns : tie.Need-returns
+returns : tie.Need-returns-then-understood
 returns c =
     let lists = c.before.before.before.before.before in
     let at-tell-conversion = lists.before.before.before.before.before in
     let lent = at-tell-conversion.before.before.before.before in
     let at-convert-run-parts = lent.before.before.before.before in
     let at-converter = at-convert-run-parts.before.before in
-    let told = at-tell-conversion.tell-conversion.ensures in
-    let made = at-convert-run-parts.convert-run-parts in
+    let told = at-tell-conversion.tell_conversion.ensures in
+    let made = at-convert-run-parts.convert_run_parts-made in
     worked (known at-converter.before)
-    (record { made = made.result; promise = rw at-converter.converter.ensures at made.ensures; told = told.0; counted = told.1 })
+    (record { made = made.result; promise = rw at-converter.converter-conv.ensures at made.ensures; told = told.0; counted = told.1 })
 
-returns-2 : tie.Need-returns-2
+returns-2 : tie.Need-returns
 returns-2 c =
-    let h : asked (start c.before) ≡ false = sym (found c.before) ∙ c.if1.false in
+    let h : asked (start c.before) ≡ false = sym (found c.before) ∙ c.if-understood.false in
     turned_away h (refl, refl)
 
 pub puigneht_convert_run_spec : {M : Type 1} → statement M

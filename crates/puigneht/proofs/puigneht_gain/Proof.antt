@@ -14,21 +14,21 @@ asked s = gain_understood s.args.gain.now s.args.decibels.now
 abbrev start : tie.After-both → tie.Start
 start c = c.before.before.before
 
-known : (c : tie.Then1) → asked (start c.before) ≡ true
+known : (c : tie.Then-both) → asked (start c.before) ≡ true
 known c = cc
 
-tell_gain_requires : tie.Need-tell-gain-requires
+tell_gain_requires : tie.Need-tell_gain-requires
 tell_gain_requires c κs = room_is _ _ (known c.before.before.before)
 
-returns : tie.Need-returns
+returns : tie.Need-returns-then-both
 returns c =
     let at-tell-gain = c.before.before.before.before in
     let at-from-db = at-tell-gain.before.before.before in
-    let told = at-tell-gain.tell-gain.ensures in
-    let made = at-from-db.from-db in
+    let told = at-tell-gain.tell_gain.ensures in
+    let made = at-from-db.from_db-made in
     worked (known at-from-db.before) (record { made = made.result; promise = made.ensures; told = told.0; written = told.1 })
 
-returns-2 : tie.Need-returns-2
+returns-2 : tie.Need-returns
 returns-2 c =
     let h : asked (start c.before) ≡ false = cc in
     turned_away h (refl, refl)

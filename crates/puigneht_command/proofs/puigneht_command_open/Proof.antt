@@ -18,29 +18,29 @@ use Rattle.puigneht_command.proofs.puigneht_command_open.Tie as tie
 abbrev asked : tie.Start → Bool
 asked s = known_settings s.args.rate s.args.cutoff 2 0 && (eqb (length s.args.album.now) 7 && eqb (length s.args.said.now) 2)
 
-abbrev start : tie.After-both2 → tie.Start
+abbrev start : tie.After-both → tie.Start
 start c =
     let fits = c.before.before in
     fits.before.before.before.before
 
-found : (c : tie.After-both2) → c.both2.result ≡ asked (start c)
-found c = c.both2.ensures ∙ ap₂ ◌&&◌ c.before.known_settings.ensures c.before.before.both.ensures
+found : (c : tie.After-both) → c.both.result ≡ asked (start c)
+found c = c.both.ensures ∙ ap₂ ◌&&◌ c.known_settings.ensures c.both-fits.ensures
 
-known : (c : tie.Then1) → asked (start c.before) ≡ true
-known c = sym (found c.before) ∙ c.if1.true
+known : (c : tie.Then-both) → asked (start c.before) ≡ true
+known c = sym (found c.before) ∙ c.if-both.true
 
-fit : (c : tie.Then1) → let s = start c.before in (length s.args.album.now ≡ 7) × (length s.args.said.now ≡ 2)
+fit : (c : tie.Then-both) → let s = start c.before in (length s.args.album.now ≡ 7) × (length s.args.said.now ≡ 2)
 fit c = let s = start c.before in open_fits (known_settings s.args.rate s.args.cutoff 2 0) _ _ (known c)
 
-tell_album_requires : tie.Need-tell-album-requires
+tell_album_requires : tie.Need-tell_album-number-requires
 tell_album_requires c κs = (fit c.before.before.before).0
 
-put_two_requires : tie.Need-put-two-requires
+put_two_requires : tie.Need-put_two-requires
 put_two_requires c κs =
     let told = c.before.before.before.before.before in
     (fit told.before.before.before.before).1
 
-returns : tie.Need-returns
+returns : tie.Need-returns-then-both
 returns c =
     let put = c.before.before in
     let said = put.before.before in
@@ -54,11 +54,11 @@ returns c =
     let is : want.wanted.result ≡ w = want.wanted.ensures ∙ rw (to_z-of_z (start then1.before).ranges.db) refl in
     let promise : AlbumPromise a.head.now a.length w opened.«open».result = subst (λ (x : Wanted). AlbumPromise a.head.now a.length x opened.«open».result) is opened.«open».ensures in
     done_so (known then1)
-    (open_done a.head.now a.length w opened.«open».result promise said.said_of.result told.tell-album.ensures.0 told.tell-album.ensures.1
-    (said.said_of.ensures ∙ ap (λ (r : PcmRate). said_of a.head.now a.length r told.tell-album.result) named.rate_of.ensures) put.put_two.ensures)
+    (open_done a.head.now a.length w opened.«open».result promise said.said_of-told.result told.tell_album-number.ensures.0 told.tell_album-number.ensures.1
+    (said.said_of-told.ensures ∙ ap (λ (r : PcmRate). said_of a.head.now a.length r told.tell_album-number.result) named.rate_of.ensures) put.put_two.ensures)
 
-returns-2 : tie.Need-returns-2
-returns-2 c = turned_away (sym (found c.before) ∙ c.if1.false) (refl, refl)
+returns-2 : tie.Need-returns
+returns-2 c = turned_away (sym (found c.before) ∙ c.if-both.false) (refl, refl)
 
 pub puigneht_command_open_spec : {M : Type 1} → statement M
 puigneht_command_open_spec =

@@ -8,23 +8,23 @@ use borrow.Author.Rules.{rules}
 use Rattle.puigneht_command.proofs.puigneht_command_part.Statement.{statement}
 use Rattle.puigneht_command.proofs.puigneht_command_part.Tie as tie
 
-part_of_requires : tie.Need-part-of-requires
+part_of_requires : tie.Need-part_of-found-requires
 part_of_requires c κs = search rules
 
-put_two_requires : tie.Need-put-two-requires
+put_two_requires : tie.Need-put_two-requires
 put_two_requires c κs = search rules
 
-same_length : tie.Need-same-length
+same_length : tie.Need-shape_of-pieces-then-pieces-eq2
 same_length c = search rules
 
-returns : tie.Need-returns
+returns : tie.Need-returns-then-pieces-eq2
 returns c =
     let put = c.before.before in
     let found = put.before.before in
-    done_so (eq-eqb _ _ found.before.if1.true) (refl, put.put_two.ensures ∙ ap (λ (p : Part). p.first ∷ p.end ∷ []) found.part_of.ensures)
+    done_so (eq-eqb _ _ found.if-pieces-eq2.true) (refl, put.put_two.ensures ∙ ap (λ (p : Part). p.first ∷ p.end ∷ []) found.part_of-found.ensures)
 
-returns-2 : tie.Need-returns-2
-returns-2 c = turned_away (ne_eqb _ _ c.if1.false) refl
+returns-2 : tie.Need-returns
+returns-2 c = turned_away (ne_eqb _ _ c.if-pieces-eq2.false) refl
 
 pub puigneht_command_part_spec : {M : Type 1} → statement M
 puigneht_command_part_spec =

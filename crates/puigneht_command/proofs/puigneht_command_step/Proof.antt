@@ -18,7 +18,7 @@ abbrev asked : tie.Start → Bool
 asked s = known_settings s.args.rate s.args.cutoff 2 0 && has_room (old s)
 
 -- the entry, from the place of the test
-abbrev start : tie.After-both2 → tie.Start
+abbrev start : tie.After-both → tie.Start
 start c =
     let room = c.before.before.before in
     let stats = room.before in
@@ -27,30 +27,30 @@ start c =
     more.before.before.before
 
 -- what the test finds
-found : (c : tie.After-both2) → c.both2.result ≡ asked (start c)
+found : (c : tie.After-both) → c.both.result ≡ asked (start c)
 found c =
     let fits = c.before.before in
     let room = fits.before in
-    c.both2.ensures ∙ ap₂ ◌&&◌ c.before.known_settings.ensures (fits.both.ensures ∙ ap₂ ◌&&◌ room.before.room_for_stats.ensures room.room.ensures)
+    c.both.ensures ∙ ap₂ ◌&&◌ c.known_settings.ensures (fits.both-fits.ensures ∙ ap₂ ◌&&◌ room.room_for_stats-stats.ensures room.room.ensures)
 
-known : (c : tie.Then1) → asked (start c.before) ≡ true
-known c = sym (found c.before) ∙ c.if1.true
+known : (c : tie.Then-both) → asked (start c.before) ≡ true
+known c = sym (found c.before) ∙ c.if-both.true
 
-fit : (c : tie.Then1) → Lengths (old (start c.before))
+fit : (c : tie.Then-both) → Lengths (old (start c.before))
 fit c = let s = start c.before in step_fits (known_settings s.args.rate s.args.cutoff 2 0) (old s) (known c)
 
 -- accepted, from the place after the step
-abbrev then : tie.After-step → tie.Then1
+abbrev then : tie.After-step-made → tie.Then-both
 then c = let lent = c.before.before.before.before in lent.before.before
 
-tell_conversion_requires : tie.Need-tell-conversion-requires
+tell_conversion_requires : tie.Need-tell_conversion-requires
 tell_conversion_requires c κs =
     let lent = c.before.before.before.before.before in
     let lists = lent.before.before.before.before in
     let l = fit (then lists.before.before.before.before.before) in
     (l.six, l.told)
 
-returns : tie.Need-returns
+returns : tie.Need-returns-then-both
 returns c =
     let told = c.before.before.before.before.before in
     let at-tell = told.before.before.before.before.before in
@@ -60,18 +60,18 @@ returns c =
     let want = at-step.before.before.before.before.before in
     let s = start (then at-step).before in
     let a = s.args in
-    let made = at-step.step in
+    let made = at-step.step-made in
     let w = wanted a.rate a.cutoff a.db in
     let is : want.wanted.result ≡ w = want.wanted.ensures ∙ rw (to_z-of_z s.fits.db) refl in
     done_so (known (then at-step)) (record {
       made = made.result;
       promise = rw is at made.ensures;
-      told = at-tell.tell-conversion.ensures.0;
-      counted = at-tell.tell-conversion.ensures.1;
+      told = at-tell.tell_conversion.ensures.0;
+      counted = at-tell.tell_conversion.ensures.1;
     })
 
-returns-2 : tie.Need-returns-2
-returns-2 c = turned_away (sym (found c.before) ∙ c.if1.false) (refl, refl)
+returns-2 : tie.Need-returns
+returns-2 c = turned_away (sym (found c.before) ∙ c.if-both.false) (refl, refl)
 
 pub puigneht_command_step_spec : {M : Type 1} → statement M
 puigneht_command_step_spec =

@@ -8,7 +8,7 @@ use Rattle.puigneht_command.proofs.wanted.Tie as tie
 returns : tie.Need-returns
 returns c =
     let named = c.before.before in
-    rw (c.wanted_of.ensures, c.before.cutoff_of.ensures, named.rate_of.ensures, to_z-of_z named.before.ranges.db) refl
+    rw (c.wanted_of.ensures, c.cutoff_of.ensures, named.rate_of.ensures, to_z-of_z named.ranges.db) refl
 
 pub wanted_spec : {M : Type 1} → statement M
 wanted_spec = tie.close (tie.spec (λ c κs. search rules) (λ c κs. search rules) (λ c κs. search rules) returns)

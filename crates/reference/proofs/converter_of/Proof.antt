@@ -11,7 +11,7 @@ returns c =
     let r = c.before in
     let n = r.before in
     let f = n.before in
-    rw (c.frame_length.ensures, r.reach.ensures, n.samples_per_frame.ensures.0, f.filter_of.ensures) refl
+    rw (c.frame_length.ensures, r.reach-reach.ensures, n.samples_per_frame-samples_per_frame.ensures.0, f.filter_of-filter.ensures) refl
 
 pub converter_of_spec : {M : Type 1} → statement M
 converter_of_spec = tie.close (tie.spec (λ c κs. search rules) (λ c κs. search rules) (λ c κs. search rules) (λ c κs. search rules) returns)

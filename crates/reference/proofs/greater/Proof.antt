@@ -4,13 +4,13 @@ use Rattle.numbers.specs.Extremes.{greater}
 use Rattle.reference.proofs.greater.Statement.{statement}
 use Rattle.reference.proofs.greater.Tie as tie
 
-returns : tie.Need-returns
+returns : tie.Need-returns-then-a-b
 unfolding greater
-returns c = let e = rw (to_z-of_z c.before.ranges.a, to_z-of_z c.before.ranges.b) at c.if1.true in rw e (to_z-of_z c.before.ranges.b)
+returns c = let e = rw (to_z-of_z c.ranges.a, to_z-of_z c.ranges.b) at c.if-a-b.true in rw e (to_z-of_z c.ranges.b)
 
-returns-2 : tie.Need-returns-2
+returns-2 : tie.Need-returns-else-a-b
 unfolding greater
-returns-2 c = let e = rw (to_z-of_z c.before.ranges.a, to_z-of_z c.before.ranges.b) at c.if1.false in rw e (to_z-of_z c.before.ranges.a)
+returns-2 c = let e = rw (to_z-of_z c.ranges.a, to_z-of_z c.ranges.b) at c.if-a-b.false in rw e (to_z-of_z c.ranges.a)
 
 pub greater_spec : {M : Type 1} → statement M
 greater_spec = tie.close (tie.spec returns returns-2)

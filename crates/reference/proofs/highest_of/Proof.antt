@@ -5,31 +5,31 @@ use Rattle.numbers.specs.Extremes.{greater, pick_unmarked}
 use Rattle.reference.proofs.highest_of.Statement.{statement}
 use Rattle.reference.proofs.highest_of.Tie as tie
 
-returns : tie.Need-returns
+returns : tie.Need-returns-then-no_y
 unfolding pick_unmarked
-returns c = rw (c.before.if1.true, c.if2.true) refl
+returns c = rw (c.if-no_x.true, c.if-no_y.true) refl
 
-returns-2 : tie.Need-returns-2
+returns-2 : tie.Need-returns-else-no_y
 unfolding pick_unmarked
-returns-2 c = rw (c.before.if1.true, c.if2.false) (to_z-of_z c.before.before.ranges.y)
+returns-2 c = rw (c.if-no_x.true, c.if-no_y.false) (to_z-of_z c.ranges.y)
 
-returns-3 : tie.Need-returns-3
+returns-3 : tie.Need-returns-then-no_y-2
 unfolding pick_unmarked
-returns-3 c = rw (c.before.if1.false, c.if3.true) (to_z-of_z c.before.before.ranges.x)
+returns-3 c = rw (c.if-no_x.false, c.if-no_y-2.true) (to_z-of_z c.ranges.x)
 
-returns-4 : tie.Need-returns-4
+returns-4 : tie.Need-returns-then-x-y
 unfolding pick_unmarked greater
 returns-4 c =
     let start = c.before.before.before in
-    let e = rw (to_z-of_z start.ranges.x, to_z-of_z start.ranges.y) at c.if4.true in
-    rw (c.before.before.if1.false, c.before.if3.false, e) (to_z-of_z start.ranges.y)
+    let e = rw (to_z-of_z start.ranges.x, to_z-of_z start.ranges.y) at c.if-x-y.true in
+    rw (c.if-no_x.false, c.if-no_y-2.false, e) (to_z-of_z start.ranges.y)
 
-returns-5 : tie.Need-returns-5
+returns-5 : tie.Need-returns-else-x-y
 unfolding pick_unmarked greater
 returns-5 c =
     let start = c.before.before.before in
-    let e = rw (to_z-of_z start.ranges.x, to_z-of_z start.ranges.y) at c.if4.false in
-    rw (c.before.before.if1.false, c.before.if3.false, e) (to_z-of_z start.ranges.x)
+    let e = rw (to_z-of_z start.ranges.x, to_z-of_z start.ranges.y) at c.if-x-y.false in
+    rw (c.if-no_x.false, c.if-no_y-2.false, e) (to_z-of_z start.ranges.x)
 
 pub highest_of_spec : {M : Type 1} → statement M
 highest_of_spec = tie.close (tie.spec returns returns-2 returns-3 returns-4 returns-5)

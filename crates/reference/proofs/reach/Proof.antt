@@ -6,41 +6,41 @@ use Rattle.reference.specs.Stages.{reach}
 use Rattle.reference.proofs.reach.Statement.{statement}
 use Rattle.reference.proofs.reach.Tie as tie
 
-returns : tie.Need-returns
+returns : tie.Need-returns-in-Hz88200
 unfolding reach
-returns c = rw (c.before.before.enum_told.given.1, c.enum-told2.given.1) (ap (λ (m : ℕ). 2 * m + 19) c.before.before.before.before.last_tap.ensures.0)
+returns c = rw (c.in-Standard.is, c.in-Hz88200.is) (ap (λ (m : ℕ). 2 * m + 19) c.last_tap-m.ensures.0)
 
-returns-2 : tie.Need-returns-2
+returns-2 : tie.Need-returns-in-Hz176400
 unfolding reach
-returns-2 c = rw (c.before.before.enum_told.given.1, c.enum-told3.given.1) (ap (λ (m : ℕ). 2 * m + 19) c.before.before.before.before.last_tap.ensures.0)
+returns-2 c = rw (c.in-Standard.is, c.in-Hz176400.is) (ap (λ (m : ℕ). 2 * m + 19) c.last_tap-m.ensures.0)
 
-returns-3 : tie.Need-returns-3
+returns-3 : tie.Need-returns-in-Hz352800
 unfolding reach
-returns-3 c = rw (c.before.before.enum_told.given.1, c.enum-told4.given.1) (ap (λ (m : ℕ). 2 * m + 35) c.before.before.before.before.last_tap.ensures.0)
+returns-3 c = rw (c.in-Standard.is, c.in-Hz352800.is) (ap (λ (m : ℕ). 2 * m + 35) c.last_tap-m.ensures.0)
 
-returns-4 : tie.Need-returns-4
+returns-4 : tie.Need-returns-in-Hz88200-rate
 unfolding reach
-returns-4 c = rw (c.before.before.enum-told5.given.1, c.enum-told6.given.1) refl
+returns-4 c = rw (c.in-Low.is, c.in-Hz88200-rate.is) refl
 
-returns-5 : tie.Need-returns-5
+returns-5 : tie.Need-returns-in-Hz176400-rate
 unfolding reach
-returns-5 c = rw (c.before.before.enum-told5.given.1, c.enum-told7.given.1) refl
+returns-5 c = rw (c.in-Low.is, c.in-Hz176400-rate.is) refl
 
-returns-6 : tie.Need-returns-6
+returns-6 : tie.Need-returns-in-Hz352800-rate
 unfolding reach
-returns-6 c = rw (c.before.before.enum-told5.given.1, c.enum-told8.given.1) refl
+returns-6 c = rw (c.in-Low.is, c.in-Hz352800-rate.is) refl
 
-returns-7 : tie.Need-returns-7
+returns-7 : tie.Need-returns-in-Hz88200-rate-2
 unfolding reach
-returns-7 c = rw (c.before.before.enum-told9.given.1, c.enum-told10.given.1) refl
+returns-7 c = rw (c.in-Wide.is, c.in-Hz88200-rate-2.is) refl
 
-returns-8 : tie.Need-returns-8
+returns-8 : tie.Need-returns-in-Hz176400-rate-2
 unfolding reach
-returns-8 c = rw (c.before.before.enum-told9.given.1, c.enum-told11.given.1) refl
+returns-8 c = rw (c.in-Wide.is, c.in-Hz176400-rate-2.is) refl
 
-returns-9 : tie.Need-returns-9
+returns-9 : tie.Need-returns-in-Hz352800-rate-2
 unfolding reach
-returns-9 c = rw (c.before.before.enum-told9.given.1, c.enum-told12.given.1) refl
+returns-9 c = rw (c.in-Wide.is, c.in-Hz352800-rate-2.is) refl
 
 pub reach_spec : {M : Type 1} → statement M
 reach_spec =

@@ -6,26 +6,26 @@ use Rattle.reference.specs.Output.{samples_per_frame}
 use Rattle.reference.proofs.samples_per_frame.Statement.{statement}
 use Rattle.reference.proofs.samples_per_frame.Tie as tie
 
-enum_told : tie.Need-enum-told
+enum_told : tie.Need-enum_told-1
 enum_told c = search rules
 
-enum_told_2 : tie.Need-enum-told-2
+enum_told_2 : tie.Need-enum_told-in-Hz176400
 enum_told_2 c = search rules
 
-enum_told_3 : tie.Need-enum-told-3
+enum_told_3 : tie.Need-enum_told-in-Hz352800
 enum_told_3 c = search rules
 
-returns : tie.Need-returns
+returns : tie.Need-returns-in-Hz88200
 unfolding samples_per_frame
-returns c = (rw c.enum_told.given.1 refl, omega arith)
+returns c = (rw c.in-Hz88200.is refl, omega arith)
 
-returns-2 : tie.Need-returns-2
+returns-2 : tie.Need-returns-in-Hz176400
 unfolding samples_per_frame
-returns-2 c = (rw c.enum-told2.given.1 refl, omega arith)
+returns-2 c = (rw c.in-Hz176400.is refl, omega arith)
 
-returns-3 : tie.Need-returns-3
+returns-3 : tie.Need-returns-in-Hz352800
 unfolding samples_per_frame
-returns-3 c = (rw c.enum-told3.given.1 refl, omega arith)
+returns-3 c = (rw c.in-Hz352800.is refl, omega arith)
 
 pub samples_per_frame_spec : {M : Type 1} → statement M
 samples_per_frame_spec =

@@ -21,12 +21,12 @@ small : (s : tie.Start) →
     (f * samples_per_frame conv.rate ≤ 540000 * 4704) × (f * samples_per_frame conv.rate * conv.channels ≤ 540000 * 4704 * 6)
 small s = bounded _ _ _ s.requires.1 (frame_samples s.args.conv.rate) (few_channels s.args.conv s.requires.0)
 
-mul_result : tie.Need-overflow-mul-result
+mul_result : tie.Need-overflow_mul-result
 mul_result c =
     let s = c.before.before.before in
-    rw (c.before.frame_count.ensures, stored_samples s.args.conv s.requires.0) (omega (arith, small s))
+    rw (c.frame_count.ensures, stored_samples s.args.conv s.requires.0) (omega (arith, small s))
 
-mul_result_2 : tie.Need-overflow-mul-result-2
+mul_result_2 : tie.Need-overflow_mul-result-2
 mul_result_2 c =
     let f = c.before.before in
     let s = f.before.before in

@@ -15,7 +15,7 @@ use Rattle.refusals.proofs.byte_lengths.Statement.{statement}
 use Rattle.refusals.proofs.byte_lengths.Tie as tie
 
 -- places in the code: the start; the run accepted; the output of the right length
-abbrev start : tie.After-input → tie.Start
+abbrev start : tie.After-input-v → tie.Start
 start c = let d = c.before.before.before in d.before.before.before
 
 abbrev run_of : tie.Start → Run
@@ -24,61 +24,61 @@ run_of s = run s.args.has_before s.args.before.now s.args.frames.now s.args.has_
 abbrev first : tie.Start → List Place
 first s = input_places s.args.whose s.args.conv (run_of s)
 
-abbrev tested : tie.Else1 → tie.After-input
+abbrev tested : tie.Else-not-accepted → tie.After-input-v
 tested c = c.before.before
 
-abbrev fitting : tie.Else2 → tie.Else1
+abbrev fitting : tie.Else-n-expected → tie.Else-not-accepted
 fitting c = c.before.before
 
-returns : tie.Need-returns
+returns : tie.Need-returns-then-not-accepted
 unfolding byte_lengths
-returns c = stands (first (start c.before.before)) c.before.before.input.ensures c.before.accepted.ensures _ (not-true _ c.if1.true)
+returns c = stands (first (start c.before.before)) c.input-v.ensures c.accepted.ensures _ (not-true _ c.if-not-accepted.true)
 
-fits : (c : tie.Else1) → decide (first (start (tested c))) ≡ accepted
-fits c = passed (first (start (tested c))) (tested c).input.ensures c.before.accepted.ensures (not-false _ c.if1.false)
+fits : (c : tie.Else-not-accepted) → decide (first (start (tested c))) ≡ accepted
+fits c = passed (first (start (tested c))) (tested c).input-v.ensures c.accepted.ensures (not-false _ c.if-not-accepted.false)
 
-all_samples_requires : tie.Need-all-samples-requires
+all_samples_requires : tie.Need-all_samples-expected-requires
 all_samples_requires c κs =
     let s = start (tested c) in
     (s.pre, omega (arith, few_frames s.args.whose s.args.conv (run_of s) (fits c), rack_most s.args.whose))
 
-returns-2 : tie.Need-returns-2
+returns-2 : tie.Need-returns-then-n-expected
 unfolding byte_lengths lent_length all_samples channel_samples
 returns-2 c =
     let e = c.before.before in
-    sym (decide_skip (first (start (tested e))) _ (fits e) ∙ rw (← c.before.all_samples.ensures.0) (at_first _ _ (ap not (ne_eqb _ _ c.if2.true))))
+    sym (decide_skip (first (start (tested e))) _ (fits e) ∙ rw (← c.all_samples-expected.ensures.0) (at_first _ _ (ap not (ne_eqb _ _ c.if-n-expected.true))))
 
 -- past the output's length
-so_far : (c : tie.Else2) →
+so_far : (c : tie.Else-n-expected) →
     let s = start (tested (fitting c)) in
     decide (byte_lengths s.args.whose s.args.conv (run_of s) s.args.out.now s.args.lent s.args.counts.now)
     ≡ decide (if_present s.args.lent (lent_length 8 (length s.args.counts.now) (frame_count s.args.conv.channels s.args.frames.now)) ++ [])
 unfolding byte_lengths lent_length all_samples channel_samples
 so_far c =
     decide_skip (first (start (tested (fitting c)))) _ (fits (fitting c))
-    ∙ at_next _ _ (rw (← c.before.all_samples.ensures.0) (ap not (eq-eqb _ _ c.if2.false)))
+    ∙ at_next _ _ (rw (← c.all_samples-expected.ensures.0) (ap not (eq-eqb _ _ c.if-n-expected.false)))
     ∙ ap decide (sym (append-nil _))
 
-returns-3 : tie.Need-returns-3
+returns-3 : tie.Need-returns-then-m-count
 unfolding lent_length
 returns-3 c =
     let n = c.before in
     let e = n.before.before in
-    rw n.frame_count.ensures (sym (so_far e ∙ present_holds _ _ _ n.before.if3.true (ap not (ne_eqb _ _ (λ q. c.if4.true (q ∙ sym n.frame_count.ensures))))))
+    rw n.frame_count-count.ensures (sym (so_far e ∙ present_holds _ _ _ n.if-lent.true (ap not (ne_eqb _ _ (λ q. c.if-m-count.true (q ∙ sym n.frame_count-count.ensures))))))
 
-returns-4 : tie.Need-returns-4
+returns-4 : tie.Need-returns-else-m-count
 unfolding lent_length
 returns-4 c =
     let n = c.before in
     let l = n.before.before in
     let e = fitting l in
-    (tested e).input.ensures ∙ fits e
-    ∙ sym (so_far l ∙ present_passes _ _ _ n.before.if3.true (ap not (eq-eqb _ _ (c.if4.false ∙ n.frame_count.ensures))) ∙ at_end)
+    (tested e).input-v.ensures ∙ fits e
+    ∙ sym (so_far l ∙ present_passes _ _ _ n.if-lent.true (ap not (eq-eqb _ _ (c.if-m-count.false ∙ n.frame_count-count.ensures))) ∙ at_end)
 
-returns-5 : tie.Need-returns-5
+returns-5 : tie.Need-returns-else-lent
 returns-5 c =
     let e = fitting c.before in
-    (tested e).input.ensures ∙ fits e ∙ sym (so_far c.before ∙ absent_passes _ _ _ c.if3.false ∙ at_end)
+    (tested e).input-v.ensures ∙ fits e ∙ sym (so_far c.before ∙ absent_passes _ _ _ c.if-lent.false ∙ at_end)
 
 pub byte_lengths_spec : {M : Type 1} → statement M
 byte_lengths_spec =

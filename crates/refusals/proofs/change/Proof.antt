@@ -10,8 +10,8 @@ returns : tie.Need-returns
 unfolding change_places
 returns c =
     let w = c.before in
-    let a = w.before.before.args in
-    one_after (held_places a.conv) (wanted_places a.rate a.cutoff a.gain) w.before.held.ensures w.wanted.ensures c.first_of.ensures
+    let a = w.args in
+    one_after (held_places a.conv) (wanted_places a.rate a.cutoff a.gain) w.held-as_held.ensures w.wanted-asked.ensures c.first_of.ensures
 
 pub change_spec : {M : Type 1} → statement M
 change_spec = tie.close (tie.spec (λ c κs. search rules) (λ c κs. search rules) (λ c κs. search rules) returns)

@@ -7,12 +7,12 @@ use Rattle.reference.proofs.Promises.{exit_refused}
 use Rattle.refusals.proofs.first_of.Statement.{statement}
 use Rattle.refusals.proofs.first_of.Tie as tie
 
-returns : tie.Need-returns
+returns : tie.Need-returns-in-Accepted
 unfolding by_decision
-returns c = rw c.enum_told.given.1 refl
+returns c = rw c.in-Accepted.is refl
 
-returns-2 : tie.Need-returns-2
-returns-2 c = let refused = c.enum-told2.given in rw (refused.1, exit_refused _ _ _ (error_refuses refused.0.0)) refl
+returns-2 : tie.Need-returns-in-Refused
+returns-2 c = let refused = c.in-Refused.given in rw (refused.1, exit_refused _ _ _ (error_refuses refused.0.0)) refl
 
 pub first_of_spec : {M : Type 1} → statement M
 first_of_spec = tie.close (tie.spec (λ c. search rules) (λ c. search rules) returns returns-2)

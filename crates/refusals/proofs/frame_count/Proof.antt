@@ -5,7 +5,7 @@ use Rattle.reference.proofs.Refusals.{some_channel, stored_frame, stored_count}
 use Rattle.refusals.proofs.frame_count.Statement.{statement}
 use Rattle.refusals.proofs.frame_count.Tie as tie
 
-div_result : tie.Need-nonzero-div-result
+div_result : tie.Need-nonzero_div-result
 div_result c =
     let s = c.before in
     omega (arith, some_channel s.args.conv s.requires, stored_frame s.args.conv s.requires)

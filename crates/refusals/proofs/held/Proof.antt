@@ -11,8 +11,8 @@ returns : tie.Need-returns
 unfolding held_places
 returns c =
     let n = c.before in
-    let conv = n.before.before.before.before.args.conv in
-    one_after (opening_places (held_settings conv)) (numbers_place conv ∷ []) n.before.opening.ensures n.numbers.ensures c.first_of.ensures
+    let conv = n.args.conv in
+    one_after (opening_places (held_settings conv)) (numbers_place conv ∷ []) n.opening-settled.ensures n.numbers-counted.ensures c.first_of.ensures
 
 pub held_spec : {M : Type 1} → statement M
 held_spec = tie.close (tie.spec (λ c κs. search rules) (λ c κs. search rules) (λ c κs. search rules) returns)

@@ -18,31 +18,31 @@ run_of s = run s.args.has_before s.args.before.now s.args.frames.now s.args.has_
 abbrev first : (s : tie.Start) → List Place
 first s = input_places rack s.args.conv (run_of s)
 
-all_samples_requires : tie.Need-all-samples-requires
+all_samples_requires : tie.Need-all_samples-expected-requires
 all_samples_requires c κs =
     let at-input = c.before.before in
-    let s = at-input.before.before.before.before in (s.requires, few_frames rack s.args.conv (run_of s) (passed (first s) at-input.input.ensures c.before.accepted.ensures c.if1.true))
+    let s = at-input.before.before.before.before in (s.requires, few_frames rack s.args.conv (run_of s) (passed (first s) at-input.input-v.ensures c.accepted.ensures c.if-accepted.true))
 
-returns : tie.Need-returns
+returns : tie.Need-returns-then-n-expected
 unfolding run_lengths lent_length all_samples channel_samples
 returns c =
     let at-input = c.before.before.before.before in
     let s = at-input.before.before.before.before in
-    sym (goes_on (first s) at-input.input.ensures c.before.before.before.accepted.ensures _ c.before.before.if1.true ∙ rw (← c.before.all_samples.ensures.0) (at_first _ _ (ap not (ne_eqb _ _ c.if2.true))))
+    sym (goes_on (first s) at-input.input-v.ensures c.accepted.ensures _ c.if-accepted.true ∙ rw (← c.all_samples-expected.ensures.0) (at_first _ _ (ap not (ne_eqb _ _ c.if-n-expected.true))))
 
-returns-2 : tie.Need-returns-2
+returns-2 : tie.Need-returns-else-n-expected
 unfolding run_lengths lent_length all_samples channel_samples
 returns-2 c =
     let at-input = c.before.before.before.before in
     let s = at-input.before.before.before.before in
-    at-input.input.ensures ∙ passed (first s) at-input.input.ensures c.before.before.before.accepted.ensures c.before.before.if1.true
-    ∙ sym (goes_on (first s) at-input.input.ensures c.before.before.before.accepted.ensures _ c.before.before.if1.true ∙ rw (← c.before.all_samples.ensures.0) (at_next _ _ (ap not (eq-eqb _ _ c.if2.false)) ∙ at_end))
+    at-input.input-v.ensures ∙ passed (first s) at-input.input-v.ensures c.accepted.ensures c.if-accepted.true
+    ∙ sym (goes_on (first s) at-input.input-v.ensures c.accepted.ensures _ c.if-accepted.true ∙ rw (← c.all_samples-expected.ensures.0) (at_next _ _ (ap not (eq-eqb _ _ c.if-n-expected.false)) ∙ at_end))
 
-returns-3 : tie.Need-returns-3
+returns-3 : tie.Need-returns-else-accepted
 unfolding run_lengths
 returns-3 c =
     let at-input = c.before.before in
-    let s = at-input.before.before.before.before in stands (first s) at-input.input.ensures c.before.accepted.ensures _ c.if1.false
+    let s = at-input.before.before.before.before in stands (first s) at-input.input-v.ensures c.accepted.ensures _ c.if-accepted.false
 
 pub item_lengths_spec : {M : Type 1} → statement M
 item_lengths_spec =

@@ -16,10 +16,10 @@ use Rattle.rounding.proofs.div_round23.Tie as tie
 abbrev near : ℕ → ℕ
 near w = w / 8388608 + (w % 8388608 + 4194303 + w / 8388608 % 2) / 8388608
 
-cast_w : tie.Need-overflow-cast-w
+cast_w : tie.Need-overflow_cast-w
 cast_w c = whole_cast c.ranges.lifted c.requires.0
 
-add_lower : tie.Need-overflow-add-lower
+add_lower : tie.Need-overflow_add-floor
 add_lower c = record { fits = omega (arith, c.requires.1, ap nat_abs (to_z-of_z c.ranges.lifted)) }
 
 lower_requires : tie.Need-lower-requires
@@ -28,7 +28,7 @@ lower_requires c κs = omega (arith, c.requires.1, ap nat_abs (to_z-of_z c.range
 returns : tie.Need-returns
 returns c =
     let k = c.before in
-    val _ _ c.lower.type-inv
+    val _ _ c.lower.type_inv
     (c.lower.ensures
     ∙ ap (λ (w : ℕ). pos (near w) -ℤ pos 1073741824) (ap nat_abs (to_z-of_z k.ranges.lifted))
     ∙ sym (lifted_R 23 536870912 (nat_abs k.args.lifted) 4194303 (lit≤ tt) refl)

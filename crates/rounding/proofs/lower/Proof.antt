@@ -6,7 +6,7 @@ use borrow.Author.Rules.{rules}
 use Rattle.rounding.proofs.lower.Statement.{statement}
 use Rattle.rounding.proofs.lower.Tie as tie
 
-sub_result : tie.Need-overflow-sub-result
+sub_result : tie.Need-overflow_sub-result
 sub_result c = less_fits {s = pos c.args.n} c.args.lift (pos_fits (omega arith)) (omega arith)
 
 returns : tie.Need-returns

@@ -13,47 +13,47 @@ use Rattle.runs.proofs.Sums.{Frames, frames_none, frames_past, frames_more, read
 use Rattle.runs.proofs.every.Statement.{statement}
 use Rattle.runs.proofs.every.Tie as tie
 
-abbrev invariant-loop : tie.invariant-loop
+abbrev invariant-loop : tie.invariant-loop-f
 invariant-loop conv before frames after frame_count tables taps packed out₀ raw₀ counts₀ spf tallies₀ f₀ out raw counts tallies f =
     (f ≤ frame_count) × Frames packed conv (lent_run before frames after) f out₀ out raw₀ raw tallies counts₀ counts
 
-abbrev decreases-loop : tie.decreases-loop
+abbrev decreases-loop : tie.decreases-loop-f
 decreases-loop conv before frames after frame_count tables taps packed out₀ raw₀ counts₀ spf tallies₀ f₀ out raw counts tallies f = frame_count - f
 
 -- places: the function's start; the samples of a frame are known; the frame's turn
-abbrev entry : tie.After-slice-known2 invariant-loop decreases-loop → tie.Start invariant-loop decreases-loop
+abbrev entry : tie.After-slice_known-2-1 invariant-loop decreases-loop → tie.Start invariant-loop decreases-loop
 entry c = c.before.before.before.before.before
 
-abbrev known : tie.At-loop invariant-loop decreases-loop → tie.After-samples-per-frame invariant-loop decreases-loop
+abbrev known : tie.At-loop-f invariant-loop decreases-loop → tie.After-samples_per_frame-spf invariant-loop decreases-loop
 known c = c.before.before
 
-abbrev start : tie.At-loop invariant-loop decreases-loop → tie.Start invariant-loop decreases-loop
+abbrev start : tie.At-loop-f invariant-loop decreases-loop → tie.Start invariant-loop decreases-loop
 start c = entry (known c).before
 
-abbrev turn : tie.After-frame invariant-loop decreases-loop → tie.In-loop invariant-loop decreases-loop
+abbrev turn : tie.After-frame-told invariant-loop decreases-loop → tie.In-loop-f invariant-loop decreases-loop
 turn c = c.before.before.before
 
-loop-holds : tie.Need-loop-init invariant-loop decreases-loop
-loop-holds c = (omega arith, rw c.no-tally.ensures frames_none)
+loop-holds : tie.Need-loop-f-init invariant-loop decreases-loop
+loop-holds c = (omega arith, rw c.no_tally-zero.ensures frames_none)
 
-mul_frame : tie.Need-overflow-mul-frame invariant-loop decreases-loop
+mul_frame : tie.Need-overflow_mul-f invariant-loop decreases-loop
 mul_frame c =
     let s = start c.before in
-    let k = (known c.before).samples_per_frame in
-    omega (arith, part_end c.before.loop.f s.args.frame_count k.result c.loop-test.true, mul-le-mul s.pre.0.slices.limit k.ensures.1)
+    let k = (known c.before).samples_per_frame-spf in
+    omega (arith, part_end c.loop-f.f s.args.frame_count k.result c.loop-f-test.true, mul-le-mul s.pre.0.slices.limit k.ensures.1)
 
-frame_requires : tie.Need-frame-requires invariant-loop decreases-loop
+frame_requires : tie.Need-frame-told-requires invariant-loop decreases-loop
 frame_requires c κs =
     let t = c.before.before in
     let s = start t.before in
     let conv = s.args.conv in
-    let l = t.before.loop in
+    let l = t.loop-f in
     let slices = s.pre.0.slices in
-    rw (known t.before).samples_per_frame.ensures.0 (
+    rw (known t.before).samples_per_frame-spf.ensures.0 (
       ready_counted conv slices s.pre.0,
       (
         (
-          in_run conv slices (part_end l.f s.args.frame_count (samples_per_frame conv.rate) t.loop-test.true),
+          in_run conv slices (part_end l.f s.args.frame_count (samples_per_frame conv.rate) t.loop-f-test.true),
           room_same l.invariant.1.box (room_counted conv slices s.pre.1.0),
           even_frames l.f conv.rate,
         ),
@@ -62,41 +62,41 @@ frame_requires c κs =
     )
 
 -- places: the frame is done; its tallies are taken
-abbrev done : tie.After-sums invariant-loop decreases-loop → tie.After-frame invariant-loop decreases-loop
+abbrev done : tie.After-sums-1 invariant-loop decreases-loop → tie.After-frame-told invariant-loop decreases-loop
 done c = c.before.before.before.before
 
 -- the frame is one of the run's
-in_frames : (c : tie.After-sums invariant-loop decreases-loop) → (turn (done c)).before.loop.f < 540000
+in_frames : (c : tie.After-sums-1 invariant-loop decreases-loop) → (turn (done c)).before.loop-f.f < 540000
 in_frames c =
     let t = turn (done c) in
     omega (arith, t.loop-test.taken, (start t.before).pre.0.slices.limit)
 
-mul_counts : tie.Need-overflow-mul-counts invariant-loop decreases-loop
+mul_counts : tie.Need-offset_bounds-counts-f invariant-loop decreases-loop
 mul_counts c = omega (arith, in_frames c.before)
 
-add_f : tie.Need-overflow-add-f invariant-loop decreases-loop
+add_f : tie.Need-overflow_add-f invariant-loop decreases-loop
 add_f c = omega (arith, in_frames c.before)
 
-loop-less : tie.Need-loop-smaller invariant-loop decreases-loop
-loop-less c = omega (arith, (turn (done c.before)).loop-test.taken)
+loop-less : tie.Need-loop-f-smaller invariant-loop decreases-loop
+loop-less c = omega (arith, (turn (done c.before)).loop-f-test.taken)
 
-loop-again : tie.Need-loop-preserved invariant-loop decreases-loop
+loop-again : tie.Need-loop-f-preserved invariant-loop decreases-loop
 loop-again c =
     let d = done c.before in
     let t = turn d in
     let frames = t.before.loop.inv.1 in
-    let at = ap (λ z. t.before.loop.f * z) (known t.before).samples_per_frame.ensures.0 in
+    let at = ap (λ z. t.before.loop.f * z) (known t.before).samples_per_frame-spf.ensures.0 in
     let e = d.frame.ensures in (
       omega (arith, t.loop-test.taken),
-      ⊎_elim (λ w. rw w.1 (frames_more frames at e.0 e.1.0 d.frame.result.clips w.0.taken e.1.1)) (λ w. rw w.1 (frames_past frames at e.0 e.1.0 w.0.left)) c.if1.branch,
+      ⊎_elim (λ w. rw w.1 (frames_more frames at e.0 e.1.0 d.frame.result.clips w.0.taken e.1.1)) (λ w. rw w.1 (frames_past frames at e.0 e.1.0 w.0.left)) c.if-f-counts.branch,
     )
 
 returns : tie.Need-returns invariant-loop decreases-loop
 unfolding lent_run
 returns c =
-    let l = c.before.before.loop in
+    let l = c.loop-f in
     let s = start c.before.before in
-    let e : l.f ≡ s.args.frame_count = omega (arith, c.before.loop-test.false, l.invariant.0) in
+    let e : l.f ≡ s.args.frame_count = omega (arith, c.loop-f-test.false, l.invariant.0) in
     let all = rw e at l.invariant.1 in
     run_done all s.pre.0.slices.some s.pre.0.slices.whole s.pre.1.0 s.pre.1.1 c.stats_of.ensures
 

@@ -10,85 +10,85 @@ use Rattle.runs.proofs.Sums.{Columns, columns_none, columns_more, columns_few, c
 use Rattle.runs.proofs.frame.Statement.{statement}
 use Rattle.runs.proofs.frame.Tie as tie
 
-abbrev invariant-loop : tie.invariant-loop
+abbrev invariant-loop : tie.invariant-loop-channel
 invariant-loop conv before frames after tables taps n packed out₀ raw₀ channels sums₀ clips₀ channel₀ out raw sums clips channel = Columns packed conv (lent_run before frames after) n channel clips out₀ out raw₀ raw sums
 
-abbrev decreases-loop : tie.decreases-loop
+abbrev decreases-loop : tie.decreases-loop-channel
 decreases-loop conv before frames after tables taps n packed out₀ raw₀ channels sums₀ clips₀ channel₀ out raw sums clips channel = conv.channels - channel
 
 -- places: the function's start; the channel's turn; the channel is done
-abbrev entry : tie.After-struct-known invariant-loop decreases-loop → tie.Start invariant-loop decreases-loop
+abbrev entry : tie.After-struct_known-1 invariant-loop decreases-loop → tie.Start invariant-loop decreases-loop
 entry c = c.before.before.before.before.before
 
-abbrev start : tie.In-loop invariant-loop decreases-loop → tie.Start invariant-loop decreases-loop
+abbrev start : tie.In-loop-channel invariant-loop decreases-loop → tie.Start invariant-loop decreases-loop
 start c = entry c.before.before
 
-abbrev turn : tie.After-channel invariant-loop decreases-loop → tie.In-loop invariant-loop decreases-loop
+abbrev turn : tie.After-channel-more invariant-loop decreases-loop → tie.In-loop-channel invariant-loop decreases-loop
 turn c = c.before.before.before
 
-abbrev done : tie.After-slice-known2 invariant-loop decreases-loop → tie.After-channel invariant-loop decreases-loop
+abbrev done : tie.After-slice_known-in-loop-channel-1 invariant-loop decreases-loop → tie.After-channel-more invariant-loop decreases-loop
 done c = c.before.before.before
 
 -- the channel is one of six
-few : (c : tie.In-loop invariant-loop decreases-loop) → c.before.loop.channel < 6
-few c = omega (arith, c.loop-test.true, (start c).requires.0.slices.few)
+few : (c : tie.In-loop-channel invariant-loop decreases-loop) → c.loop-channel.channel < 6
+few c = omega (arith, c.loop-channel-test.true, (start c).requires.0.slices.few)
 
 -- the run's samples fit a u64 many times over
-small : (c : tie.In-loop invariant-loop decreases-loop) → ((start c).args.n + samples_per_frame (start c).args.conv.rate ≤ 540000 * 4704) × (samples_per_frame (start c).args.conv.rate ≤ 4704)
+small : (c : tie.In-loop-channel invariant-loop decreases-loop) → ((start c).args.n + samples_per_frame (start c).args.conv.rate ≤ 540000 * 4704) × (samples_per_frame (start c).args.conv.rate ≤ 4704)
 small c = let s = start c in (omega (arith, s.pre.1.0.0, run_samples s.args.conv s.pre.0.slices), frame_samples s.args.conv.rate)
 
-loop-holds : tie.Need-loop-init invariant-loop decreases-loop
+loop-holds : tie.Need-loop-channel-init invariant-loop decreases-loop
 loop-holds c = columns_none (entry c).requires.1.1
 
-channel_requires : tie.Need-channel-requires invariant-loop decreases-loop
+channel_requires : tie.Need-channel-more-requires invariant-loop decreases-loop
 channel_requires c κs =
     let t = c.before.before in
     let s = start t in
-    (s.pre.0, (t.loop-test.true, s.pre.1.0.0, room_same t.before.loop.invariant.box s.pre.1.0.1, s.pre.1.0.2))
+    (s.pre.0, (t.loop-channel-test.true, s.pre.1.0.0, room_same t.loop-channel.invariant.box s.pre.1.0.1, s.pre.1.0.2))
 
-mul_sum : tie.Need-overflow-mul-sum invariant-loop decreases-loop
+mul_sum : tie.Need-offset_bounds-sums-channel invariant-loop decreases-loop
 mul_sum c = omega (arith, few (turn (done c)))
 
-array_copy_out_sum : tie.Need-array-copy-out-sum invariant-loop decreases-loop
+array_copy_out_sum : tie.Need-bounds-sums-channel invariant-loop decreases-loop
 array_copy_out_sum c = few (turn (done c))
 
-join_tally_requires : tie.Need-join-tally-requires invariant-loop decreases-loop
+join_tally_requires : tie.Need-join_tally-both-requires invariant-loop decreases-loop
 join_tally_requires c κs =
     let d = done c.before in
     let t = turn d in
     tallied_fits t.before.loop.inv.tallied t.loop-test.taken d.channel.ensures.is_told _ (few t) (omega (arith, small t))
 
-mul_sums : tie.Need-overflow-mul-sums invariant-loop decreases-loop
+mul_sums : tie.Need-offset_bounds-sums-channel-in-loop-channel invariant-loop decreases-loop
 mul_sums c = omega (arith, few (turn (done c.before.before)))
 
-array_set_from_sums : tie.Need-array-set-from-sums invariant-loop decreases-loop
+array_set_from_sums : tie.Need-bounds-sums-channel-in-loop-channel invariant-loop decreases-loop
 array_set_from_sums c = few (turn (done c.before.before))
 
 -- the channel's tally is joined to its sum
-abbrev joined : tie.After-struct-known2 invariant-loop decreases-loop → tie.After-channel invariant-loop decreases-loop
+abbrev joined : tie.After-struct_known-in-loop-channel-1 invariant-loop decreases-loop → tie.After-channel-more invariant-loop decreases-loop
 joined c = done c.before.before.before
 
-add_clips : tie.Need-overflow-add-clips invariant-loop decreases-loop
+add_clips : tie.Need-overflow_add-clips invariant-loop decreases-loop
 add_clips c =
     let d = joined c in
     let t = turn d in
     omega (arith, columns_few t.before.loop.inv, made_few d.channel.ensures, small t, few t)
 
-add_channel : tie.Need-overflow-add-channel invariant-loop decreases-loop
+add_channel : tie.Need-overflow_add-channel invariant-loop decreases-loop
 add_channel c = omega (arith, few (turn (joined c)))
 
-loop-less : tie.Need-loop-smaller invariant-loop decreases-loop
-loop-less c = omega (arith, (turn (joined c)).loop-test.taken)
+loop-less : tie.Need-loop-channel-smaller invariant-loop decreases-loop
+loop-less c = omega (arith, (turn (joined c)).loop-channel-test.taken)
 
-loop-again : tie.Need-loop-preserved invariant-loop decreases-loop
+loop-again : tie.Need-loop-channel-preserved invariant-loop decreases-loop
 loop-again c =
     let d = joined c in
     let t = turn d in
-    columns_more t.before.loop.inv _ t.loop-test.taken (start t).pre.0.slices.few d.channel.ensures c.before.join-tally.ensures
+    columns_more t.before.loop.inv _ t.loop-test.taken (start t).pre.0.slices.few d.channel.ensures c.join_tally-both.ensures
 
 returns : tie.Need-returns invariant-loop decreases-loop
 returns c =
-    let k = columns_all c.before.loop.invariant c.loop-test.false in
+    let k = columns_all c.loop-channel.invariant c.loop-channel-test.false in
     (k.box, (tallied_all k.tallied, k.sum))
 
 pub frame_spec : {M : Type 1} → statement M

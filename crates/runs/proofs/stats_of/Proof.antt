@@ -33,50 +33,50 @@ module _ {A : Type 0} {d : A} {p : Tally → A} {tallies : List Tally} {c : ℕ}
   part_all : 6 ≤ c → l ≡ tabulate (λ j. p (get_or tallies j none)) 0 6
   part_all m = is_tabulate (λ j. p (get_or tallies j none)) 0 6 d l h.six (λ i q. h.held.is i (omega arith))
 
-abbrev invariant-loop : tie.invariant-loop
+abbrev invariant-loop : tie.invariant-loop-c
 invariant-loop tallies clipped₀ lowest₀ highest₀ empty₀ c₀ clipped lowest highest empty c =
     (c ≤ 6) × Part 0 (λ t. t.clipped) tallies c clipped × Part (pos 0) (λ t. t.lowest) tallies c lowest × Part (pos 0) (λ t. t.highest) tallies c highest
     × Part true (λ t. t.empty) tallies c empty
 
-abbrev decreases-loop : tie.decreases-loop
+abbrev decreases-loop : tie.decreases-loop-c
 decreases-loop tallies clipped₀ lowest₀ highest₀ empty₀ c₀ clipped lowest highest empty c = 6 - c
 
-loop-holds : tie.Need-loop-init invariant-loop decreases-loop
+loop-holds : tie.Need-loop-c-init invariant-loop decreases-loop
 loop-holds c =
     (omega arith, record { six = refl; held = held_none }, record { six = refl; held = held_none }, record { six = refl; held = held_none }, record { six = refl; held = held_none })
 
-array_copy_out_one : tie.Need-array-copy-out-one invariant-loop decreases-loop
-array_copy_out_one c = c.loop-test.true
+array_copy_out_one : tie.Need-bounds-tallies-c invariant-loop decreases-loop
+array_copy_out_one c = c.loop-c-test.true
 
-array_write_clipped : tie.Need-array-write-clipped invariant-loop decreases-loop
-array_write_clipped c = c.before.loop-test.true
+array_write_clipped : tie.Need-bounds-clipped-c invariant-loop decreases-loop
+array_write_clipped c = c.loop-c-test.true
 
-array_set_from_lowest : tie.Need-array-set-from-lowest invariant-loop decreases-loop
-array_set_from_lowest c = c.before.before.loop-test.true
+array_set_from_lowest : tie.Need-bounds-lowest-c invariant-loop decreases-loop
+array_set_from_lowest c = c.loop-c-test.true
 
-array_set_from_highest : tie.Need-array-set-from-highest invariant-loop decreases-loop
-array_set_from_highest c = c.before.before.before.loop-test.true
+array_set_from_highest : tie.Need-bounds-highest-c invariant-loop decreases-loop
+array_set_from_highest c = c.loop-c-test.true
 
-array_write_empty : tie.Need-array-write-empty invariant-loop decreases-loop
-array_write_empty c = c.before.before.before.loop-test.true
+array_write_empty : tie.Need-bounds-empty-c invariant-loop decreases-loop
+array_write_empty c = c.loop-c-test.true
 
-loop-again : tie.Need-loop-preserved invariant-loop decreases-loop
+loop-again : tie.Need-loop-c-preserved invariant-loop decreases-loop
 loop-again c =
     let one = c.before.before in
-    let l = one.before.before.loop in
-    let m = one.before.loop-test.true in
-    let there : l.c < length one.before.before.before.args.t1 = omega (arith, m) in (
+    let l = one.loop-c in
+    let m = one.loop-c-test.true in
+    let there : l.c < length one.args.t1 = omega (arith, m) in (
       omega arith,
       part_more l.invariant.1 _ there m refl,
-      part_more l.invariant.2 _ there m (to_z-of_z (record { sfits = c.before.struct_told.given.1.0.1 })),
-      part_more l.invariant.3 _ there m (to_z-of_z (record { sfits = c.struct-told2.given.1.1.0.1 })),
+      part_more l.invariant.2 _ there m (to_z-of_z (record { sfits = c.struct_told-1.given.1.0.1 })),
+      part_more l.invariant.3 _ there m (to_z-of_z (record { sfits = c.struct_told-in-loop-c-1.given.1.1.0.1 })),
       part_more l.invariant.4 _ there m refl,
     )
 
 returns : tie.Need-returns invariant-loop decreases-loop
 unfolding stats_of
-returns c = let l = c.before.loop in
-    let full : 6 ≤ l.c = omega (arith, c.loop-test.false) in
+returns c = let l = c.loop-c in
+    let full : 6 ≤ l.c = omega (arith, c.loop-c-test.false) in
     rw (part_all l.invariant.1 full, part_all l.invariant.2 full, part_all l.invariant.3 full, part_all l.invariant.4 full) refl
 
 pub stats_of_spec : {M : Type 1} → statement M

@@ -14,27 +14,27 @@ run_of s = run s.args.has_before s.args.before.now s.args.frames.now s.args.has_
 abbrev places : (s : tie.Start) → List Place
 places s = convert_frame_places s.args.conv (run_of s) s.args.out.now
 
-items_requires : tie.Need-items-requires
+items_requires : tie.Need-items-stats-requires
 items_requires c κs =
     let at-frame-call = c.before.before.before in
     let s = at-frame-call.before.before.before.before.before in
-    let h = frame_accepted s.args.conv (run_of s) s.args.out.now (passed (places s) at-frame-call.frame-call.ensures c.before.before.accepted.ensures c.before.if1.true) in
+    let h = frame_accepted s.args.conv (run_of s) s.args.out.now (passed (places s) at-frame-call.frame_call-verdict.ensures c.accepted.ensures c.if-accepted.true) in
     (h.0, h.1)
 
-returns : tie.Need-returns
+returns : tie.Need-returns-then-accepted
 returns c =
     let at-frame-call = c.before.before.before.before.before in
     let s = at-frame-call.before.before.before.before.before in
-    let g = c.before.items in
-    samples_promise (places s) s.args.conv (run_of s) at-frame-call.frame-call.result at-frame-call.frame-call.ensures (passed (places s) at-frame-call.frame-call.ensures c.before.before.before.before.accepted.ensures c.before.before.before.if1.true)
+    let g = c.items-stats in
+    samples_promise (places s) s.args.conv (run_of s) at-frame-call.frame_call-verdict.result at-frame-call.frame_call-verdict.ensures (passed (places s) at-frame-call.frame_call-verdict.ensures c.accepted.ensures c.if-accepted.true)
     g.result g.ensures.1 s.args.out.now _ g.ensures.0
 
-returns-2 : tie.Need-returns-2
+returns-2 : tie.Need-returns
 returns-2 c =
     let at-frame-call = c.before.before.before in
     let s = at-frame-call.before.before.before.before.before in
-    samples_refused (places s) s.args.conv (run_of s) at-frame-call.frame-call.result at-frame-call.frame-call.ensures (turned_down (places s) at-frame-call.frame-call.ensures c.before.before.accepted.ensures c.before.if1.false)
-    c.no_stats.result c.no_stats.ensures s.args.out.now
+    samples_refused (places s) s.args.conv (run_of s) at-frame-call.frame_call-verdict.result at-frame-call.frame_call-verdict.ensures (turned_down (places s) at-frame-call.frame_call-verdict.ensures c.accepted.ensures c.if-accepted.false)
+    c.no_stats-stats.result c.no_stats-stats.ensures s.args.out.now
 
 pub convert_frame_parts_spec : {M : Type 1} → statement M
 convert_frame_parts_spec =

@@ -13,59 +13,59 @@ use Rattle.schedule.proofs.Ranges.{Ranges, ranges}
 use Rattle.schedule.proofs.finish.Statement.{statement}
 use Rattle.schedule.proofs.finish.Tie as tie
 
-abbrev invariant-loop : tie.invariant-loop
+abbrev invariant-loop : tie.invariant-loop-b
 invariant-loop frames dues turn a albums sum₀ b₀ sum b =
     let s = board frames dues turn in
     (b ≤ length frames) × (sum ≡ total (ahead s a) 0 b) × (sum ≤ 540000 * b) × Ranges s
 
-abbrev decreases-loop : tie.decreases-loop
+abbrev decreases-loop : tie.decreases-loop-b
 decreases-loop frames dues turn a albums sum₀ b₀ sum b = length frames - b
 
 known : (c : tie.Start invariant-loop decreases-loop) → Ranges (board c.args.frames.now c.args.dues.now c.args.turn)
 known c = ranges _ c.requires.0
 
-loop-holds : tie.Need-loop-init invariant-loop decreases-loop
+loop-holds : tie.Need-loop-b-init invariant-loop decreases-loop
 unfolding total
 loop-holds c = (omega arith, refl, omega arith, known c.before.before)
 
-mul_place : tie.Need-overflow-mul-place invariant-loop decreases-loop
-mul_place c = omega (arith, c.before.loop.invariant.3.few)
+mul_place : tie.Need-offset_bounds-dues-b invariant-loop decreases-loop
+mul_place c = omega (arith, c.loop-b.invariant.3.few)
 
 place_requires : tie.Need-place-requires invariant-loop decreases-loop
-place_requires c κs = let r = c.before.before.loop.invariant.3 in (omega (arith, r.album c.before.before.loop.b (omega arith)), omega (arith, r.few))
+place_requires c κs = let r = c.loop-b.invariant.3 in (omega (arith, r.album c.loop-b.b (omega arith)), omega (arith, r.few))
 
-mul_place_2 : tie.Need-overflow-mul-place-2 invariant-loop decreases-loop
-mul_place_2 c = omega (arith, c.before.before.before.loop.invariant.3.few)
+mul_place_2 : tie.Need-offset_bounds-dues-a invariant-loop decreases-loop
+mul_place_2 c = omega (arith, c.loop-b.invariant.3.few)
 
-place_requires_2 : tie.Need-place-requires-2 invariant-loop decreases-loop
+place_requires_2 : tie.Need-place-requires-in-loop-b invariant-loop decreases-loop
 place_requires_2 c κs =
     let l = c.before.before.before.before in
     let s = l.before.before.before in
-    let r = l.loop.invariant.3 in (omega (arith, r.album s.args.a s.requires.2), omega (arith, r.few))
+    let r = l.loop-b.invariant.3 in (omega (arith, r.album s.args.a s.requires.2), omega (arith, r.few))
 
-turns_requires : tie.Need-turns-requires invariant-loop decreases-loop
+turns_requires : tie.Need-turns-sum-requires invariant-loop decreases-loop
 turns_requires c κs =
     let p = c.before.before in
-    let l = p.before.before.before.before.before.loop in
+    let l = p.loop-b in
     let r = l.invariant.3 in
     let a = r.album l.b (omega arith) in (a.framed, a.long, r.turning)
 
-loop-again : tie.Need-loop-preserved invariant-loop decreases-loop
+loop-again : tie.Need-loop-b-preserved invariant-loop decreases-loop
 loop-again c =
     let p = c.before.before.before in
     let i = p.before.before.before in
-    let l = i.loop in
-    let a = i.before.before.before.args in
+    let l = i.loop-b in
+    let a = i.args in
     let s = board a.frames.now a.dues.now a.turn in
     let other = p.place.ensures in
-    let own = c.before.place2.ensures in
+    let own = c.place-in-loop-b.ensures in
     let more = (l.invariant.3.album l.b (omega arith)).framed in
     ⊎_elim (λ w. (omega arith, w.3 ∙ ap (λ k. l.sum + k) w.2.ensures.0 ∙ counted s a.a l.b l.sum l.invariant.1 (omega (arith, own, other, w.0.taken)) more, omega (arith, w.2.ensures.1, w.3), l.invariant.3))
-    (λ w. (omega arith, w.1 ∙ passed s a.a l.b l.sum l.invariant.1 (omega (arith, own, other, w.0.left)), omega (arith, w.1), l.invariant.3)) c.if1.branch
+    (λ w. (omega arith, w.1 ∙ passed s a.a l.b l.sum l.invariant.1 (omega (arith, own, other, w.0.left)), omega (arith, w.1), l.invariant.3)) c.if-place.branch
 
 returns : tie.Need-returns invariant-loop decreases-loop
 returns c =
-    let l = c.before.loop in
+    let l = c.loop-b in
     let s = c.before.before.before.before in
     let e : l.b ≡ length s.args.frames.now = omega arith in (rw e at l.invariant.1 ∙ sym (simulated_finish _ l.invariant.3 s.args.a s.requires.2), omega (arith, l.invariant.3.few))
 

@@ -18,7 +18,7 @@ module _ (f d : ℕ) (p : f ≤ 4320000) (q : d ≤ 1000000) where
   fits : SFits w32 (pos f -ℤ pos d)
   fits = sfits_abs (omega (arith, abs_add (pos f) (neg_ℤ (pos d)), abs_neg (pos d)))
 
-sub_result : tie.Need-overflow-sub-result
+sub_result : tie.Need-overflow_sub-result
 sub_result c = rw (minus c.args.finish c.args.due c.requires.0 c.requires.1) (fits c.args.finish c.args.due c.requires.0 c.requires.1)
 
 returns : tie.Need-returns

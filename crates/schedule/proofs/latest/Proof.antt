@@ -33,35 +33,35 @@ more f a l s t before picked =
     let i : suc (a - 1) ≡ a = omega arith in
     to_z-of_z t ∙ picked ∙ rw (before, to_z-of_z s, e, i) refl
 
-abbrev invariant-loop : tie.invariant-loop
+abbrev invariant-loop : tie.invariant-loop-a
 invariant-loop late albums most₀ a₀ most a = (1 ≤ a) × (a ≤ length late) × (to_z w32 most ≡ greatest (at late) (a - 1))
 
-abbrev decreases-loop : tie.decreases-loop
+abbrev decreases-loop : tie.decreases-loop-a
 decreases-loop late albums most₀ a₀ most a = length late - a
 
-returns : tie.Need-returns invariant-loop decreases-loop
-returns c = none c.before.args.late.now c.if1.true
+returns : tie.Need-returns-then-albums-eq0 invariant-loop decreases-loop
+returns c = none c.args.late.now c.if-albums-eq0.true
 
-shared_slice_copy_out_most : tie.Need-shared-slice-copy-out-most invariant-loop decreases-loop
-shared_slice_copy_out_most c = pos_of_ne-zero c.if1.false
+shared_slice_copy_out_most : tie.Need-bounds-late-0 invariant-loop decreases-loop
+shared_slice_copy_out_most c = pos_of_ne-zero c.if-albums-eq0.false
 
-loop-holds : tie.Need-loop-init invariant-loop decreases-loop
+loop-holds : tie.Need-loop-a-init invariant-loop decreases-loop
 unfolding greatest
-loop-holds c = (omega arith, pos_of_ne-zero c.before.if1.false, to_z-of_z (record { sfits = c.most.given }))
+loop-holds c = (omega arith, pos_of_ne-zero c.if-albums-eq0.false, to_z-of_z (record { sfits = c.most-1.given }))
 
-loop-again : tie.Need-loop-preserved invariant-loop decreases-loop
+loop-again : tie.Need-loop-a-preserved invariant-loop decreases-loop
 loop-again c =
     let at-loop = c.before.before.before in
     let entry = at-loop.before.before.before in
-    let l = at-loop.loop in
+    let l = at-loop.loop-a in
     let late = entry.args.late.now in
-    let s : SFits w32 (at late l.a) = record { sfits = c.before.s.given } in
-    (omega arith, omega arith, more (at late) l.a l.invariant.0 s (record { sfits = c.greater.type-inv }) l.invariant.2 c.greater.ensures)
+    let s : SFits w32 (at late l.a) = record { sfits = c.s-1.given } in
+    (omega arith, omega arith, more (at late) l.a l.invariant.0 s (record { sfits = c.greater-most.type_inv }) l.invariant.2 c.greater-most.ensures)
 
-returns-2 : tie.Need-returns-2 invariant-loop decreases-loop
+returns-2 : tie.Need-returns invariant-loop decreases-loop
 returns-2 c =
-    let l = c.before.loop in
-    let e : l.a ≡ length c.before.before.before.before.args.late.now = omega arith in
+    let l = c.loop-a in
+    let e : l.a ≡ length c.args.late.now = omega arith in
     rw e at l.invariant.2
 
 pub latest_spec : {M : Type 1} → statement M

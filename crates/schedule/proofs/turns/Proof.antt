@@ -6,7 +6,7 @@ use borrow.Author.Rules.{rules}
 use Rattle.schedule.proofs.turns.Statement.{statement}
 use Rattle.schedule.proofs.turns.Tie as tie
 
-add_result : tie.Need-overflow-add-result
+add_result : tie.Need-overflow_add-result
 add_result c = omega (arith, div-le_self (c.args.frames - 1) c.args.turn)
 
 returns : tie.Need-returns

@@ -13,16 +13,16 @@ slice_aggregate_put c = search rules
 put_requires : tie.Need-put-requires
 put_requires c κs = search rules
 
-same_length : tie.Need-same-length
+same_length : tie.Need-shape_of-out-then-a-b
 same_length c = search rules
 
-returns : tie.Need-returns
+returns : tie.Need-returns-then-a-b
 unfolding lengths text
 returns c =
     let said = c.before.before in
     let then1 = said.before.before.before in
     let s = then1.before.before in
-    rw (eq-eqb s.args.a s.args.b then1.if1.true) said.put.ensures
+    rw (eq-eqb s.args.a s.args.b then1.if-a-b.true) said.put.ensures
 
 slice_aggregate_around : tie.Need-slice-aggregate-around
 slice_aggregate_around c = search rules
@@ -30,7 +30,7 @@ slice_aggregate_around c = search rules
 slice_aggregate_around_2 : tie.Need-slice-aggregate-around-2
 slice_aggregate_around_2 c = search rules
 
-around_requires : tie.Need-around-requires
+around_requires : tie.Need-around-n-requires
 around_requires c κs = search rules
 
 slice_aggregate_around_3 : tie.Need-slice-aggregate-around-3
@@ -39,13 +39,13 @@ slice_aggregate_around_3 c = search rules
 slice_aggregate_around_4 : tie.Need-slice-aggregate-around-4
 slice_aggregate_around_4 c = search rules
 
-around_requires_2 : tie.Need-around-requires-2
+around_requires_2 : tie.Need-around-requires
 around_requires_2 c κs = search rules
 
-same-length-2 : tie.Need-same-length-2
+same-length-2 : tie.Need-shape_of-out
 same-length-2 c = search rules
 
-returns-2 : tie.Need-returns-2
+returns-2 : tie.Need-returns
 unfolding lengths text
 returns-2 c =
     let second = c.before.before in
@@ -53,21 +53,16 @@ returns-2 c =
     let first = back.before.before.before in
     let else1 = first.before.before.before.before in
     let s = else1.before.before in
-    rw (ne_eqb s.args.a s.args.b else1.if1.false) (then first.around.ensures.0 second.around2.ensures.0)
+    rw (ne_eqb s.args.a s.args.b else1.if-a-b.false) (then first.around-n.ensures.0 second.around.ensures.0)
 
 pub lengths_spec : {M : Type 1} → statement M
 lengths_spec =
     tie.close
     (tie.spec
-    slice_aggregate_put
     put_requires
     same_length
     returns
-    slice_aggregate_around
-    slice_aggregate_around_2
     around_requires
-    slice_aggregate_around_3
-    slice_aggregate_around_4
     around_requires_2
     same-length-2
     returns-2)

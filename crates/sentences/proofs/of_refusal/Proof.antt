@@ -12,34 +12,34 @@ slice_aggregate_put c = search rules
 put_requires : tie.Need-put-requires
 put_requires c κs = search rules
 
-same_length : tie.Need-same-length
+same_length : tie.Need-shape_of-out-then-number-eq2
 same_length c = search rules
 
-returns : tie.Need-returns
+returns : tie.Need-returns-then-number-eq2
 unfolding sentence text
 returns c =
     let said = c.before.before in
     let then1 = said.before.before.before in
     let s = then1.before.before in
-    rw (eq-eqb s.args.number 2 then1.if1.true) said.put.ensures
+    rw (eq-eqb s.args.number 2 then1.if-number-eq2.true) said.put.ensures
 
 slice_aggregate_put_2 : tie.Need-slice-aggregate-put-2
 slice_aggregate_put_2 c = search rules
 
-put_requires_2 : tie.Need-put-requires-2
+put_requires_2 : tie.Need-put-requires-then-number-eq3
 put_requires_2 c κs = search rules
 
-same-length-2 : tie.Need-same-length-2
+same-length-2 : tie.Need-shape_of-out-then-number-eq3
 same-length-2 c = search rules
 
-returns-2 : tie.Need-returns-2
+returns-2 : tie.Need-returns-then-number-eq3
 unfolding sentence text
 returns-2 c =
     let said = c.before.before in
     let then2 = said.before.before.before in
     let else1 = then2.before in
     let s = else1.before.before in
-    rw (ne_eqb s.args.number 2 else1.if1.false, eq-eqb s.args.number 3 then2.if2.true) said.put2.ensures
+    rw (ne_eqb s.args.number 2 else1.if-number-eq2.false, eq-eqb s.args.number 3 then2.if-number-eq3.true) said.put-then-number-eq3.ensures
 
 slice_aggregate_around : tie.Need-slice-aggregate-around
 slice_aggregate_around c = search rules
@@ -50,10 +50,10 @@ slice_aggregate_around_2 c = search rules
 around_requires : tie.Need-around-requires
 around_requires c κs = search rules
 
-same-length-3 : tie.Need-same-length-3
+same-length-3 : tie.Need-shape_of-out-then-number-eq5
 same-length-3 c = search rules
 
-returns-3 : tie.Need-returns-3
+returns-3 : tie.Need-returns-then-number-eq5
 unfolding sentence text
 returns-3 c =
     let said = c.before.before in
@@ -61,15 +61,15 @@ returns-3 c =
     let else2 = then3.before in
     let else1 = else2.before in
     let s = else1.before.before in
-    rw (ne_eqb s.args.number 2 else1.if1.false, ne_eqb s.args.number 3 else2.if2.false, eq-eqb s.args.number 5 then3.if3.true) said.around.ensures.0
+    rw (ne_eqb s.args.number 2 else1.if-number-eq2.false, ne_eqb s.args.number 3 else2.if-number-eq3.false, eq-eqb s.args.number 5 then3.if-number-eq5.true) said.around.ensures.0
 
-of_file_requires : tie.Need-of-file-requires
+of_file_requires : tie.Need-of_file-requires
 of_file_requires c κs = search rules
 
-same-length-4 : tie.Need-same-length-4
+same-length-4 : tie.Need-shape_of-out
 same-length-4 c = search rules
 
-returns-4 : tie.Need-returns-4
+returns-4 : tie.Need-returns
 unfolding sentence text
 returns-4 c =
     let said = c.before.before in
@@ -77,22 +77,18 @@ returns-4 c =
     let else2 = else3.before in
     let else1 = else2.before in
     let s = else1.before.before in
-    rw (ne_eqb s.args.number 2 else1.if1.false, ne_eqb s.args.number 3 else2.if2.false, ne_eqb s.args.number 5 else3.if3.false) said.of_file.ensures
+    rw (ne_eqb s.args.number 2 else1.if-number-eq2.false, ne_eqb s.args.number 3 else2.if-number-eq3.false, ne_eqb s.args.number 5 else3.if-number-eq5.false) said.of_file.ensures
 
 pub of_refusal_spec : {M : Type 1} → statement M
 of_refusal_spec =
     tie.close
     (tie.spec
-    slice_aggregate_put
     put_requires
     same_length
     returns
-    slice_aggregate_put_2
     put_requires_2
     same-length-2
     returns-2
-    slice_aggregate_around
-    slice_aggregate_around_2
     around_requires
     same-length-3
     returns-3

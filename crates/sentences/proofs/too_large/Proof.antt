@@ -15,15 +15,15 @@ slice_aggregate_around_2 c = search rules
 around_requires : tie.Need-around-requires
 around_requires c κs = search rules
 
-same_length : tie.Need-same-length
+same_length : tie.Need-shape_of-out-then-a-gt2
 same_length c = search rules
 
-returns : tie.Need-returns
+returns : tie.Need-returns-then-a-gt2
 unfolding too_large text
 returns c =
     let said = c.before.before in
     let then1 = said.before.before.before.before in
-    rw (lt-ltb 2 then1.before.before.args.a then1.if1.true) said.around.ensures.0
+    rw (lt-ltb 2 then1.args.a then1.if-a-gt2.true) said.around.ensures.0
 
 slice_aggregate_around_3 : tie.Need-slice-aggregate-around-3
 slice_aggregate_around_3 c = search rules
@@ -34,27 +34,23 @@ slice_aggregate_around_4 c = search rules
 around_requires_2 : tie.Need-around-requires-2
 around_requires_2 c κs = search rules
 
-same-length-2 : tie.Need-same-length-2
+same-length-2 : tie.Need-shape_of-out
 same-length-2 c = search rules
 
-returns-2 : tie.Need-returns-2
+returns-2 : tie.Need-returns
 unfolding too_large text
 returns-2 c =
     let said = c.before.before in
     let else1 = said.before.before.before.before in
-    rw (le-ltb 2 else1.before.before.args.a else1.if1.false) said.around2.ensures.0
+    rw (le-ltb 2 else1.args.a else1.if-a-gt2.false) said.around-2.ensures.0
 
 pub too_large_spec : {M : Type 1} → statement M
 too_large_spec =
     tie.close
     (tie.spec
-    slice_aggregate_around
-    slice_aggregate_around_2
     around_requires
     same_length
     returns
-    slice_aggregate_around_3
-    slice_aggregate_around_4
     around_requires_2
     same-length-2
     returns-2)

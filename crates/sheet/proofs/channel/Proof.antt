@@ -23,40 +23,40 @@ use Rattle.sheet.proofs.channel.Tie as tie
 six : (s : tie.Start) → length s.args.stats.empty ≡ 6
 six s = simp length-map at s.well-formed.1.1.1.0.1.1.1.1.1.0.1.0.1
 
-number_requires : tie.Need-number-requires
+number_requires : tie.Need-number-n-requires
 number_requires c κs =
     let s = c.before.before.before.before.before.before in
     (omega (arith, ap length (one_digit s.args.c (omega arith))), omega arith)
 
-number_requires_2 : tie.Need-number-requires-2
+number_requires_2 : tie.Need-number-n-requires-2
 number_requires_2 c κs =
     let at-number = c.before.before.before in
     let s = at-number.before.before.before.before.before.before.before in
-    (clips_fit s.args.stats s.args.c s.requires.0 s.requires.1, omega (arith, at-number.number.ensures.1))
+    (clips_fit s.args.stats s.args.c s.requires.0 s.requires.1, omega (arith, at-number.number-n.ensures.1))
 
-level_requires : tie.Need-level-requires
+level_requires : tie.Need-level-n-requires
 level_requires c κs =
     let at-number2 = c.before.before.before.before in
     let at-number = at-number2.before.before.before.before in
     let s = at-number.before.before.before.before.before.before.before in
     let a = s.args in
-    let x : SFits w64 (get_or a.stats.lowest a.c (pos 0)) = record { sfits = c.level-arg2.given } in
+    let x : SFits w64 (get_or a.stats.lowest a.c (pos 0)) = record { sfits = c.level-arg-2-1.given } in
     let mark = get_d_any a.stats.empty a.c false true (omega (arith, six s)) in (
       rw (to_z-of_z x, mark) (lowest_fits a.stats a.c s.requires.0 s.requires.1),
-      omega (arith, at-number.number.ensures.1, at-number2.number2.ensures.1),
+      omega (arith, at-number.number-n.ensures.1, at-number2.number-n-2.ensures.1),
     )
 
-level_requires_2 : tie.Need-level-requires-2
+level_requires_2 : tie.Need-level-n-requires-2
 level_requires_2 c κs =
     let at_low = c.before.before.before.before in
     let at-number2 = at_low.before.before.before.before.before in
     let at-number = at-number2.before.before.before.before in
     let s = at-number.before.before.before.before.before.before.before in
     let a = s.args in
-    let y : SFits w64 (get_or a.stats.highest a.c (pos 0)) = record { sfits = c.level-arg4.given } in
+    let y : SFits w64 (get_or a.stats.highest a.c (pos 0)) = record { sfits = c.level-arg-4-1.given } in
     let mark = get_d_any a.stats.empty a.c false true (omega (arith, six s)) in (
       rw (to_z-of_z y, mark) (highest_fits a.stats a.c s.requires.0 s.requires.1),
-      omega (arith, at-number.number.ensures.1, at-number2.number2.ensures.1, at_low.level.ensures.1),
+      omega (arith, at-number.number-n.ensures.1, at-number2.number-n-2.ensures.1, at_low.level-n.ensures.1),
     )
 
 returns : tie.Need-returns
@@ -69,14 +69,14 @@ returns c =
     let at-number = at-number2.before.before.before.before in
     let s = at-number.before.before.before.before.before.before.before in
     let a = s.args in
-    let x : SFits w64 (get_or a.stats.lowest a.c (pos 0)) = record { sfits = at_low.before.level-arg2.given } in
-    let y : SFits w64 (get_or a.stats.highest a.c (pos 0)) = record { sfits = at_high.before.level-arg4.given } in
+    let x : SFits w64 (get_or a.stats.lowest a.c (pos 0)) = record { sfits = at_low.level-arg-2-1.given } in
+    let y : SFits w64 (get_or a.stats.highest a.c (pos 0)) = record { sfits = at_high.level-arg-4-1.given } in
     let mark = get_d_any a.stats.empty a.c false true (omega (arith, six s)) in
-    let low = rw (to_z-of_z x, mark) at at_low.level.ensures.0 in
-    let high = rw (to_z-of_z y, mark) at at_high.level2.ensures.0 in
-    let all = then at-number.number.ensures.0 (then at-number2.number2.ensures.0 (then low (then high at-put.put.ensures))) in (
+    let low = rw (to_z-of_z x, mark) at at_low.level-n.ensures.0 in
+    let high = rw (to_z-of_z y, mark) at at_high.level-n-2.ensures.0 in
+    let all = then at-number.number-n.ensures.0 (then at-number2.number-n-2.ensures.0 (then low (then high at-put.put.ensures))) in (
       printing.line _ all,
-      omega (arith, at-number.number.ensures.1, at-number2.number2.ensures.1, at_low.level.ensures.1, at_high.level2.ensures.1, at-put.put.ensures.after),
+      omega (arith, at-number.number-n.ensures.1, at-number2.number-n-2.ensures.1, at_low.level-n.ensures.1, at_high.level-n-2.ensures.1, at-put.put.ensures.after),
     )
 
 pub channel_spec : {M : Type 1} → statement M
@@ -95,7 +95,6 @@ channel_spec =
     (λ c. search rules)
     (λ c. search rules)
     level_requires_2
-    (λ c. search rules)
     (λ c κs. search rules)
     (λ c. search rules)
     returns)

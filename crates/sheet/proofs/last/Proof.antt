@@ -17,10 +17,10 @@ returns c =
     let at_right = at-put.before.before.before.before.before in
     let at-number = at_right.before.before.before.before in
     let at_left = at-number.before.before.before.before in
-    let left = only_blanks 4 at_left.blanks.ensures in
-    let right = only_blanks 24 at_right.blanks2.ensures in
-    let all = then left.0 (then at-number.number.ensures.0 (then right.0 at-put.put.ensures)) in
-    (printing.line _ all, omega (arith, left.1, at-number.number.ensures.1, right.1, at-put.put.ensures.after))
+    let left = only_blanks 4 at_left.blanks-n.ensures in
+    let right = only_blanks 24 at_right.blanks-n-2.ensures in
+    let all = then left.0 (then at-number.number-n.ensures.0 (then right.0 at-put.put.ensures)) in
+    (printing.line _ all, omega (arith, left.1, at-number.number-n.ensures.1, right.1, at-put.put.ensures.after))
 
 pub last_spec : {M : Type 1} → statement M
 last_spec =
@@ -29,7 +29,6 @@ last_spec =
     (λ c κs. search rules)
     (λ c κs. search rules)
     (λ c κs. search rules)
-    (λ c. search rules)
     (λ c κs. search rules)
     (λ c. search rules)
     returns)

@@ -11,21 +11,21 @@ use Rattle.sheet.proofs.level_sheet.Tie as tie
 fill_requires : tie.Need-fill-requires
 fill_requires c κs =
     let at_told = c.before in
-    let e = sym at_told.before.before.verdict.ensures ∙ ap decision at_told.enum_told.given.1 in
+    let e = sym at_told.verdict-verdict.ensures ∙ ap decision at_told.in-Accepted.is in
     (few _ _ _ e, fits _ _ _ e, long _ _ _ e)
 
-returns : tie.Need-returns
+returns : tie.Need-returns-in-Accepted
 returns c =
     let at_fill_lem = c.before.before in
     let at_told = at_fill_lem.before.before in
-    let e = sym at_told.before.before.verdict.ensures ∙ ap decision at_told.enum_told.given.1 in
+    let e = sym at_told.verdict-verdict.ensures ∙ ap decision at_told.in-Accepted.is in
     record { decided = sym e; written = at_fill_lem.fill.ensures ∙ sym (exit_accepted _ _ _ e) }
 
-returns-2 : tie.Need-returns-2
+returns-2 : tie.Need-returns-in-Refused
 returns-2 c =
-    let at_told = c.before in
-    let told = at_told.verdict2.given in
-    let e = sym at_told.before.before.verdict.ensures ∙ ap decision told.1 in
+    let at_told = c in
+    let told = at_told.in-Refused.given in
+    let e = sym at_told.verdict-verdict.ensures ∙ ap decision told.1 in
     record { decided = sym e; written = sym (exit_refused _ _ _ (ap is_accepted e ∙ error_refuses told.0.0)) }
 
 pub level_sheet_spec : {M : Type 1} → statement M

@@ -11,19 +11,19 @@ use Rattle.sheet.proofs.Widths.{sum_wide}
 use Rattle.sheet.proofs.wide.Statement.{statement}
 use Rattle.sheet.proofs.wide.Tie as tie
 
-returns : tie.Need-returns
+returns : tie.Need-returns-then-wide_channels
 unfolding sheet_too_wide
-returns c = let e = sym c.before.wide-channels.ensures ∙ c.if1.true in rw e
+returns c = let e = sym c.wide_channels.ensures ∙ c.if-wide_channels.true in rw e
 
-clip_sum_requires : tie.Need-clip-sum-requires
-clip_sum_requires c κs = (c.before.before.requires, sym c.before.wide-channels.ensures ∙ c.if1.false)
+clip_sum_requires : tie.Need-clip_sum-requires
+clip_sum_requires c κs = (c.requires, sym c.wide_channels.ensures ∙ c.if-wide_channels.false)
 
-returns-2 : tie.Need-returns-2
+returns-2 : tie.Need-returns
 unfolding sheet_too_wide
 returns-2 c =
     let at_sum = c.before in
     let at-if1 = at_sum.before in
-    let e = sym at-if1.before.wide-channels.ensures ∙ at-if1.if1.false in
+    let e = sym at-if1.wide_channels.ensures ∙ at-if1.if-wide_channels.false in
     rw (e, sum_wide, ← at_sum.clip_sum.ensures, ← c.digits.ensures.0)
 
 pub wide_spec : {M : Type 1} → statement M

@@ -24,12 +24,12 @@ returns c =
     let at-digits = at_low.before.before in
     let s = at-digits.before.before.before.before.before in
     let a = s.args in
-    let x : SFits w64 (get_or a.stats.lowest a.c (pos 0)) = record { sfits = at_low.before.level-width-arg.given } in
-    let y : SFits w64 (get_or a.stats.highest a.c (pos 0)) = record { sfits = at_high.before.level-width-arg2.given } in
+    let x : SFits w64 (get_or a.stats.lowest a.c (pos 0)) = record { sfits = at_low.level_width-arg-1.given } in
+    let y : SFits w64 (get_or a.stats.highest a.c (pos 0)) = record { sfits = at_high.level_width-arg-2-1.given } in
     let mark = get_d_any a.stats.empty a.c false true (omega (arith, six s)) in
-    let low = rw (to_z-of_z x, mark) at at_low.level-width.ensures in
-    let high = rw (to_z-of_z y, mark) at at_high.level-width2.ensures in
-    c.either2.ensures ∙ rw (c.before.either.ensures, at-digits.digits.ensures.0, low, high) (sym (channel_wide a.stats a.c s.requires))
+    let low = rw (to_z-of_z x, mark) at at_low.level_width-low.ensures in
+    let high = rw (to_z-of_z y, mark) at at_high.level_width-high.ensures in
+    c.either-2.ensures ∙ rw (c.either.ensures, at-digits.digits-clips.ensures.0, low, high) (sym (channel_wide a.stats a.c s.requires))
 
 pub wide_channel_spec : {M : Type 1} → statement M
 wide_channel_spec =

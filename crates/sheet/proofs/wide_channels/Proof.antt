@@ -10,24 +10,24 @@ use Rattle.sheet.proofs.Widths.{some_more}
 use Rattle.sheet.proofs.wide_channels.Statement.{statement}
 use Rattle.sheet.proofs.wide_channels.Tie as tie
 
-abbrev invariant-loop : tie.invariant-loop
+abbrev invariant-loop : tie.invariant-loop-c
 invariant-loop stats channels wide₀ c₀ wide c = (c ≤ channels) × (wide ≡ some_below (λ c. too_wide (channel_line stats c)) c)
 
-abbrev decreases-loop : tie.decreases-loop
+abbrev decreases-loop : tie.decreases-loop-c
 decreases-loop stats channels wide₀ c₀ wide c = channels - c
 
-loop-holds : tie.Need-loop-init invariant-loop decreases-loop
+loop-holds : tie.Need-loop-c-init invariant-loop decreases-loop
 unfolding some_below
 loop-holds c = (omega arith, refl)
 
-loop-again : tie.Need-loop-preserved invariant-loop decreases-loop
+loop-again : tie.Need-loop-c-preserved invariant-loop decreases-loop
 loop-again c =
-    let l = c.before.before.before.loop in
-    let e = c.either.ensures ∙ ap₂ (λ p q. p || q) l.invariant.1 c.before.wide-channel.ensures in
+    let l = c.loop-c in
+    let e = c.either-wide.ensures ∙ ap₂ (λ p q. p || q) l.invariant.1 c.wide_channel.ensures in
     (omega arith, e ∙ sym (some_more _ l.c))
 
 returns : tie.Need-returns invariant-loop decreases-loop
-returns c = let e : c.before.loop.c ≡ c.before.before.args.channels = omega arith in rw e at c.before.loop.invariant.1
+returns c = let e : c.loop-c.c ≡ c.args.channels = omega arith in rw e at c.loop-c.invariant.1
 
 pub wide_channels_spec : {M : Type 1} → statement M
 wide_channels_spec =

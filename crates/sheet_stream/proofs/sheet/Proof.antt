@@ -6,9 +6,9 @@ use Rattle.sheet_stream.proofs.sheet.Statement.{statement}
 use Rattle.sheet_stream.proofs.sheet.Tie as tie
 
 converter_requires : tie.Need-converter-requires
-converter_requires c κs = subst Usable c.before.begun.given.1 c.before.before.before.start.ensures
+converter_requires c κs = subst Usable c.in-Open.is c.start-begun.ensures
 
-sheet_frames_requires : tie.Need-sheet-frames-requires
+sheet_frames_requires : tie.Need-sheet_frames-requires
 sheet_frames_requires c κs = c.converter.ensures
 
 pub sheet_spec : {M : Type 1} → statement M

@@ -17,13 +17,13 @@ use Rattle.stages.proofs.half_band.Tie as tie
 
 -- places in the code: u is there; the bytes are known to be bytes
 module _ (c : tie.After-half-arg2) where
-  abbrev odd_made : tie.After-first-stage2
+  abbrev odd_made : tie.After-first_stage-2
   odd_made = c.before.before.before
 
-  abbrev even_made : tie.After-first-stage
+  abbrev even_made : tie.After-first_stage
   even_made = odd_made.before.before.before
 
-  abbrev known : tie.After-shared-slice-known
+  abbrev known : tie.After-shared_slice_known-1
   known = even_made.before.before
 
   abbrev start : tie.Start
@@ -31,22 +31,22 @@ module _ (c : tie.After-half-arg2) where
 
   -- u around the block
   around : (β : ℕ → ℕ) (i : ℕ) → 10 ≤ i → Held 0 β (2 * i - 19) (length start.args.bytes.now) start.args.bytes.now
-      → Around β i (length start.args.out.now) even_made.first-stage.last.1.1.1.1.1.0 odd_made.first-stage2.last.1.1.1.1.1.0
+      → Around β i (length start.args.out.now) even_made.first_stage.last.1.1.1.1.1.0 odd_made.first_stage-2.last.1.1.1.1.1.0
   around β i l bytes =
-      let stage = first_held 4 S1_length (lit< tt) start.pre.0 (λ j. omega (arith, known.shared-slice-known.given j)) bytes in
+      let stage = first_held 4 S1_length (lit< tt) start.pre.0 (λ j. omega (arith, known.shared_slice_known-1.given j)) bytes in
       record {
         low = omega arith;
-        long_even = even_made.first-stage.kept.1.1.1.1.1.0;
-        long_odd = omega (arith, odd_made.first-stage2.kept.1.1.1.1.1.0);
-        at_even = held_moved (stage 15 2 _ _ (omega arith) even_made.first-stage.ensures) (λ k m. ap (u S1 β) (omega arith));
-        at_odd = held_some _ (omega arith) (held_moved (stage 0 2 _ _ (omega arith) odd_made.first-stage2.ensures) (λ k m. ap (u S1 β) (omega arith)));
+        long_even = even_made.first_stage.kept.1.1.1.1.1.0;
+        long_odd = omega (arith, odd_made.first_stage-2.kept.1.1.1.1.1.0);
+        at_even = held_moved (stage 15 2 _ _ (omega arith) even_made.first_stage.ensures) (λ k m. ap (u S1 β) (omega arith));
+        at_odd = held_some _ (omega arith) (held_moved (stage 0 2 _ _ (omega arith) odd_made.first_stage-2.ensures) (λ k m. ap (u S1 β) (omega arith)));
       }
 
   -- the bytes are of some signal
   abbrev some : ℕ → ℕ
   some k = get_or start.args.bytes.now (k - 1) 0
 
-  around_some : Around some 10 (length start.args.out.now) even_made.first-stage.last.1.1.1.1.1.0 odd_made.first-stage2.last.1.1.1.1.1.0
+  around_some : Around some 10 (length start.args.out.now) even_made.first_stage.last.1.1.1.1.1.0 odd_made.first_stage-2.last.1.1.1.1.1.0
   around_some = around some 10 (lit≤ tt) (any_bytes _ 1 _)
 
 half_requires : tie.Need-half-requires
@@ -57,7 +57,7 @@ half_requires c κs =
 returns : tie.Need-returns
 returns c =
     let made = c.before.before in
-    let f = c.before.half in
+    let f = c.half in
     let a = around_some made in
     (v_small (some made) 10 (omega (arith, f.auto.0, a.long_even)) (v_held a f.ensures), λ β i l bytes. v_held (around made β i l bytes) f.ensures)
 

@@ -49,7 +49,7 @@ returns c =
     let s = c.before.before.before.before.before in
     λ F halved.
     let long = halves_length F halved in
-    filled_as c.before.dec2.ensures (λ i m. ap (λ (z : ℤ). R z 24) (sum_is F s.args.x.now (even_half F halved) (odd_half F halved) i (omega (arith, s.requires, long)) (omega (arith, s.requires, long))))
+    filled_as c.dec2.ensures (λ i m. ap (λ (z : ℤ). R z 24) (sum_is F s.args.x.now (even_half F halved) (odd_half F halved) i (omega (arith, s.requires, long)) (omega (arith, s.requires, long))))
 
 pub halved_spec : {M : Type 1} → statement M
 halved_spec =

@@ -12,22 +12,22 @@ use borrow.Author.Rules.{rules}
 use Rattle.stages.proofs.shift.Statement.{statement}
 use Rattle.stages.proofs.shift.Tie as tie
 
-abbrev invariant-loop : tie.invariant-loop
+abbrev invariant-loop : tie.invariant-loop-k
 invariant-loop x₀ by n k₀ x k = (k ≤ n) × (length x ≡ length x₀) × ((j : ℕ) → j < k → get_or x j (pos 0) ≡ get_or x₀ (j + by) (pos 0)) × ((j : ℕ) → k ≤ j → get_or x j (pos 0) ≡ get_or x₀ j (pos 0))
 
-abbrev decreases-loop : tie.decreases-loop
+abbrev decreases-loop : tie.decreases-loop-k
 decreases-loop x₀ by n k₀ x k = n - k
 
-loop-holds : tie.Need-loop-init invariant-loop decreases-loop
+loop-holds : tie.Need-loop-k-init invariant-loop decreases-loop
 loop-holds c = (omega arith, refl, λ j l. absurd (omega arith), λ j l. refl)
 
-loop-again : tie.Need-loop-preserved invariant-loop decreases-loop
+loop-again : tie.Need-loop-k-preserved invariant-loop decreases-loop
 loop-again c =
-    let l = c.before.before.loop in
+    let l = c.loop-k in
     let s = c.before.before.before in
     let x = s.args.x.now in
     let by = s.args.by in
-    let v = val _ _ c.v.given refl ∙ l.invariant.3 (l.k + by) (omega arith) in (
+    let v = val _ _ c.v-1.given refl ∙ l.invariant.3 (l.k + by) (omega arith) in (
       omega arith,
       length-set l.x _ _ ∙ l.invariant.1,
       λ j m. ⊎_elim (λ a. get_or-set_other l.x l.k j _ (pos 0) (omega arith) ∙ l.invariant.2 j a) (λ a.
@@ -36,11 +36,11 @@ loop-again c =
       λ j m. get_or-set_other l.x l.k j _ (pos 0) (omega arith) ∙ l.invariant.3 j (omega arith),
     )
 
-same_length : tie.Need-same-length invariant-loop decreases-loop
-same_length c = c.before.loop.invariant.1
+same_length : tie.Need-shape_of-x invariant-loop decreases-loop
+same_length c = c.loop-k.invariant.1
 
 returns : tie.Need-returns invariant-loop decreases-loop
-returns c = (λ k l. c.before.loop.invariant.2 k (omega arith), λ k l. c.before.loop.invariant.3 k (omega arith))
+returns c = (λ k l. c.loop-k.invariant.2 k (omega arith), λ k l. c.loop-k.invariant.3 k (omega arith))
 
 pub shift_spec : {M : Type 1} → statement M
 shift_spec =

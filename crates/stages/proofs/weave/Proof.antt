@@ -13,35 +13,35 @@ use borrow.Author.Rules.{rules}
 use Rattle.stages.proofs.weave.Statement.{statement}
 use Rattle.stages.proofs.weave.Tie as tie
 
-abbrev invariant-loop : tie.invariant-loop
+abbrev invariant-loop : tie.invariant-loop-k
 invariant-loop even odd out₀ k₀ out k = (k ≤ length even) × (length out ≡ length out₀) × Held (pos 0) (woven even odd) 0 (2 * k) out
 
-abbrev decreases-loop : tie.decreases-loop
+abbrev decreases-loop : tie.decreases-loop-k
 decreases-loop even odd out₀ k₀ out k = length even - k
 
-loop-holds : tie.Need-loop-init invariant-loop decreases-loop
+loop-holds : tie.Need-loop-k-init invariant-loop decreases-loop
 loop-holds c = (omega arith, refl, held_none)
 
-slice_set_from_b : tie.Need-slice-set-from-b invariant-loop decreases-loop
+slice_set_from_b : tie.Need-bounds-out-k-in-loop-k invariant-loop decreases-loop
 slice_set_from_b c = simp length-set (omega arith)
 
-loop-again : tie.Need-loop-preserved invariant-loop decreases-loop
+loop-again : tie.Need-loop-k-preserved invariant-loop decreases-loop
 loop-again c =
-    let l = c.before.before.before.loop in
-    let s = c.before.before.before.before.args in
+    let l = c.loop-k in
+    let s = c.args in
     let n : 2 * (l.k + 1) ≡ 2 * l.k + 1 + 1 = omega arith in (
       omega arith,
       simp length-set l.invariant.1,
       rw n (held_more
-          (held_more l.invariant.2 (omega arith) (val _ _ c.before.a.given refl ∙ woven_even s.even.now s.odd.now l.k)) (simp length-set (omega arith))
-          (val _ _ c.b.given refl ∙ woven_odd s.even.now s.odd.now l.k)),
+          (held_more l.invariant.2 (omega arith) (val _ _ c.a-1.given refl ∙ woven_even s.even.now s.odd.now l.k)) (simp length-set (omega arith))
+          (val _ _ c.b-1.given refl ∙ woven_odd s.even.now s.odd.now l.k)),
     )
 
-same_length : tie.Need-same-length invariant-loop decreases-loop
-same_length c = c.before.loop.invariant.1
+same_length : tie.Need-shape_of-out invariant-loop decreases-loop
+same_length c = c.loop-k.invariant.1
 
 returns : tie.Need-returns invariant-loop decreases-loop
-returns c = held_some _ (omega arith) c.before.loop.invariant.2
+returns c = held_some _ (omega arith) c.loop-k.invariant.2
 
 pub weave_spec : {M : Type 1} → statement M
 weave_spec =

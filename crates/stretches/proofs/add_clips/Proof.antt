@@ -5,11 +5,11 @@ use Rattle.reference.specs.Statistics.{add_clips}
 use Rattle.stretches.proofs.add_clips.Statement.{statement}
 use Rattle.stretches.proofs.add_clips.Tie as tie
 
-returns : tie.Need-returns
+returns : tie.Need-returns-then-a-b
 unfolding add_clips
 returns c = omega arith
 
-returns-2 : tie.Need-returns-2
+returns-2 : tie.Need-returns
 unfolding add_clips
 returns-2 c = omega arith
 

@@ -10,10 +10,10 @@ unfolding joined_stats of_both
 returns c =
     let at-highest = c.before in
     let at-lowest = at-highest.before in
-    let m = c.marks.ensures in
-    let h = at-highest.levels2.ensures in
-    let l = at-lowest.levels.ensures in
-    let n = at-lowest.before.clips.ensures in
+    let m = c.marks-empty.ensures in
+    let h = at-highest.levels-highest.ensures in
+    let l = at-lowest.levels-lowest.ensures in
+    let n = at-lowest.clips-clipped.ensures in
     λ i. record { clipped = n i; lowest = l i; highest = h i; empty = m i }
 
 pub join_stats_spec : {M : Type 1} → statement M

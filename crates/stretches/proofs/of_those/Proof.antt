@@ -15,15 +15,15 @@ by_greater b p q x y e = rw e
 by_lesser : (b p q : Bool) (x y : ℤ) → b ≡ false → pick_unmarked lesser p x q y ≡ pick_unmarked (cond b greater lesser) p x q y
 by_lesser b p q x y e = rw e
 
-returns : tie.Need-returns
+returns : tie.Need-returns-then-high
 returns c =
     let s = c.before.before in
-    val _ _ c.highest-of.type-inv (rw (to_z-of_z s.ranges.x, to_z-of_z s.ranges.y) at c.highest-of.ensures) ∙ by_greater _ _ _ _ _ c.before.if1.true
+    val _ _ c.highest_of.type_inv (rw (to_z-of_z s.ranges.x, to_z-of_z s.ranges.y) at c.highest_of.ensures) ∙ by_greater _ _ _ _ _ c.if-high.true
 
-returns-2 : tie.Need-returns-2
+returns-2 : tie.Need-returns
 returns-2 c =
     let s = c.before.before in
-    val _ _ c.lowest-of.type-inv (rw (to_z-of_z s.ranges.x, to_z-of_z s.ranges.y) at c.lowest-of.ensures) ∙ by_lesser _ _ _ _ _ c.before.if1.false
+    val _ _ c.lowest_of.type_inv (rw (to_z-of_z s.ranges.x, to_z-of_z s.ranges.y) at c.lowest_of.ensures) ∙ by_lesser _ _ _ _ _ c.if-high.false
 
 pub of_those_spec : {M : Type 1} → statement M
 of_those_spec = tie.close (tie.spec (λ c κs. search rules) returns (λ c κs. search rules) returns-2)

@@ -9,9 +9,9 @@ returns : tie.Need-returns
 unfolding four_at
 returns c =
     let first = c.before.before.before.before in
-    let high = first.below.ensures ∙ ap₂ with_below first.before.before.wide_at.ensures first.before.wide-at2.ensures in
-    let middle = c.before.before.below2.ensures ∙ ap₂ with_below high c.before.before.before.wide-at3.ensures in
-    c.below3.ensures ∙ ap₂ with_below middle c.before.wide-at4.ensures
+    let high = first.below-high.ensures ∙ ap₂ with_below first.wide_at.ensures first.wide_at-2.ensures in
+    let middle = c.below.ensures ∙ ap₂ with_below high c.wide_at-3.ensures in
+    c.below-2.ensures ∙ ap₂ with_below middle c.wide_at-4.ensures
 
 pub four_from_spec : {M : Type 1} → statement M
 four_from_spec =

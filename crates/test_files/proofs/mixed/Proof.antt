@@ -8,7 +8,7 @@ use Rattle.test_files.proofs.mixed.Tie as tie
 
 returns : tie.Need-returns
 unfolding mix
-returns c = ap (mix c.before.args.h) c.wide.ensures
+returns c = ap (mix c.args.h) c.wide.ensures
 
 pub mixed_spec : {M : Type 1} → statement M
 mixed_spec = tie.close (tie.spec (λ c. search rules) (λ c κs. search rules) (λ c. search rules) (λ c. search rules) returns)

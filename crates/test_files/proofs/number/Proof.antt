@@ -10,10 +10,10 @@ unfolding eight_at
 returns c =
     let second = c.before.before.before.before in
     let first = second.before.before in
-    let fifth = first.below.ensures ∙ ap₂ with_below first.before.before.four-from.ensures first.before.wide_at.ensures in
-    let sixth = second.below2.ensures ∙ ap₂ with_below fifth second.before.wide-at2.ensures in
-    let seventh = c.before.before.below3.ensures ∙ ap₂ with_below sixth c.before.before.before.wide-at3.ensures in
-    c.below4.ensures ∙ ap₂ with_below seventh c.before.wide-at4.ensures
+    let fifth = first.below.ensures ∙ ap₂ with_below first.four_from-high.ensures first.wide_at.ensures in
+    let sixth = second.below-middle.ensures ∙ ap₂ with_below fifth second.wide_at-2.ensures in
+    let seventh = c.below-2.ensures ∙ ap₂ with_below sixth c.wide_at-3.ensures in
+    c.below-3.ensures ∙ ap₂ with_below seventh c.wide_at-4.ensures
 
 pub number_spec : {M : Type 1} → statement M
 number_spec =

@@ -5,9 +5,9 @@ use Rattle.test_files.proofs.with.Tie as tie
 
 returns : tie.Need-returns
 returns c =
-    let calls = c.before.before.plus.ensures in
-    let equal = c.before.plus2.ensures in
-    let accepted = c.plus3.ensures in
+    let calls = c.plus.ensures in
+    let equal = c.plus-2.ensures in
+    let accepted = c.plus-3.ensures in
     λ i. record { calls = calls i; equal = equal i; accepted = accepted i }
 
 pub with_spec : {M : Type 1} → statement M

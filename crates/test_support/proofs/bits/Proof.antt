@@ -8,12 +8,12 @@ use borrow.Author.Rules.{rules}
 use Rattle.test_support.proofs.bits.Statement.{statement}
 use Rattle.test_support.proofs.bits.Tie as tie
 
-returns : tie.Need-returns
+returns : tie.Need-returns-then-x
 unfolding to_bits
-returns c = sym (ap (to_bits binary64) (differs_from_itself c.before.args.x (subst T (sym c.if1.true) tt)))
+returns c = sym (ap (to_bits binary64) (differs_from_itself c.args.x (subst T (sym c.if-x.true) tt)))
 
-float_to_bits_result : tie.Need-float-to-bits-result
-float_to_bits_result c = number c.before.args.x c.if1.false
+float_to_bits_result : tie.Need-float_to_bits-result
+float_to_bits_result c = number c.args.x c.if-x.false
 
 pub bits_spec : {M : Type 1} → statement M
 bits_spec = tie.close (tie.spec returns float_to_bits_result (λ c. search rules))

@@ -38,13 +38,13 @@ module _ (z : ℤ) (h : SFits w32 z) where
   kept : t (t (to_z w32 (of_z w32 z)) +ℤ pos 2147483648) ≡ pos (up z)
   kept = ap t sum ∙ to_z-of_z fits
 
-cast_result : tie.Need-overflow-cast-result
+cast_result : tie.Need-overflow_cast-result
 cast_result c = wide_fits c.args.s c.ranges.s.sfits
 
-add_result : tie.Need-overflow-add-result
+add_result : tie.Need-overflow_add-result
 add_result c = subst (λ (y : ℤ). SFits w64 y) (sym (sum c.args.s c.ranges.s)) (fits c.args.s c.ranges.s)
 
-cast_result_2 : tie.Need-overflow-cast-result-2
+cast_result_2 : tie.Need-overflow_cast-result-2
 cast_result_2 c = subst (λ (y : ℤ). T (non_neg y) × Fits w64 (nat_abs y)) (sym (kept c.args.s c.ranges.s)) (tt, record { fits = omega (arith, up_small c.args.s c.ranges.s) })
 
 returns : tie.Need-returns

@@ -18,8 +18,8 @@ minus (suc p) = ap (λ (n : ℕ). negsuc (suc n)) (zero-add p)
 below_fits : (p : ℕ) → p < 2 ^ 63 → SFits w64 (negsuc 0 -ℤ to_z w64 p)
 below_fits p h = rw (to_z_pos w64 h, minus p) (record { sfits = h })
 
-sub_result_2 : tie.Need-overflow-sub-result-2
-sub_result_2 c = below_fits (18446744073709551615 - c.before.args.n) (omega arith)
+sub_result_2 : tie.Need-overflow_sub-result-2
+sub_result_2 c = below_fits (18446744073709551615 - c.args.n) (omega arith)
 
 pub signed_spec : {M : Type 1} → statement M
 signed_spec =

@@ -9,7 +9,7 @@ use Rattle.wav_format.proofs.has_header.Tie as tie
 returns : tie.Need-returns
 returns c =
     let put = c.before.before.before.before in
-    c.is.ensures ∙ ap (same _) (put.put-header.ensures ∙ append-nil _)
+    c.is.ensures ∙ ap (same _) (put.put_header.ensures ∙ append-nil _)
 
 pub has_header_spec : {M : Type 1} → statement M
 has_header_spec =

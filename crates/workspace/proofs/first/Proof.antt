@@ -7,7 +7,7 @@ use lib.Seq.{length-take-le}
 use Rattle.workspace.proofs.first.Statement.{statement}
 use Rattle.workspace.proofs.first.Tie as tie
 
-inside : tie.Need-array-share-prefix-taps
+inside : tie.Need-slice_bounds-taps-end
 inside c = search rules
 
 taps_long : (c : tie.Start) → length (take c.args.n c.args.t3) ≡ c.args.n
@@ -20,7 +20,7 @@ lent_requires c κs =
 
 returns : tie.Need-returns
 returns c =
-    let g = c.before.lent in
+    let g = c.lent in
     let s = c.before.before.before.before in
     (omega (arith, g.ensures.0, taps_long s, s.requires.0), g.ensures.1)
 

@@ -10,7 +10,7 @@ use Rattle.workspace.proofs.held.Tie as tie
 returns : tie.Need-returns
 unfolding taps_of
 returns c =
-    let g = c.before.first in
+    let g = c.first in
     let s = c.before.before.before.before in
     let f = s.args.filter in
     (g.ensures.0, g.ensures.1 ∙ ap (lent_taps s.args.rate s.args.cutoff) (sym (take-take f.count 117 f.taps s.requires.0)))

@@ -5,32 +5,32 @@ use Rattle.kernel.proofs.Arms.{in_narrow}
 use Rattle.workspace.proofs.lent.Statement.{statement}
 use Rattle.workspace.proofs.lent.Tie as tie
 
-returns : tie.Need-returns
+returns : tie.Need-returns-in-Hz88200
 unfolding lent_taps
 returns c =
     let g = c.before in
-    (g.halves.ensures.0, rw g.before.before.enum_told.given.1 g.halves.ensures.1)
+    (g.halves.ensures.0, rw g.in-Hz88200.is g.halves.ensures.1)
 
-returns-2 : tie.Need-returns-2
+returns-2 : tie.Need-returns-in-Standard
 unfolding lent_taps
 returns-2 c =
     let g = c.before in
     let m = g.before.before in
     let t = m.before in
-    (g.plain.ensures.0, rw t.enum-told2.given.1 (in_narrow t.before.before.args.cutoff m.match2.keys1 (λ e. rw e g.plain.ensures.1) (λ e. rw e g.plain.ensures.1)))
+    (g.plain.ensures.0, rw t.in-Hz176400.is (in_narrow t.args.cutoff m.in-Standard.keys1 (λ e. rw e g.plain.ensures.1) (λ e. rw e g.plain.ensures.1)))
 
-returns-3 : tie.Need-returns-3
+returns-3 : tie.Need-returns-in-Wide
 unfolding lent_taps
 returns-3 c =
     let g = c.before in
     let w = g.before.before in
-    (g.halves2.ensures.0, rw (w.before.before.enum-told2.given.1, w.enum-told3.given.1) g.halves2.ensures.1)
+    (g.halves-in-Wide.ensures.0, rw (w.in-Hz176400.is, w.in-Wide.is) g.halves-in-Wide.ensures.1)
 
-returns-4 : tie.Need-returns-4
+returns-4 : tie.Need-returns-in-Hz352800
 unfolding lent_taps
 returns-4 c =
     let g = c.before in
-    (g.plain2.ensures.0, rw g.before.before.enum-told4.given.1 g.plain2.ensures.1)
+    (g.plain-in-Hz352800.ensures.0, rw g.in-Hz352800.is g.plain-in-Hz352800.ensures.1)
 
 pub lent_spec : {M : Type 1} → statement M
 lent_spec =

@@ -6,7 +6,7 @@ use Rattle.command_line.proofs.reading.start.Statement.{statement}
 use Rattle.command_line.proofs.reading.start.Tie as tie
 
 returns : tie.Need-returns
-returns c = c.state.ensures ∙ ap on c.before.defaults.ensures
+returns c = c.state.ensures ∙ ap on c.defaults.ensures
 
 pub start_spec : {M : Type 1} → statement M
 start_spec = tie.close (tie.spec (λ c κs. search rules) (λ c κs. search rules) returns)

@@ -8,10 +8,10 @@ use Rattle.gain.proofs.Records.{number}
 use Rattle.decibels.proofs.figure.parts.Statement.{statement}
 use Rattle.decibels.proofs.figure.parts.Tie as tie
 
-float_to_bits_bits : tie.Need-float-to-bits-bits
-float_to_bits_bits c = number c.before.args.factor c.if1.false
+float_to_bits_bits : tie.Need-float_to_bits-bits
+float_to_bits_bits c = number c.args.factor c.if-factor.false
 
-mul_result : tie.Need-overflow-mul-result
+mul_result : tie.Need-overflow_mul-result
 mul_result c = record { fits = lt_of_le_of_lt (mul-le-mul {n₂ = 2 ^ 53} {m₂ = 2047} (omega arith) (omega arith)) (lit< tt) }
 
 pub parts_spec : {M : Type 1} → statement M

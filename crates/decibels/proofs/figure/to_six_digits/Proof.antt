@@ -4,10 +4,10 @@ use borrow.Author.Rules.{rules}
 use Rattle.decibels.proofs.figure.to_six_digits.Statement.{statement}
 use Rattle.decibels.proofs.figure.to_six_digits.Tie as tie
 
-abbrev invariant-loop : tie.invariant-loop
+abbrev invariant-loop : tie.invariant-loop-i
 invariant-loop factor x f₀ i₀ f i = i ≤ 11
 
-abbrev decreases-loop : tie.decreases-loop
+abbrev decreases-loop : tie.decreases-loop-i
 decreases-loop factor x f₀ i₀ f i = 11 - i
 
 pub to_six_digits_spec : {M : Type 1} → statement M

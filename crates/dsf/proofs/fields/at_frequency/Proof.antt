@@ -9,4 +9,6 @@ unfolding frequency bytes
 returns c = c.holds.ensures
 
 pub at_frequency_spec : {M : Type 1} → statement M
-at_frequency_spec = tie.close (tie.spec (λ c. search rules) (λ c κs. search rules) returns)
+at_frequency_spec = tie.close (tie.spec
+    (λ c κs. search rules)
+    returns)

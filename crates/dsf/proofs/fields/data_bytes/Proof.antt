@@ -8,7 +8,7 @@ use Rattle.dsf.specs.Dsf.{data_bytes, blocks}
 use Rattle.dsf.proofs.fields.data_bytes.Statement.{statement}
 use Rattle.dsf.proofs.fields.data_bytes.Tie as tie
 
-mul_result_2 : tie.Need-overflow-mul-result-2
+mul_result_2 : tie.Need-overflow_mul-result-2
 mul_result_2 c =
     let a = c.args in
     let e : (a.samples / 8 + 4095) / 4096 * 4096 ≤ 2 ^ 61 + 4095 = omega arith in

@@ -16,32 +16,23 @@ returns c =
     let at-holds-arg7 = at-holds9.before.before.before.before.before in
     let at-holds5 = at-holds-arg7.before.before.before.before.before in
     let at-holds-arg3 = at-holds5.before.before.before.before.before in
-    (c.both10.ensures ∙ ap (λ (x : Bool). at-holds-arg3.before.before.before.holds.result && x) (c.before.both9.ensures ∙ ap (λ (x : Bool). at-holds-arg3.before.holds2.result && x) (c.before.before.both8.ensures ∙ ap (λ (x : Bool). at-holds5.before.before.before.before.holds3.result && x) (c.before.before.before.both7.ensures ∙ ap (λ (x : Bool). at-holds5.before.before.holds4.result && x) (c.before.before.before.before.both6.ensures ∙ ap (λ (x : Bool). at-holds5.holds5.result && x) (c.before.before.before.before.before.both5.ensures ∙ ap (λ (x : Bool). at-holds-arg7.before.before.before.holds6.result && x) (at-both5.before.both4.ensures ∙ ap (λ (x : Bool). at-holds-arg7.before.before.paired.result && x) (at-both5.before.before.both3.ensures ∙ ap (λ (x : Bool). at-holds-arg7.before.ordered.result && x) (at-both5.before.before.before.both2.ensures ∙ ap (λ (x : Bool). at-holds9.before.before.before.before.holds7.result && x) at-both5.before.before.before.before.both.ensures)))))))))
-    ∙ layout_is _ at-holds-arg3.before.before.before.holds.ensures at-holds-arg3.before.holds2.ensures at-holds5.before.before.before.before.holds3.ensures at-holds5.before.before.holds4.ensures at-holds5.holds5.ensures at-holds-arg7.before.before.before.holds6.ensures at-holds-arg7.before.before.paired.ensures at-holds-arg7.before.ordered.ensures at-holds9.before.before.before.before.holds7.ensures at-holds9.before.before.holds8.ensures at-holds9.holds9.ensures
+    (c.both-10.ensures ∙ ap (λ (x : Bool). at-holds-arg3.holds-a.result && x) (c.both-9.ensures ∙ ap (λ (x : Bool). at-holds-arg3.holds-b.result && x) (c.both-8.ensures ∙ ap (λ (x : Bool). at-holds5.holds-c.result && x) (c.both-7.ensures ∙ ap (λ (x : Bool). at-holds5.holds-d.result && x) (c.both-6.ensures ∙ ap (λ (x : Bool). at-holds5.holds-e.result && x) (c.both-5.ensures ∙ ap (λ (x : Bool). at-holds-arg7.holds-f.result && x) (at-both5.both-4.ensures ∙ ap (λ (x : Bool). at-holds-arg7.paired-g.result && x) (at-both5.both-3.ensures ∙ ap (λ (x : Bool). at-holds-arg7.ordered-h.result && x) (at-both5.both-2.ensures ∙ ap (λ (x : Bool). at-holds9.holds-i.result && x) at-both5.both.ensures)))))))))
+    ∙ layout_is _ at-holds-arg3.holds-a.ensures at-holds-arg3.holds-b.ensures at-holds5.holds-c.ensures at-holds5.holds-d.ensures at-holds5.holds-e.ensures at-holds-arg7.holds-f.ensures at-holds-arg7.paired-g.ensures at-holds-arg7.ordered-h.ensures at-holds9.holds-i.ensures at-holds9.holds-j.ensures at-holds9.holds-k.ensures
 
 pub laid_out_spec : {M : Type 1} → statement M
 laid_out_spec =
     tie.close
     (tie.spec
-    (λ c. search rules)
-    (λ c κs. search rules)
-    (λ c. search rules)
-    (λ c κs. search rules)
-    (λ c. search rules)
-    (λ c κs. search rules)
-    (λ c. search rules)
-    (λ c κs. search rules)
-    (λ c. search rules)
-    (λ c κs. search rules)
-    (λ c. search rules)
     (λ c κs. search rules)
     (λ c κs. search rules)
     (λ c κs. search rules)
-    (λ c. search rules)
     (λ c κs. search rules)
-    (λ c. search rules)
     (λ c κs. search rules)
-    (λ c. search rules)
+    (λ c κs. search rules)
+    (λ c κs. search rules)
+    (λ c κs. search rules)
+    (λ c κs. search rules)
+    (λ c κs. search rules)
     (λ c κs. search rules)
     (λ c κs. search rules)
     (λ c κs. search rules)

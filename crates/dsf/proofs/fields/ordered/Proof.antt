@@ -8,15 +8,13 @@ use Rattle.dsf.proofs.fields.ordered.Tie as tie
 
 returns : tie.Need-returns
 unfolding bytes
-returns c = c.either.ensures ∙ orders_is _ c.before.before.before.agrees.ensures c.before.agrees2.ensures
+returns c = c.either.ensures ∙ orders_is _ c.agrees-a.ensures c.agrees-b.ensures
 
 pub ordered_spec : {M : Type 1} → statement M
 ordered_spec =
     tie.close
     (tie.spec
-    (λ c. search rules)
     (λ c κs. search rules)
-    (λ c. search rules)
     (λ c κs. search rules)
     (λ c κs. search rules)
     returns)

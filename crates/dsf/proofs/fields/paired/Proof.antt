@@ -13,26 +13,19 @@ returns c =
     let at-either = c.before.before.before.before.before in
     let at-agrees5 = at-either.before.before.before.before.before in
     let at-agrees-arg3 = at-agrees5.before.before.before.before.before in
-    (c.either6.ensures ∙ ap (λ (x : Bool). at-agrees-arg3.before.before.before.agrees.result || x) (c.before.either5.ensures ∙ ap (λ (x : Bool). at-agrees-arg3.before.agrees2.result || x) (c.before.before.either4.ensures ∙ ap (λ (x : Bool). at-agrees5.before.before.before.before.agrees3.result || x) (c.before.before.before.either3.ensures ∙ ap (λ (x : Bool). at-agrees5.before.before.agrees4.result || x) (c.before.before.before.before.either2.ensures ∙ ap (λ (x : Bool). at-agrees5.agrees5.result || x) c.before.before.before.before.before.either.ensures)))))
-    ∙ pairs_is _ at-agrees-arg3.before.before.before.agrees.ensures at-agrees-arg3.before.agrees2.ensures at-agrees5.before.before.before.before.agrees3.ensures at-agrees5.before.before.agrees4.ensures at-agrees5.agrees5.ensures at-either.before.before.before.agrees6.ensures at-either.before.agrees7.ensures
+    (c.either-6.ensures ∙ ap (λ (x : Bool). at-agrees-arg3.agrees-a.result || x) (c.either-5.ensures ∙ ap (λ (x : Bool). at-agrees-arg3.agrees-b.result || x) (c.either-4.ensures ∙ ap (λ (x : Bool). at-agrees5.agrees-c.result || x) (c.either-3.ensures ∙ ap (λ (x : Bool). at-agrees5.agrees-d.result || x) (c.either-2.ensures ∙ ap (λ (x : Bool). at-agrees5.agrees-e.result || x) c.either.ensures)))))
+    ∙ pairs_is _ at-agrees-arg3.agrees-a.ensures at-agrees-arg3.agrees-b.ensures at-agrees5.agrees-c.ensures at-agrees5.agrees-d.ensures at-agrees5.agrees-e.ensures at-either.agrees-f.ensures at-either.agrees-g.ensures
 
 pub paired_spec : {M : Type 1} → statement M
 paired_spec =
     tie.close
     (tie.spec
-    (λ c. search rules)
     (λ c κs. search rules)
-    (λ c. search rules)
     (λ c κs. search rules)
-    (λ c. search rules)
     (λ c κs. search rules)
-    (λ c. search rules)
     (λ c κs. search rules)
-    (λ c. search rules)
     (λ c κs. search rules)
-    (λ c. search rules)
     (λ c κs. search rules)
-    (λ c. search rules)
     (λ c κs. search rules)
     (λ c κs. search rules)
     (λ c κs. search rules)

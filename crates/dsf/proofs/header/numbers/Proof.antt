@@ -9,10 +9,10 @@ use Rattle.dsf.proofs.header.numbers.Tie as tie
 returns : tie.Need-returns
 unfolding file_header channel_type channels bits_per_sample samples frames frames_in
 returns c =
-    let kind = c.before.before.before.number.ensures in
-    let count = c.before.before.number2.ensures in
-    let bits = c.before.number3.ensures in
-    let size = c.number4.ensures in
+    let kind = c.number-channel_type.ensures in
+    let count = c.number-channels.ensures in
+    let bits = c.number-bits_per_sample.ensures in
+    let size = c.number-samples.ensures in
     λ i. record { channel_type = kind i; channels = count i; bits_per_sample = bits i; samples = size i; frames = ap frames_in size i }
 
 pub numbers_spec : {M : Type 1} → statement M

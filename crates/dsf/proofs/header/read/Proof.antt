@@ -10,8 +10,8 @@ use Rattle.dsf.proofs.header.read.Tie as tie
 
 returns : tie.Need-returns
 returns c =
-    let file = c.before.before.args.file.now in
-    let p = c.read-header.ensures in
+    let file = c.args.file.now in
+    let p = c.read_header.ensures in
     record {
       decided = p.decided ∙ whole_head file;
       header = p.header ∙ ap (λ (d : Decision). by_decision d (file_header file) no_header) (whole_head file);

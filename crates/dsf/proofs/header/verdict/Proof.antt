@@ -9,24 +9,24 @@ use Rattle.dsf.proofs.Tests.{too_short, wrong_layout}
 use Rattle.dsf.proofs.header.verdict.Statement.{statement}
 use Rattle.dsf.proofs.header.verdict.Tie as tie
 
-returns : tie.Need-returns
+returns : tie.Need-returns-then-head-lt92
 unfolding header_places
-returns c = sym (at_first _ _ (lt-ltb _ _ c.if1.true))
+returns c = sym (at_first _ _ (lt-ltb _ _ c.if-head-lt92.true))
 
-returns-2 : tie.Need-returns-2
+returns-2 : tie.Need-returns-then-total-lt92
 unfolding header_places
-returns-2 c = too_short _ _ c.if2.true ∙ sym (at_next _ _ (le-ltb _ _ c.before.if1.false))
+returns-2 c = too_short _ _ c.if-total-lt92.true ∙ sym (at_next _ _ (le-ltb _ _ c.if-head-lt92.false))
 
 later_requires : tie.Need-later-requires
-later_requires c κs = (omega arith, sym c.before.laid_out.ensures ∙ c.if3.true)
+later_requires c κs = (omega arith, sym c.laid_out.ensures ∙ c.if-laid_out.true)
 
-returns-3 : tie.Need-returns-3
+returns-3 : tie.Need-returns-then-laid_out
 unfolding header_places
-returns-3 c = c.later.ensures ∙ sym (at_next _ _ (le-ltb _ _ c.before.before.before.before.if1.false))
+returns-3 c = c.later.ensures ∙ sym (at_next _ _ (le-ltb _ _ c.if-head-lt92.false))
 
-returns-4 : tie.Need-returns-4
+returns-4 : tie.Need-returns
 unfolding header_places
-returns-4 c = wrong_layout _ _ c.before.before.if2.false (sym c.before.laid_out.ensures ∙ c.if3.false) ∙ sym (at_next _ _ (le-ltb _ _ c.before.before.before.if1.false))
+returns-4 c = wrong_layout _ _ c.if-total-lt92.false (sym c.laid_out.ensures ∙ c.if-laid_out.false) ∙ sym (at_next _ _ (le-ltb _ _ c.if-head-lt92.false))
 
 pub verdict_spec : {M : Type 1} → statement M
 verdict_spec =

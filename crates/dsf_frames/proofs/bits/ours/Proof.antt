@@ -7,13 +7,13 @@ use borrow.Author.Rules.{rules}
 use Rattle.dsf_frames.proofs.bits.ours.Statement.{statement}
 use Rattle.dsf_frames.proofs.bits.ours.Tie as tie
 
-returns : tie.Need-returns
+returns : tie.Need-returns-then-bits-eq1
 unfolding our_byte
-returns c = rw c.before.if1.true c.turn.ensures
+returns c = rw c.if-bits-eq1.true c.turn.ensures
 
-returns-2 : tie.Need-returns-2
+returns-2 : tie.Need-returns
 unfolding our_byte
-returns-2 c = rw (not_T_is {b = eqb c.before.args.bits 1} (λ t. c.if1.false (eqb→eq _ _ t)))
+returns-2 c = rw (not_T_is {b = eqb c.args.bits 1} (λ t. c.if-bits-eq1.false (eqb→eq _ _ t)))
 
 pub ours_spec : {M : Type 1} → statement M
 ours_spec = tie.close (tie.spec (λ c κs. search rules) returns returns-2)

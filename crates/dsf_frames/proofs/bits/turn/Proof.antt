@@ -6,7 +6,7 @@ use Rattle.dsf_frames.proofs.bits.turn.Statement.{statement}
 use Rattle.dsf_frames.proofs.bits.turn.Tie as tie
 
 returns : tie.Need-returns
-returns c = c.low.ensures ∙ turn_sum c.before.args.x
+returns c = c.low.ensures ∙ turn_sum c.args.x
 
 pub turn_spec : {M : Type 1} → statement M
 turn_spec =

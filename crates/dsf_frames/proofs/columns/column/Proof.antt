@@ -9,123 +9,123 @@ use Rattle.dsf_frames.proofs.Windows.{column_none, above, small, within, cells, 
 use Rattle.dsf_frames.proofs.columns.column.Statement.{statement}
 use Rattle.dsf_frames.proofs.columns.column.Tie as tie
 
-abbrev invariant-loop : tie.invariant-loop
+abbrev invariant-loop : tie.invariant-loop-q
 invariant-loop window table channels c first end start out₀ q₀ out q = (first ≤ q) × (q ≤ end) × Column channels c (q - first) (column_byte window table channels first end start c) out₀ out
 
-abbrev decreases-loop : tie.decreases-loop
+abbrev decreases-loop : tie.decreases-loop-q
 decreases-loop window table channels c first end start out₀ q₀ out q = end - q
 
-loop-holds : tie.Need-loop-init invariant-loop decreases-loop
-loop-holds c = (omega arith, c.before.before.requires.some, let z : c.before.before.args.first - c.before.before.args.first ≡ 0 = omega arith in rw z (column_none c.before.before.requires.channel))
+loop-holds : tie.Need-loop-q-init invariant-loop decreases-loop
+loop-holds c = (omega arith, c.requires.some, let z : c.args.first - c.args.first ≡ 0 = omega arith in rw z (column_none c.requires.channel))
 
-mul_lesser_of : tie.Need-overflow-mul-lesser-of invariant-loop decreases-loop
-mul_lesser_of c = omega (arith, c.before.before.before.before.requires.small)
+mul_lesser_of : tie.Need-overflow_mul-b invariant-loop decreases-loop
+mul_lesser_of c = omega (arith, c.requires.small)
 
-add_lesser_of : tie.Need-overflow-add-lesser-of invariant-loop decreases-loop
-add_lesser_of c = omega (arith, c.before.before.before.before.requires.small)
+add_lesser_of : tie.Need-overflow_add-b invariant-loop decreases-loop
+add_lesser_of c = omega (arith, c.requires.small)
 
-lesser_of_requires : tie.Need-lesser-of-requires invariant-loop decreases-loop
+lesser_of_requires : tie.Need-lesser_of-stop-requires invariant-loop decreases-loop
 lesser_of_requires c κs = tt
 
-mul_from : tie.Need-overflow-mul-from invariant-loop decreases-loop
-mul_from c = omega (arith, small c.before.before.before.before.before.requires c.before.before.loop.q c.before.loop-test.true)
+mul_from : tie.Need-overflow_mul-from invariant-loop decreases-loop
+mul_from c = omega (arith, small c.requires c.loop-q.q c.loop-q-test.true)
 
-add_from : tie.Need-overflow-add-from invariant-loop decreases-loop
-add_from c = omega (arith, small c.before.before.before.before.before.requires c.before.before.loop.q c.before.loop-test.true)
+add_from : tie.Need-overflow_add-from invariant-loop decreases-loop
+add_from c = omega (arith, small c.requires c.loop-q.q c.loop-q-test.true)
 
-mul_from_2 : tie.Need-overflow-mul-from-2 invariant-loop decreases-loop
-mul_from_2 c = omega (arith, small c.before.before.before.before.before.requires c.before.before.loop.q c.before.loop-test.true)
+mul_from_2 : tie.Need-overflow_mul-from-in-loop-q invariant-loop decreases-loop
+mul_from_2 c = omega (arith, small c.requires c.loop-q.q c.loop-q-test.true)
 
-add_from_2 : tie.Need-overflow-add-from-2 invariant-loop decreases-loop
-add_from_2 c = omega (arith, small c.before.before.before.before.before.requires c.before.before.loop.q c.before.loop-test.true)
+add_from_2 : tie.Need-overflow_add-from-in-loop-q invariant-loop decreases-loop
+add_from_2 c = omega (arith, small c.requires c.loop-q.q c.loop-q-test.true)
 
-sub_from : tie.Need-overflow-sub-from invariant-loop decreases-loop
-sub_from c = omega (arith, above c.before.before.before.before.before.requires c.before.before.loop.q c.before.before.loop.invariant.0)
+sub_from : tie.Need-overflow_sub-from invariant-loop decreases-loop
+sub_from c = omega (arith, above c.requires c.loop-q.q c.loop-q.invariant.0)
 
-sub_to : tie.Need-overflow-sub-to invariant-loop decreases-loop
-sub_to c = omega (arith, c.lesser-of.ensures)
+sub_to : tie.Need-overflow_sub-to invariant-loop decreases-loop
+sub_to c = omega (arith, c.lesser_of-stop.ensures)
 
-add_to : tie.Need-overflow-add-to invariant-loop decreases-loop
-add_to c = let a = c.before.before.before.before.before.requires in let l = c.before.before.loop in omega (arith, within a l.q c.lesser-of.result l.invariant.0 (omega (arith, c.lesser-of.ensures)) (omega (arith, c.lesser-of.ensures)) (omega (arith, c.lesser-of.ensures)))
+add_to : tie.Need-overflow_add-to invariant-loop decreases-loop
+add_to c = let a = c.requires in let l = c.loop-q in omega (arith, within a l.q c.lesser_of-stop.result l.invariant.0 (omega (arith, c.lesser_of-stop.ensures)) (omega (arith, c.lesser_of-stop.ensures)) (omega (arith, c.lesser_of-stop.ensures)))
 
-sub_at : tie.Need-overflow-sub-at invariant-loop decreases-loop
-sub_at c = c.before.before.loop.invariant.0
+sub_at : tie.Need-overflow_sub-at invariant-loop decreases-loop
+sub_at c = c.loop-q.invariant.0
 
-mul_at : tie.Need-overflow-mul-at invariant-loop decreases-loop
-mul_at c = omega (arith, cell_small c.before.before.before.before.before.requires (c.before.before.loop.q - c.before.before.before.before.before.args.first) (omega (arith, c.before.before.before.before.before.requires.most)))
+mul_at : tie.Need-overflow_mul-at invariant-loop decreases-loop
+mul_at c = omega (arith, cell_small c.requires (c.loop-q.q - c.args.first) (omega (arith, c.requires.most)))
 
-add_at : tie.Need-overflow-add-at invariant-loop decreases-loop
-add_at c = omega (arith, cell_small c.before.before.before.before.before.requires (c.before.before.loop.q - c.before.before.before.before.before.args.first) (omega (arith, c.before.before.before.before.before.requires.most)))
+add_at : tie.Need-overflow_add-at invariant-loop decreases-loop
+add_at c = omega (arith, cell_small c.requires (c.loop-q.q - c.args.first) (omega (arith, c.requires.most)))
 
-sub_spread : tie.Need-overflow-sub-spread invariant-loop decreases-loop
+sub_spread : tie.Need-slice_bounds-spread-count invariant-loop decreases-loop
 sub_spread c = omega arith
 
-part_spread_start : tie.Need-slice-bounds-spread-start invariant-loop decreases-loop
+part_spread_start : tie.Need-slice_bounds-spread-start invariant-loop decreases-loop
 part_spread_start c = omega arith
 
-part_spread_end : tie.Need-slice-bounds-spread-end invariant-loop decreases-loop
-part_spread_end c = let a = c.before.before.before.before.before.requires in let l = c.before.before.loop in omega (arith, within a l.q c.lesser-of.result l.invariant.0 (omega (arith, c.lesser-of.ensures)) (omega (arith, c.lesser-of.ensures)) (omega (arith, c.lesser-of.ensures)))
+part_spread_end : tie.Need-slice_bounds-spread-end invariant-loop decreases-loop
+part_spread_end c = let a = c.requires in let l = c.loop-q in omega (arith, within a l.q c.lesser_of-stop.result l.invariant.0 (omega (arith, c.lesser_of-stop.ensures)) (omega (arith, c.lesser_of-stop.ensures)) (omega (arith, c.lesser_of-stop.ensures)))
 
 spread_requires : tie.Need-spread-requires invariant-loop decreases-loop
 spread_requires c κs =
     let at-slice-known = c.before.before.before.before.before in
     let s = at-slice-known.before.before in
-    let l = c.before.before.before.before.loop in
-    let t = c.before.before.before.loop-test.true in
-    let e = c.before.before.lesser-of.ensures in
-    let stop = c.before.before.lesser-of.result in
+    let l = c.loop-q in
+    let t = c.loop-q-test.true in
+    let e = c.lesser_of-stop.ensures in
+    let stop = c.lesser_of-stop.result in
     let g = within s.requires l.q stop l.invariant.0 (omega arith) (omega arith) (omega arith) in
     let b = above s.requires l.q l.invariant.0 in
     (omega (arith, s.requires.channel), rw l.invariant.2.same (piece_fits s.requires s.args.window.now s.args.table.now refl l.q stop l.invariant.0 (omega arith) (omega arith) (omega arith) _ (omega (arith, g, b))), omega (arith, lent_small s.requires, l.invariant.2.same))
 
-loop-less : tie.Need-loop-smaller invariant-loop decreases-loop
+loop-less : tie.Need-loop-q-smaller invariant-loop decreases-loop
 loop-less c =
     let at-lesser-of = c.before.before.before.before.before in
-    let t = at-lesser-of.before.loop-test.true in let e = c.before.before.before.before.before.lesser-of.ensures in omega arith
+    let t = at-lesser-of.loop-q-test.true in let e = c.lesser_of-stop.ensures in omega arith
 
-loop-again : tie.Need-loop-preserved invariant-loop decreases-loop
+loop-again : tie.Need-loop-q-preserved invariant-loop decreases-loop
 loop-again c =
     let at-lesser-of = c.before.before.before.before.before in
     let at_start = at-lesser-of.before.before.before.before.before in
     let s = at_start in
-    let l = at-lesser-of.before.before.loop in
-    let t = at-lesser-of.before.loop-test.true in
-    let e = c.before.before.before.before.before.lesser-of.ensures in
-    let stop = c.before.before.before.before.before.lesser-of.result in
-    (omega arith, omega arith, piece s.requires s.args.window.now s.args.table.now refl l.q stop l.invariant.0 (omega arith) (omega arith) (omega arith) l.invariant.2 c.before.before.spread.ensures)
+    let l = at-lesser-of.loop-q in
+    let t = at-lesser-of.loop-q-test.true in
+    let e = c.lesser_of-stop.ensures in
+    let stop = c.lesser_of-stop.result in
+    (omega arith, omega arith, piece s.requires s.args.window.now s.args.table.now refl l.q stop l.invariant.0 (omega arith) (omega arith) (omega arith) l.invariant.2 c.spread.ensures)
 
-add_rest : tie.Need-overflow-add-rest invariant-loop decreases-loop
-add_rest c = omega (arith, c.before.before.before.before.requires.small, c.before.before.before.before.requires.some)
+add_rest : tie.Need-overflow_add-rest invariant-loop decreases-loop
+add_rest c = omega (arith, c.requires.small, c.requires.some)
 
-sub_rest : tie.Need-overflow-sub-rest invariant-loop decreases-loop
-sub_rest c = c.before.before.before.before.requires.most
+sub_rest : tie.Need-overflow_sub-rest invariant-loop decreases-loop
+sub_rest c = c.requires.most
 
-sub_at_2 : tie.Need-overflow-sub-at-2 invariant-loop decreases-loop
-sub_at_2 c = c.before.before.before.before.requires.some
+sub_at_2 : tie.Need-overflow_sub-at-2 invariant-loop decreases-loop
+sub_at_2 c = c.requires.some
 
-mul_at_2 : tie.Need-overflow-mul-at-2 invariant-loop decreases-loop
+mul_at_2 : tie.Need-overflow_mul-at-2 invariant-loop decreases-loop
 mul_at_2 c = let s = c.before.before.before.before in omega (arith, cell_small s.requires (s.args.end - s.args.first) (omega (arith, s.requires.most)))
 
-add_at_2 : tie.Need-overflow-add-at-2 invariant-loop decreases-loop
+add_at_2 : tie.Need-overflow_add-at-2 invariant-loop decreases-loop
 add_at_2 c = let s = c.before.before.before.before in omega (arith, cell_small s.requires (s.args.end - s.args.first) (omega (arith, s.requires.most)))
 
-idle_at_requires : tie.Need-idle-at-requires invariant-loop decreases-loop
+idle_at_requires : tie.Need-idle_at-requires invariant-loop decreases-loop
 idle_at_requires c κs =
     let s = c.before.before.before.before.before in
-    let l = c.before.before.loop in
+    let l = c.loop-q in
     let f = cells s.requires (s.args.end - s.args.first) (s.args.first + 4704 - s.args.end) (omega (arith, s.requires.some, s.requires.most)) in
     (omega (arith, s.requires.channel), omega (arith, f, l.invariant.2.same), omega (arith, lent_small s.requires, l.invariant.2.same))
 
-same_length : tie.Need-same-length invariant-loop decreases-loop
-same_length c = c.before.before.idle-at.ensures.same ∙ c.before.before.before.before.before.loop.invariant.2.same
+same_length : tie.Need-shape_of-out invariant-loop decreases-loop
+same_length c = c.idle_at.ensures.same ∙ c.loop-q.invariant.2.same
 
 returns : tie.Need-returns invariant-loop decreases-loop
 returns c =
     let at-loop = c.before.before.before.before.before in
     let s = at-loop.before.before.before in
-    let l = c.before.before.before.before.before.loop in
+    let l = c.loop-q in
     let e : l.q ≡ s.args.end = omega arith in
-    rest s.requires s.args.window.now s.args.table.now (rw e at l.invariant.2) c.before.before.idle-at.ensures
+    rest s.requires s.args.window.now s.args.table.now (rw e at l.invariant.2) c.idle_at.ensures
 
 pub column_spec : {M : Type 1} → statement M
 column_spec =

@@ -11,49 +11,49 @@ use Rattle.dsf_frames.proofs.Asked.{no_frame, begins_late, ends_early, wrong_roo
 use Rattle.dsf_frames.proofs.frames.asked.Statement.{statement}
 use Rattle.dsf_frames.proofs.frames.asked.Tie as tie
 
-returns : tie.Need-returns
+returns : tie.Need-returns-then-samples-frame
 unfolding frames_in
-returns c = no_frame _ _ _ _ _ _ c.if1.true
+returns c = no_frame _ _ _ _ _ _ c.if-samples-frame.true
 
-groups_requires : tie.Need-groups-requires
-groups_requires c κs = (c.before.requires, omega arith)
+groups_requires : tie.Need-groups-held-requires
+groups_requires c κs = (c.requires, omega arith)
 
-returns-2 : tie.Need-returns-2
+returns-2 : tie.Need-returns-then-from-start
 unfolding frames_in
 returns-2 c =
-    let a = c.before.before.before.args in
-    let late : window_start a.channels a.frame < a.start = rw (← c.before.groups.ensures.0) c.if2.true in
-    begins_late a.channels a.samples a.frame a.start a.size a.room c.before.before.if1.false late
+    let a = c.args in
+    let late : window_start a.channels a.frame < a.start = rw (← c.groups-held.ensures.0) c.if-from-start.true in
+    begins_late a.channels a.samples a.frame a.start a.size a.room c.if-samples-frame.false late
 
-mul_expected : tie.Need-overflow-mul-expected
+mul_expected : tie.Need-overflow_mul-expected
 mul_expected c = omega arith
 
-returns-3 : tie.Need-returns-3
+returns-3 : tie.Need-returns-then-room-expected
 unfolding frames_in
 returns-3 c =
     let held = c.before.before.before.before in
-    let a = held.before.before.args in
-    let begins : a.start ≤ window_start a.channels a.frame = rw (← held.groups.ensures.0) c.before.before.before.if2.false in
-    let covers : leb (window_end a.channels a.samples a.frame) (a.start + a.size) ≡ true = rw (← held.groups.ensures.1) (sym c.before.before.reaches.ensures ∙ c.before.if3.true) in
-    wrong_room a.channels a.samples a.frame a.start a.size a.room held.before.if1.false begins covers c.if4.true
+    let a = held.args in
+    let begins : a.start ≤ window_start a.channels a.frame = rw (← held.groups-held.ensures.0) c.if-from-start.false in
+    let covers : leb (window_end a.channels a.samples a.frame) (a.start + a.size) ≡ true = rw (← held.groups-held.ensures.1) (sym c.reaches.ensures ∙ c.if-reaches.true) in
+    wrong_room a.channels a.samples a.frame a.start a.size a.room held.if-samples-frame.false begins covers c.if-room-expected.true
 
-returns-4 : tie.Need-returns-4
+returns-4 : tie.Need-returns-then-reaches
 unfolding frames_in
 returns-4 c =
     let held = c.before.before.before.before in
-    let a = held.before.before.args in
-    let begins : a.start ≤ window_start a.channels a.frame = rw (← held.groups.ensures.0) c.before.before.before.if2.false in
-    let covers : leb (window_end a.channels a.samples a.frame) (a.start + a.size) ≡ true = rw (← held.groups.ensures.1) (sym c.before.before.reaches.ensures ∙ c.before.if3.true) in
-    fits a.channels a.samples a.frame a.start a.size a.room held.before.if1.false begins covers c.if4.false
+    let a = held.args in
+    let begins : a.start ≤ window_start a.channels a.frame = rw (← held.groups-held.ensures.0) c.if-from-start.false in
+    let covers : leb (window_end a.channels a.samples a.frame) (a.start + a.size) ≡ true = rw (← held.groups-held.ensures.1) (sym c.reaches.ensures ∙ c.if-reaches.true) in
+    fits a.channels a.samples a.frame a.start a.size a.room held.if-samples-frame.false begins covers c.if-room-expected.false
 
-returns-5 : tie.Need-returns-5
+returns-5 : tie.Need-returns
 unfolding frames_in
 returns-5 c =
     let held = c.before.before.before in
-    let a = held.before.before.args in
-    let begins : a.start ≤ window_start a.channels a.frame = rw (← held.groups.ensures.0) c.before.before.if2.false in
-    let covers : leb (window_end a.channels a.samples a.frame) (a.start + a.size) ≡ false = rw (← held.groups.ensures.1) (sym c.before.reaches.ensures ∙ c.if3.false) in
-    ends_early a.channels a.samples a.frame a.start a.size a.room held.before.if1.false begins covers
+    let a = held.args in
+    let begins : a.start ≤ window_start a.channels a.frame = rw (← held.groups-held.ensures.0) c.if-from-start.false in
+    let covers : leb (window_end a.channels a.samples a.frame) (a.start + a.size) ≡ false = rw (← held.groups-held.ensures.1) (sym c.reaches.ensures ∙ c.if-reaches.false) in
+    ends_early a.channels a.samples a.frame a.start a.size a.room held.if-samples-frame.false begins covers
 
 pub asked_spec : {M : Type 1} → statement M
 asked_spec =

@@ -11,19 +11,19 @@ use Rattle.dsf_frames.proofs.Asked.{short_file, whole_places, whole_frame, frame
 use Rattle.dsf_frames.proofs.frames.frame.Statement.{statement}
 use Rattle.dsf_frames.proofs.frames.frame.Tie as tie
 
-returns : tie.Need-returns
+returns : tie.Need-returns-then-file-lt92
 unfolding is_accepted
 returns c =
-    let e = short_file _ _ _ c.if1.true in
+    let e = short_file _ _ _ c.if-file-lt92.true in
     record { decided = sym e; written = sym (exit_refused _ _ _ (ap is_accepted e)) }
 
-returns-2 : tie.Need-returns-2
+returns-2 : tie.Need-returns
 returns-2 c =
     let at-else1 = c.before.before.before.before.before in
-    let a = at-else1.before.before.before.args in
+    let a = at-else1.args in
     let file = a.file.now in
     let t = take_all (length file - 92) (drop 92 file) (omega (arith, length-drop 92 file)) in
-    framed_as (whole_places file a.frame _) (whole_frame file a.frame) (rw t at c.before.before.window_frame.ensures)
+    framed_as (whole_places file a.frame _) (whole_frame file a.frame) (rw t at c.window_frame.ensures)
 
 pub frame_spec : {M : Type 1} → statement M
 frame_spec =

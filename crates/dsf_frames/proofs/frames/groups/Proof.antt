@@ -9,15 +9,15 @@ use borrow.Author.Rules.{rules}
 use Rattle.dsf_frames.proofs.frames.groups.Statement.{statement}
 use Rattle.dsf_frames.proofs.frames.groups.Tie as tie
 
-mul_start_2 : tie.Need-overflow-mul-start-2
-mul_start_2 c = let s : c.before.args.f * 4704 / 4096 * 4096 ≤ 2 ^ 61 = omega arith in omega (arith, mul-le-mul s c.before.requires.0)
+mul_start_2 : tie.Need-overflow_mul-start-2
+mul_start_2 c = let s : c.args.f * 4704 / 4096 * 4096 ≤ 2 ^ 61 = omega arith in omega (arith, mul-le-mul s c.requires.0)
 
-mul_end_2 : tie.Need-overflow-mul-end-2
-mul_end_2 c = let s : (c.lesser-of.result + 4095) / 4096 * 4096 ≤ 2 ^ 61 + 4095 = omega (arith, c.lesser-of.ensures) in omega (arith, mul-le-mul s c.before.requires.0)
+mul_end_2 : tie.Need-overflow_mul-end-2
+mul_end_2 c = let s : (c.lesser_of-last.result + 4095) / 4096 * 4096 ≤ 2 ^ 61 + 4095 = omega (arith, c.lesser_of-last.ensures) in omega (arith, mul-le-mul s c.requires.0)
 
 returns : tie.Need-returns
 unfolding window_start window_end blocks
-returns c = (refl, ap (λ (k : ℕ). (k + 4095) / 4096 * 4096 * c.before.args.channels) c.lesser-of.ensures)
+returns c = (refl, ap (λ (k : ℕ). (k + 4095) / 4096 * 4096 * c.args.channels) c.lesser_of-last.ensures)
 
 pub groups_spec : {M : Type 1} → statement M
 groups_spec =

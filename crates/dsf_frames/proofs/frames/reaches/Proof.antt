@@ -8,11 +8,11 @@ use borrow.Author.Rules.{rules}
 use Rattle.dsf_frames.proofs.frames.reaches.Statement.{statement}
 use Rattle.dsf_frames.proofs.frames.reaches.Tie as tie
 
-returns : tie.Need-returns
-returns c = let a = c.before.args in sym (le-leb a.end (a.start + a.size) (omega arith))
+returns : tie.Need-returns-then-end-start
+returns c = let a = c.args in sym (le-leb a.end (a.start + a.size) (omega arith))
 
-returns-2 : tie.Need-returns-2
-returns-2 c = let a = c.before.args in reach_is a.start a.size a.end (omega arith)
+returns-2 : tie.Need-returns
+returns-2 c = let a = c.args in reach_is a.start a.size a.end (omega arith)
 
 pub reaches_spec : {M : Type 1} → statement M
 reaches_spec = tie.close (tie.spec returns (λ c. search rules) returns-2)

@@ -5,7 +5,7 @@ use Rattle.dsf_write.proofs.header.put_eight.Statement.{statement}
 use Rattle.dsf_write.proofs.header.put_eight.Tie as tie
 
 returns : tie.Need-returns
-returns c = put_as c.before.before.before.before.before.eight.ensures c.before.before.put.ensures
+returns c = put_as c.eight-a.ensures c.put.ensures
 
 pub put_eight_spec : {M : Type 1} → statement M
 put_eight_spec =

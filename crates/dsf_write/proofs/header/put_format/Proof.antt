@@ -14,9 +14,9 @@ unfolding format bytes
 returns c =
     let at-slice-known2 = c.before.before.before.before.before in
     let at-slice-known = at-slice-known2.before.before.before.before.before in
-    let p = at-slice-known.before.requires in
-    let n = at-slice-known.before.args.channels in
-    then 48 8 refl (put_as (ap (λ (t : ℕ). t ∷ 0 ∷ 0 ∷ 0 ∷ n ∷ 0 ∷ 0 ∷ 0 ∷ []) p.3 ∙ pair_is n p.1 p.2) at-slice-known2.before.before.put.ensures) c.before.before.put2.ensures
+    let p = at-slice-known.requires in
+    let n = at-slice-known.args.channels in
+    then 48 8 refl (put_as (ap (λ (t : ℕ). t ∷ 0 ∷ 0 ∷ 0 ∷ n ∷ 0 ∷ 0 ∷ 0 ∷ []) p.3 ∙ pair_is n p.1 p.2) at-slice-known2.put.ensures) c.put-2.ensures
 
 pub put_format_spec : {M : Type 1} → statement M
 put_format_spec =
@@ -24,7 +24,6 @@ put_format_spec =
     (tie.spec
     (λ c. search rules)
     (λ c κs. search rules)
-    (λ c. search rules)
     (λ c κs. search rules)
     (λ c. search rules)
     returns)

@@ -13,16 +13,14 @@ unfolding front text bytes
 returns c =
     let at-slice-known3 = c.before.before.before.before.before in
     let at_out = at-slice-known3.before.before.before.before.before in
-    then 0 20 refl (then 0 12 refl at_out.before.put.ensures at-slice-known3.before.before.put-eight.ensures) c.before.before.put2.ensures
+    then 0 20 refl (then 0 12 refl at_out.put.ensures at-slice-known3.put_eight.ensures) c.put-2.ensures
 
 pub put_front_spec : {M : Type 1} → statement M
 put_front_spec =
     tie.close
     (tie.spec
-    (λ c. search rules)
     (λ c κs. search rules)
     (λ c κs. search rules)
-    (λ c. search rules)
     (λ c κs. search rules)
     (λ c. search rules)
     returns)

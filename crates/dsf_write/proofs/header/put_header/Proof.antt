@@ -14,7 +14,7 @@ unfolding header front format sizes text bytes
 returns c =
     let at-out2 = c.before.before.before.before.before in
     let at-put-front = at-out2.before.before.before.before.before in
-    then 0 64 refl (then 0 48 refl at-put-front.put_front.ensures at-out2.before.put-format.ensures) c.before.before.put-sizes.ensures
+    then 0 64 refl (then 0 48 refl at-put-front.put_front.ensures at-out2.put_format.ensures) c.put_sizes.ensures
 
 pub put_header_spec : {M : Type 1} → statement M
 put_header_spec =

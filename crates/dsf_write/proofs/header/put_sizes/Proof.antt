@@ -13,14 +13,13 @@ unfolding sizes text bytes
 returns c =
     let at-out2 = c.before.before.before.before.before in
     let at_out = at-out2.before.before.before.before.before in
-    then 64 20 refl (then 64 8 refl at_out.before.put-eight.ensures at-out2.before.put.ensures) c.before.before.put-eight2.ensures
+    then 64 20 refl (then 64 8 refl at_out.put_eight.ensures at-out2.put.ensures) c.put_eight-2.ensures
 
 pub put_sizes_spec : {M : Type 1} → statement M
 put_sizes_spec =
     tie.close
     (tie.spec
     (λ c κs. search rules)
-    (λ c. search rules)
     (λ c κs. search rules)
     (λ c κs. search rules)
     (λ c. search rules)

@@ -13,27 +13,27 @@ use Rattle.filters.proofs.Places.{written_none, written_more, written_hold}
 use Rattle.filters.proofs.band.centre14.Statement.{statement}
 use Rattle.filters.proofs.band.centre14.Tie as tie
 
-abbrev invariant-loop : tie.invariant-loop
+abbrev invariant-loop : tie.invariant-loop-l
 invariant-loop y i s₀ l₀ s l = (l ≤ 14) × (length s ≡ 14) × Written (λ k. pos 8388608 *ℤ lifted y (i + k)) 0 l s₀ s
 
-abbrev decreases-loop : tie.decreases-loop
+abbrev decreases-loop : tie.decreases-loop-l
 decreases-loop y i s₀ l₀ s l = 14 - l
 
-loop-holds : tie.Need-loop-init invariant-loop decreases-loop
+loop-holds : tie.Need-loop-l-init invariant-loop decreases-loop
 loop-holds c = (search rules, refl, written_none (omega arith))
 
-halved_requires : tie.Need-halved-requires invariant-loop decreases-loop
-halved_requires c κs = let l = c.before.before in let k = l.before in sized (at0 k.args.y.now (k.args.i + l.loop.l)) _ (2 ^ 29) c.halved-arg.given refl (k.requires.1 (k.args.i + l.loop.l) (omega arith))
+halved_requires : tie.Need-halved-r-requires invariant-loop decreases-loop
+halved_requires c κs = let l = c.before.before in let k = l.before in sized (at0 k.args.y.now (k.args.i + l.loop-l.l)) _ (2 ^ 29) c.halved-arg-1.given refl (k.requires.1 (k.args.i + l.loop-l.l) (omega arith))
 
-loop-again : tie.Need-loop-preserved invariant-loop decreases-loop
+loop-again : tie.Need-loop-l-preserved invariant-loop decreases-loop
 loop-again c =
     let l = c.before.before.before in
-    let k = l.before.args in
-    let u = written_more {j = l.loop.l + 1} l.loop.invariant.2 (omega arith) (omega arith) (halved_lane k.y.now (k.i + l.loop.l) (val _ _ c.halved.type-inv c.halved.ensures) c.before.halved-arg.given) (omega arith) in
-    (omega arith, omega (arith, u.same, l.loop.invariant.2.same), u)
+    let k = l.args in
+    let u = written_more {j = l.loop-l.l + 1} l.loop-l.invariant.2 (omega arith) (omega arith) (halved_lane k.y.now (k.i + l.loop-l.l) (val _ _ c.halved-r.type_inv c.halved-r.ensures) c.halved-arg-1.given) (omega arith) in
+    (omega arith, omega (arith, u.same, l.loop-l.invariant.2.same), u)
 
 returns : tie.Need-returns invariant-loop decreases-loop
-returns c = written_hold c.before.loop.invariant.2 (omega arith)
+returns c = written_hold c.loop-l.invariant.2 (omega arith)
 
 pub centre14_spec : {M : Type 1} → statement M
 centre14_spec =

@@ -12,62 +12,62 @@ use Rattle.filters.proofs.Places.{written_none, written_then, written_filled, ho
 use Rattle.filters.proofs.band.places.Statement.{statement}
 use Rattle.filters.proofs.band.places.Tie as tie
 
-abbrev invariant-loop : tie.invariant-loop
+abbrev invariant-loop : tie.invariant-loop-i
 invariant-loop y₀ h v i₀ y i = (i ≤ length y₀) × Written (done h y₀ v) 0 i y₀ y
 
-abbrev decreases-loop : tie.decreases-loop
+abbrev decreases-loop : tie.decreases-loop-i
 decreases-loop y₀ h v i₀ y i = length y₀ - i
 
-loop-holds : tie.Need-loop-init invariant-loop decreases-loop
+loop-holds : tie.Need-loop-i-init invariant-loop decreases-loop
 loop-holds c = (omega arith, written_none (omega arith))
 
-centre14_requires : tie.Need-centre14-requires invariant-loop decreases-loop
+centre14_requires : tie.Need-centre14-s0-requires invariant-loop decreases-loop
 centre14_requires c κs =
     let l = c.before.before in
     let k = l.before.before in
-    (omega (arith, l.loop.invariant.1.same), λ m p. rw (l.loop.invariant.1.above m p) (k.requires.1.1.1.0.size m))
+    (omega (arith, l.loop-i.invariant.1.same), λ m p. rw (l.loop-i.invariant.1.above m p) (k.requires.1.1.1.0.size m))
 
-eight14_requires : tie.Need-eight14-requires invariant-loop decreases-loop
+eight14_requires : tie.Need-eight14-s1-requires invariant-loop decreases-loop
 eight14_requires c κs =
     let l = c.before.before.before in
     let k = l.before.before in
-    let u = l.loop.invariant.1 in
-    let i = l.loop.i in
-    ((omega arith, omega (arith, u.same)), (k.requires.1.0, (k.requires.1.1.0, hold_lanes (2 ^ 55) c.centre14.ensures (λ m. centre_fits l.loop.y (i + m) (rw (u.above (i + m) (omega arith)) (k.requires.1.1.1.0.size (i + m)))))))
+    let u = l.loop-i.invariant.1 in
+    let i = l.loop-i.i in
+    ((omega arith, omega (arith, u.same)), (k.requires.1.0, (k.requires.1.1.0, hold_lanes (2 ^ 55) c.centre14-s0.ensures (λ m. centre_fits l.loop-i.y (i + m) (rw (u.above (i + m) (omega arith)) (k.requires.1.1.1.0.size (i + m)))))))
 
 round14_requires : tie.Need-round14-requires invariant-loop decreases-loop
 round14_requires c κs =
     let l = c.before.before.before.before.before in
     let k = l.before.before in
-    let u = l.loop.invariant.1 in
-    (omega (arith, u.same), whole_sums k.args.h.now k.args.y.now k.args.v.now l.loop.i k.requires.1.1.1.1 (omega (arith, u.same)) (lane_sums k.args.h.now k.args.y.now l.loop.y k.args.v.now l.loop.i c.before.before.centre14.ensures c.before.eight14.ensures u.above))
+    let u = l.loop-i.invariant.1 in
+    (omega (arith, u.same), whole_sums k.args.h.now k.args.y.now k.args.v.now l.loop-i.i k.requires.1.1.1.1 (omega (arith, u.same)) (lane_sums k.args.h.now k.args.y.now l.loop-i.y k.args.v.now l.loop-i.i c.centre14-s0.ensures c.eight14-s1.ensures u.above))
 
-loop-again : tie.Need-loop-preserved invariant-loop decreases-loop
+loop-again : tie.Need-loop-i-preserved invariant-loop decreases-loop
 loop-again c =
     let p = c.before.before.before in
     let l = p.before.before.before.before in
     let k = l.before.before in
-    let u = l.loop.invariant.1 in
-    let i = l.loop.i in
-    let sums = lane_sums k.args.h.now k.args.y.now l.loop.y k.args.v.now i p.before.centre14.ensures p.eight14.ensures u.above in
-    (omega (arith, u.same), written_then u c.before.round14.ensures (omega arith) (omega arith) (λ m a b. rounded_is k.args.h.now k.args.y.now k.args.v.now _ i m a (sums (m - i) (omega arith))))
+    let u = l.loop-i.invariant.1 in
+    let i = l.loop-i.i in
+    let sums = lane_sums k.args.h.now k.args.y.now l.loop-i.y k.args.v.now i p.centre14-s0.ensures p.eight14-s1.ensures u.above in
+    (omega (arith, u.same), written_then u c.round14.ensures (omega arith) (omega arith) (λ m a b. rounded_is k.args.h.now k.args.y.now k.args.v.now _ i m a (sums (m - i) (omega arith))))
 
 rest_requires : tie.Need-rest-requires invariant-loop decreases-loop
 rest_requires c κs =
     let l = c.before.before in
     let k = l.before.before in
-    let u = l.loop.invariant.1 in
+    let u = l.loop-i.invariant.1 in
     let w = k.requires.1.1.1.1 in (
       (omega arith, omega (arith, u.same), omega (arith, u.same), omega arith),
-      (k.requires.1.0, (k.requires.1.1.0, (λ m p. rw (u.above m p) (k.requires.1.1.1.0.size m), record { is = λ m p q. rw (band_same k.args.h.now k.args.y.now l.loop.y k.args.v.now m (u.above m p)) (w.is m (omega arith) (omega (arith, u.same))); size = λ m p q. rw (band_same k.args.h.now k.args.y.now l.loop.y k.args.v.now m (u.above m p)) (w.size m (omega arith) (omega (arith, u.same))) }))),
+      (k.requires.1.0, (k.requires.1.1.0, (λ m p. rw (u.above m p) (k.requires.1.1.1.0.size m), record { is = λ m p q. rw (band_same k.args.h.now k.args.y.now l.loop-i.y k.args.v.now m (u.above m p)) (w.is m (omega arith) (omega (arith, u.same))); size = λ m p q. rw (band_same k.args.h.now k.args.y.now l.loop-i.y k.args.v.now m (u.above m p)) (w.size m (omega arith) (omega (arith, u.same))) }))),
     )
 
 returns : tie.Need-returns invariant-loop decreases-loop
 returns c =
     let l = c.before.before.before.before in
     let k = l.before.before in
-    let u = l.loop.invariant.1 in
-    let w = written_then u c.before.rest.ensures (omega arith) (omega (arith, u.same)) (λ m p q. ap (λ (z : ℤ). R (z -ℤ pos (2 ^ 53)) 24) (band_same k.args.h.now k.args.y.now l.loop.y k.args.v.now m (u.above m p))) in
+    let u = l.loop-i.invariant.1 in
+    let w = written_then u c.rest.ensures (omega arith) (omega (arith, u.same)) (λ m p q. ap (λ (z : ℤ). R (z -ℤ pos (2 ^ 53)) 24) (band_same k.args.h.now k.args.y.now l.loop-i.y k.args.v.now m (u.above m p))) in
     written_filled w (omega (arith, u.same))
 
 pub places_spec : {M : Type 1} → statement M

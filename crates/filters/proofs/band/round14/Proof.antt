@@ -10,29 +10,29 @@ use Rattle.filters.proofs.Places.{written_none, written_more}
 use Rattle.filters.proofs.band.round14.Statement.{statement}
 use Rattle.filters.proofs.band.round14.Tie as tie
 
-abbrev invariant-loop : tie.invariant-loop
+abbrev invariant-loop : tie.invariant-loop-l
 invariant-loop y₀ i s l₀ y l = (l ≤ 14) × Written (λ k. rounded 24 s (k - i)) i (i + l) y₀ y
 
-abbrev decreases-loop : tie.decreases-loop
+abbrev decreases-loop : tie.decreases-loop-l
 decreases-loop y₀ i s l₀ y l = 14 - l
 
-loop-holds : tie.Need-loop-init invariant-loop decreases-loop
+loop-holds : tie.Need-loop-l-init invariant-loop decreases-loop
 loop-holds c = (search rules, written_none (omega arith))
 
-div_round24_requires : tie.Need-div-round24-requires invariant-loop decreases-loop
-div_round24_requires c κs = let l = c.before.before in sums_at l.before.requires.1 l.loop.l (omega arith) c.div-round24-arg.given
+div_round24_requires : tie.Need-div_round24-r-requires invariant-loop decreases-loop
+div_round24_requires c κs = let l = c.before.before in sums_at l.requires.1 l.loop-l.l (omega arith) c.div_round24-arg-1.given
 
-loop-again : tie.Need-loop-preserved invariant-loop decreases-loop
+loop-again : tie.Need-loop-l-preserved invariant-loop decreases-loop
 loop-again c =
     let l = c.before.before.before in
-    let u = l.loop.invariant.1.same in
-    let s = l.before.args.t3 in
-    let r = stored 24 s l.loop.l (val _ _ c.div-round24.type-inv c.div-round24.ensures) c.before.div-round24-arg.given in
-    (omega arith, written_more l.loop.invariant.1 (omega arith) (omega arith) (r ∙ ap (rounded 24 s) (omega arith)) (omega arith))
+    let u = l.loop-l.invariant.1.same in
+    let s = l.args.t3 in
+    let r = stored 24 s l.loop-l.l (val _ _ c.div_round24-r.type_inv c.div_round24-r.ensures) c.div_round24-arg-1.given in
+    (omega arith, written_more l.loop-l.invariant.1 (omega arith) (omega arith) (r ∙ ap (rounded 24 s) (omega arith)) (omega arith))
 
 returns : tie.Need-returns invariant-loop decreases-loop
 returns c =
-    let l = c.before.loop in
+    let l = c.loop-l in
     let e : l.l ≡ 14 = omega arith in
     rw e at l.invariant.1
 

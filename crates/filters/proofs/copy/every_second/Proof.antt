@@ -10,26 +10,26 @@ use native.Mathlib.Omega.{arith}
 use Rattle.filters.proofs.copy.every_second.Statement.{statement}
 use Rattle.filters.proofs.copy.every_second.Tie as tie
 
-abbrev invariant-loop : tie.invariant-loop
+abbrev invariant-loop : tie.invariant-loop-k
 invariant-loop h from out₀ k₀ out k = (k ≤ length out₀) × Written (λ i. at0 h (2 * i + from)) 0 k out₀ out
 
-abbrev decreases-loop : tie.decreases-loop
+abbrev decreases-loop : tie.decreases-loop-k
 decreases-loop h from out₀ k₀ out k = length out₀ - k
 
-loop-holds : tie.Need-loop-init invariant-loop decreases-loop
+loop-holds : tie.Need-loop-k-init invariant-loop decreases-loop
 loop-holds c = (omega arith, written_none (omega arith))
 
-cast_out : tie.Need-overflow-cast-out invariant-loop decreases-loop
-cast_out c = let l = c.before.before in wide_fits (at0 l.before.args.h.now (2 * l.loop.k + l.before.args.from)) c.out.given
+cast_out : tie.Need-overflow_cast-out invariant-loop decreases-loop
+cast_out c = let l = c.before.before in wide_fits (at0 l.args.h.now (2 * l.loop-k.k + l.args.from)) c.out-1.given
 
-loop-again : tie.Need-loop-preserved invariant-loop decreases-loop
+loop-again : tie.Need-loop-k-preserved invariant-loop decreases-loop
 loop-again c =
     let l = c.before.before in
-    let u = l.loop.invariant.1.same in
-    (omega arith, written_more l.loop.invariant.1 (omega arith) (omega arith) (wide_is (at0 l.before.args.h.now (2 * l.loop.k + l.before.args.from)) c.out.given) (omega arith))
+    let u = l.loop-k.invariant.1.same in
+    (omega arith, written_more l.loop-k.invariant.1 (omega arith) (omega arith) (wide_is (at0 l.args.h.now (2 * l.loop-k.k + l.args.from)) c.out-1.given) (omega arith))
 
 returns : tie.Need-returns invariant-loop decreases-loop
-returns c = let l = c.before.loop in written_filled l.invariant.1 (omega (arith, l.invariant.1.same))
+returns c = let l = c.loop-k in written_filled l.invariant.1 (omega (arith, l.invariant.1.same))
 
 pub every_second_spec : {M : Type 1} → statement M
 every_second_spec =

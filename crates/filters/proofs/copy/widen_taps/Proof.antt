@@ -12,27 +12,27 @@ use native.Mathlib.Omega.{arith}
 use Rattle.filters.proofs.copy.widen_taps.Statement.{statement}
 use Rattle.filters.proofs.copy.widen_taps.Tie as tie
 
-abbrev invariant-loop : tie.invariant-loop
+abbrev invariant-loop : tie.invariant-loop-k
 invariant-loop h out₀ k₀ out k = (k ≤ length out₀) × Written (at0 h) 0 k out₀ out
 
-abbrev decreases-loop : tie.decreases-loop
+abbrev decreases-loop : tie.decreases-loop-k
 decreases-loop h out₀ k₀ out k = length out₀ - k
 
-loop-holds : tie.Need-loop-init invariant-loop decreases-loop
+loop-holds : tie.Need-loop-k-init invariant-loop decreases-loop
 loop-holds c = (omega arith, written_none (omega arith))
 
-cast_out : tie.Need-overflow-cast-out invariant-loop decreases-loop
-cast_out c = let l = c.before.before in wide_fits (at0 l.before.args.h.now l.loop.k) c.out.given
+cast_out : tie.Need-overflow_cast-out invariant-loop decreases-loop
+cast_out c = let l = c.before.before in wide_fits (at0 l.args.h.now l.loop-k.k) c.out-1.given
 
-loop-again : tie.Need-loop-preserved invariant-loop decreases-loop
+loop-again : tie.Need-loop-k-preserved invariant-loop decreases-loop
 loop-again c =
     let l = c.before.before in
-    let u = l.loop.invariant.1.same in
-    (omega arith, written_more l.loop.invariant.1 (omega arith) (omega arith) (wide_is (at0 l.before.args.h.now l.loop.k) c.out.given) (omega arith))
+    let u = l.loop-k.invariant.1.same in
+    (omega arith, written_more l.loop-k.invariant.1 (omega arith) (omega arith) (wide_is (at0 l.args.h.now l.loop-k.k) c.out-1.given) (omega arith))
 
 returns : tie.Need-returns invariant-loop decreases-loop
 returns c =
-    let l = c.before.loop in
+    let l = c.loop-k in
     let u = l.invariant.1.same in
     ext_get_or (pos 0) _ _ (omega arith) (λ k m. l.invariant.1.done k (omega arith) (omega arith))
 

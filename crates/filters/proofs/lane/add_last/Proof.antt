@@ -12,40 +12,40 @@ use lib.ListN.{length}
 use Rattle.filters.proofs.lane.add_last.Statement.{statement}
 use Rattle.filters.proofs.lane.add_last.Tie as tie
 
-abbrev invariant-loop : tie.invariant-loop
+abbrev invariant-loop : tie.invariant-loop-k
 invariant-loop y₀ i h from v end up k₀ y k = (i ≤ k) × (k ≤ length y₀) × Written (λ m. at0 y₀ m +ℤ arms h (raised v) from (end + m - 1) (up + m) (length h - from)) i k y₀ y
 
-abbrev decreases-loop : tie.decreases-loop
+abbrev decreases-loop : tie.decreases-loop-k
 decreases-loop y₀ i h from v end up k₀ y k = length y₀ - k
 
-loop-holds : tie.Need-loop-init invariant-loop decreases-loop
+loop-holds : tie.Need-loop-k-init invariant-loop decreases-loop
 loop-holds c = (omega arith, omega arith, written_none (omega arith))
 
-pairs1_requires : tie.Need-pairs1-requires invariant-loop decreases-loop
+pairs1_requires : tie.Need-pairs1-r-requires invariant-loop decreases-loop
 pairs1_requires c κs =
     let l = c.before.before in
     let k = l.before.before in
-    let j = l.loop.k in
-    let u = l.loop.invariant.2.same in
-    let e = l.loop.invariant.2.above j (omega arith) in (
+    let j = l.loop-k.k in
+    let u = l.loop-k.invariant.2.same in
+    let e = l.loop-k.invariant.2.above j (omega arith) in (
       (omega arith, omega arith, omega arith, omega arith, omega arith),
-      (k.requires.1.0, (k.requires.1.1.0, sized _ _ _ c.pairs1-arg.given e (k.requires.1.1.1 j (omega arith)))),
+      (k.requires.1.0, (k.requires.1.1.0, sized _ _ _ c.pairs1-arg-1.given e (k.requires.1.1.1 j (omega arith)))),
     )
 
-loop-again : tie.Need-loop-preserved invariant-loop decreases-loop
+loop-again : tie.Need-loop-k-preserved invariant-loop decreases-loop
 loop-again c =
     let l = c.before.before.before in
-    let k = l.before.before.args in
-    let j = l.loop.k in
-    let u = l.loop.invariant.2.same in
-    let e = val _ _ c.before.pairs1-arg.given (l.loop.invariant.2.above j (omega arith)) in
-    let r = val _ _ c.pairs1.type-inv c.pairs1.ensures ∙ ap (λ (z : ℤ). z +ℤ arms k.h.now (raised k.v.now) k.from (k.end + j - 1) (k.up + j) (length k.h.now - k.from)) e in
-    (omega arith, omega arith, written_more {j = j + 1} l.loop.invariant.2 (omega arith) (omega arith) r (omega arith))
+    let k = l.args in
+    let j = l.loop-k.k in
+    let u = l.loop-k.invariant.2.same in
+    let e = val _ _ c.pairs1-arg-1.given (l.loop-k.invariant.2.above j (omega arith)) in
+    let r = val _ _ c.pairs1-r.type_inv c.pairs1-r.ensures ∙ ap (λ (z : ℤ). z +ℤ arms k.h.now (raised k.v.now) k.from (k.end + j - 1) (k.up + j) (length k.h.now - k.from)) e in
+    (omega arith, omega arith, written_more {j = j + 1} l.loop-k.invariant.2 (omega arith) (omega arith) r (omega arith))
 
 returns : tie.Need-returns invariant-loop decreases-loop
 returns c =
-    let l = c.before.loop in
-    let e : l.k ≡ length c.before.before.before.args.y.now = omega (arith, l.invariant.2.same) in
+    let l = c.loop-k in
+    let e : l.k ≡ length c.args.y.now = omega (arith, l.invariant.2.same) in
     rw e at l.invariant.2
 
 pub add_last_spec : {M : Type 1} → statement M

@@ -13,49 +13,49 @@ use Rattle.filters.proofs.Places.{added_then, added_none, lanes_then}
 use Rattle.filters.proofs.lane.fourths14.Statement.{statement}
 use Rattle.filters.proofs.lane.fourths14.Tie as tie
 
-abbrev invariant-loop : tie.invariant-loop
+abbrev invariant-loop : tie.invariant-loop-k
 invariant-loop h from n v end up s₀ k₀ s k = (k ≤ n) × Added (λ l. fourths h (raised v) from (end + l - 1) (up + l) k) s₀ s
 
-abbrev decreases-loop : tie.decreases-loop
+abbrev decreases-loop : tie.decreases-loop-k
 decreases-loop h from n v end up s₀ k₀ s k = n - k
 
-loop-holds : tie.Need-loop-init invariant-loop decreases-loop
+loop-holds : tie.Need-loop-k-init invariant-loop decreases-loop
 loop-holds c = (omega arith, added_none _ (λ l. fourths_none _ _ _ _ _))
 
-two14_requires : tie.Need-two14-requires invariant-loop decreases-loop
+two14_requires : tie.Need-two14-r-requires invariant-loop decreases-loop
 two14_requires c κs =
     let l = c.before.before.before in
     let k = l.before.before in
     let h = k.args.h.now in
-    let j = k.args.from + 4 * l.loop.k in (
-      (omega arith, omega arith, got j k.requires.1.0 c.before.two14-arg.given, got (j + 2) k.requires.1.0 c.two14-arg2.given),
+    let j = k.args.from + 4 * l.loop-k.k in (
+      (omega arith, omega arith, got j k.requires.1.0 c.two14-arg-1.given, got (j + 2) k.requires.1.0 c.two14-arg-in-loop-k-1.given),
       (
         k.requires.1.1.0,
-        lanes_then (2 * l.loop.k * 2 ^ 56) (125 * 2 ^ 56) l.loop.invariant.1 k.requires.1.1.1
-            (λ i. fourths_size h (raised k.args.v.now) k.args.from (k.args.end + i - 1) (k.args.up + i) l.loop.k k.requires.1.0 (raised_size k.requires.1.1.0))
+        lanes_then (2 * l.loop-k.k * 2 ^ 56) (125 * 2 ^ 56) l.loop-k.invariant.1 k.requires.1.1.1
+            (λ i. fourths_size h (raised k.args.v.now) k.args.from (k.args.end + i - 1) (k.args.up + i) l.loop-k.k k.requires.1.0 (raised_size k.requires.1.1.0))
             (omega arith),
       ),
     )
 
-loop-again : tie.Need-loop-preserved invariant-loop decreases-loop
+loop-again : tie.Need-loop-k-preserved invariant-loop decreases-loop
 loop-again c =
     let l = c.before.before.before.before in
-    let k = l.before.before.args in
+    let k = l.args in
     let s = raised k.v.now in
     let h = k.h.now in
-    let n = l.loop.k in
+    let n = l.loop-k.k in
     let j = k.from + 4 * n in
-    let a = val (at0 h j) (at0 h j) c.before.before.two14-arg.given refl in
-    let b = val (at0 h (j + 2)) (at0 h (j + 2)) c.before.two14-arg2.given refl in (
+    let a = val (at0 h j) (at0 h j) c.two14-arg-1.given refl in
+    let b = val (at0 h (j + 2)) (at0 h (j + 2)) c.two14-arg-in-loop-k-1.given refl in (
       omega arith,
-      added_then l.loop.invariant.1 c.two14.ensures
+      added_then l.loop-k.invariant.1 c.two14-r.ensures
           (λ i.
           ap₂ (λ (y z : ℤ). fourths h s k.from (k.end + i - 1) (k.up + i) n +ℤ (y *ℤ (s (k.end - 3 - j + 2 + i) +ℤ s (k.up + j + i)) +ℤ z *ℤ (s (k.end - 3 - j + i) +ℤ s (k.up + j + 2 + i)))) a b
           ∙ fourths_more h s k.from k.end k.up n i (omega arith)),
     )
 
 returns : tie.Need-returns invariant-loop decreases-loop
-returns c = let e : c.before.loop.k ≡ c.before.before.before.args.n = omega arith in rw e at c.before.loop.invariant.1
+returns c = let e : c.loop-k.k ≡ c.args.n = omega arith in rw e at c.loop-k.invariant.1
 
 pub fourths14_spec : {M : Type 1} → statement M
 fourths14_spec =

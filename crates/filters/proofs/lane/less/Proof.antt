@@ -5,7 +5,7 @@ use borrow.Author.Rules.{rules}
 use Rattle.filters.proofs.lane.less.Statement.{statement}
 use Rattle.filters.proofs.lane.less.Tie as tie
 
-sub_result : tie.Need-overflow-sub-result
+sub_result : tie.Need-overflow_sub-result
 sub_result c = less_fits (c.args.h * c.args.v) c.ranges.s c.requires
 
 returns : tie.Need-returns

@@ -11,23 +11,23 @@ use lib.ListN.{length}
 use Rattle.filters.proofs.lane.load14.Statement.{statement}
 use Rattle.filters.proofs.lane.load14.Tie as tie
 
-abbrev invariant-loop : tie.invariant-loop
+abbrev invariant-loop : tie.invariant-loop-l
 invariant-loop y i s₀ l₀ s l = (l ≤ 14) × (length s ≡ 14) × Written (λ k. at0 y (i + k)) 0 l s₀ s
 
-abbrev decreases-loop : tie.decreases-loop
+abbrev decreases-loop : tie.decreases-loop-l
 decreases-loop y i s₀ l₀ s l = 14 - l
 
-loop-holds : tie.Need-loop-init invariant-loop decreases-loop
+loop-holds : tie.Need-loop-l-init invariant-loop decreases-loop
 loop-holds c = (search rules, refl, written_none (omega arith))
 
-loop-again : tie.Need-loop-preserved invariant-loop decreases-loop
+loop-again : tie.Need-loop-l-preserved invariant-loop decreases-loop
 loop-again c =
     let l = c.before.before in
-    let u = written_more {j = l.loop.l + 1} l.loop.invariant.2 (omega arith) (omega arith) (val _ _ c.s.given refl) (omega arith) in
-    (omega arith, omega (arith, u.same, l.loop.invariant.2.same), u)
+    let u = written_more {j = l.loop-l.l + 1} l.loop-l.invariant.2 (omega arith) (omega arith) (val _ _ c.s-1.given refl) (omega arith) in
+    (omega arith, omega (arith, u.same, l.loop-l.invariant.2.same), u)
 
 returns : tie.Need-returns invariant-loop decreases-loop
-returns c = written_hold c.before.loop.invariant.2 (omega arith)
+returns c = written_hold c.loop-l.invariant.2 (omega arith)
 
 pub load14_spec : {M : Type 1} → statement M
 load14_spec =

@@ -5,7 +5,7 @@ use borrow.Author.Rules.{rules}
 use Rattle.filters.proofs.lane.more.Statement.{statement}
 use Rattle.filters.proofs.lane.more.Tie as tie
 
-add_result : tie.Need-overflow-add-result
+add_result : tie.Need-overflow_add-result
 add_result c = more_fits (c.args.h * c.args.v) c.ranges.s c.requires
 
 returns : tie.Need-returns

@@ -21,7 +21,7 @@ tap1_requires c κs =
 returns : tie.Need-returns
 returns c =
     let k = c.before.before.before.before.before in
-    pair_is k.ranges.s k.ranges.h k.args.v.now k.args.i k.args.j c.tap1.type-inv c.tap1.ensures c.before.both.ensures
+    pair_is k.ranges.s k.ranges.h k.args.v.now k.args.i k.args.j c.tap1.type_inv c.tap1.ensures c.both.ensures
 
 pub pair_spec : {M : Type 1} → statement M
 pair_spec =

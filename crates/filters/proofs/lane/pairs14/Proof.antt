@@ -11,17 +11,17 @@ use Rattle.filters.proofs.Places.{added_then, lanes_then}
 use Rattle.filters.proofs.lane.pairs14.Statement.{statement}
 use Rattle.filters.proofs.lane.pairs14.Tie as tie
 
-fourths14_requires : tie.Need-fourths14-requires
+fourths14_requires : tie.Need-fourths14-a-requires
 fourths14_requires c κs =
     let k = c.before in
     ((omega arith, omega arith, omega arith, omega arith, omega arith), (k.requires.1.0, (k.requires.1.1.0, record { size = λ l m. omega (arith, k.requires.1.1.1.size l m) })))
 
-fourths14_requires_2 : tie.Need-fourths14-requires-2
+fourths14_requires_2 : tie.Need-fourths14-b-requires
 fourths14_requires_2 c κs =
     let k = c.before.before in
     let n = (length k.args.h.now - k.args.from) / 4 in (
       (omega arith, omega arith, omega arith, omega arith, omega arith),
-      (k.requires.1.0, (k.requires.1.1.0, lanes_then (2 * n * 2 ^ 56) ((127 - 2 * n) * 2 ^ 56) c.fourths14.ensures k.requires.1.1.1 (λ i. fourths_size _ _ _ _ _ n k.requires.1.0 (raised_size k.requires.1.1.0)) (omega arith))),
+      (k.requires.1.0, (k.requires.1.1.0, lanes_then (2 * n * 2 ^ 56) ((127 - 2 * n) * 2 ^ 56) c.fourths14-a.ensures k.requires.1.1.1 (λ i. fourths_size _ _ _ _ _ n k.requires.1.0 (raised_size k.requires.1.1.0)) (omega arith))),
     )
 
 singly14_requires : tie.Need-singly14-requires
@@ -30,17 +30,17 @@ singly14_requires c κs =
     let h = k.args.h.now in
     let n = (length h - k.args.from) / 4 in
     let low = raised_size k.requires.1.1.0 in
-    let one = lanes_then (2 * n * 2 ^ 56) ((127 - length h + 2 * n) * 2 ^ 56) c.before.fourths14.ensures k.requires.1.1.1 (λ i. fourths_size _ _ _ _ _ n k.requires.1.0 low) (omega arith) in (
+    let one = lanes_then (2 * n * 2 ^ 56) ((127 - length h + 2 * n) * 2 ^ 56) c.fourths14-a.ensures k.requires.1.1.1 (λ i. fourths_size _ _ _ _ _ n k.requires.1.0 low) (omega arith) in (
       (omega arith, omega arith, omega arith, omega arith, omega arith),
-      (k.requires.1.0, (k.requires.1.1.0, lanes_then (2 * n * 2 ^ 56) ((127 - (length h - (k.args.from + 4 * n))) * 2 ^ 56) c.fourths142.ensures one (λ i. fourths_size _ _ _ _ _ n k.requires.1.0 low) (omega arith))),
+      (k.requires.1.0, (k.requires.1.1.0, lanes_then (2 * n * 2 ^ 56) ((127 - (length h - (k.args.from + 4 * n))) * 2 ^ 56) c.fourths14-b.ensures one (λ i. fourths_size _ _ _ _ _ n k.requires.1.0 low) (omega arith))),
     )
 
 returns : tie.Need-returns
 returns c =
-    let k = c.before.before.before.before.args in
+    let k = c.args in
     let h = k.h.now in
     let n = (length h - k.from) / 4 in
-    added_then (added_then c.before.before.fourths14.ensures c.before.fourths142.ensures (λ l. refl)) c.singly14.ensures
+    added_then (added_then c.fourths14-a.ensures c.fourths14-b.ensures (λ l. refl)) c.singly14.ensures
     (λ l. by_fourths h (raised k.v.now) k.from (k.end + l - 1) (k.up + l) n (length h) (omega arith))
 
 pub pairs14_spec : {M : Type 1} → statement M

@@ -10,25 +10,25 @@ use borrow.Author.Rules.{rules}
 use Rattle.filters.proofs.lane.put14.Statement.{statement}
 use Rattle.filters.proofs.lane.put14.Tie as tie
 
-abbrev invariant-loop : tie.invariant-loop
+abbrev invariant-loop : tie.invariant-loop-l
 invariant-loop y₀ i s l₀ y l = (l ≤ 14) × Written (λ k. at0 s (k - i)) i (i + l) y₀ y
 
-abbrev decreases-loop : tie.decreases-loop
+abbrev decreases-loop : tie.decreases-loop-l
 decreases-loop y₀ i s l₀ y l = 14 - l
 
-loop-holds : tie.Need-loop-init invariant-loop decreases-loop
+loop-holds : tie.Need-loop-l-init invariant-loop decreases-loop
 loop-holds c = (search rules, written_none (omega arith))
 
-loop-again : tie.Need-loop-preserved invariant-loop decreases-loop
+loop-again : tie.Need-loop-l-preserved invariant-loop decreases-loop
 loop-again c =
     let l = c.before.before in
-    let u = l.loop.invariant.1.same in
-    let s = l.before.args.t3 in
-    (omega arith, written_more l.loop.invariant.1 (omega arith) (omega arith) (val _ _ c.y.given (ap (at0 s) (omega arith))) (omega arith))
+    let u = l.loop-l.invariant.1.same in
+    let s = l.args.t3 in
+    (omega arith, written_more l.loop-l.invariant.1 (omega arith) (omega arith) (val _ _ c.y-1.given (ap (at0 s) (omega arith))) (omega arith))
 
 returns : tie.Need-returns invariant-loop decreases-loop
 returns c =
-    let l = c.before.loop in
+    let l = c.loop-l in
     let e : l.l ≡ 14 = omega arith in
     rw e at l.invariant.1
 

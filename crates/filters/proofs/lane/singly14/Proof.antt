@@ -14,47 +14,47 @@ use Rattle.filters.proofs.Places.{added_then, added_none, lanes_then}
 use Rattle.filters.proofs.lane.singly14.Statement.{statement}
 use Rattle.filters.proofs.lane.singly14.Tie as tie
 
-abbrev invariant-loop : tie.invariant-loop
+abbrev invariant-loop : tie.invariant-loop-j
 invariant-loop h from v end up s₀ j₀ s j = (from ≤ j) × (j ≤ length h) × Added (λ l. arms h (raised v) from (end + l - 1) (up + l) (j - from)) s₀ s
 
-abbrev decreases-loop : tie.decreases-loop
+abbrev decreases-loop : tie.decreases-loop-j
 decreases-loop h from v end up s₀ j₀ s j = length h - j
 
-loop-holds : tie.Need-loop-init invariant-loop decreases-loop
+loop-holds : tie.Need-loop-j-init invariant-loop decreases-loop
 loop-holds c = (omega arith, omega arith, added_none _ (λ l. arms_none _ _ _ _ _ _ (omega arith)))
 
-tap14_requires : tie.Need-tap14-requires invariant-loop decreases-loop
+tap14_requires : tie.Need-tap14-r-requires invariant-loop decreases-loop
 tap14_requires c κs =
     let l = c.before.before in
     let k = l.before.before in
     let h = k.args.h.now in
-    let n = l.loop.j - k.args.from in (
-      (omega arith, omega arith, got l.loop.j k.requires.1.0 c.tap14-arg.given),
+    let n = l.loop-j.j - k.args.from in (
+      (omega arith, omega arith, got l.loop-j.j k.requires.1.0 c.tap14-arg-1.given),
       (
         k.requires.1.1.0,
-        lanes_then ((length h - k.args.from - 1) * 2 ^ 56) (126 * 2 ^ 56) l.loop.invariant.2 k.requires.1.1.1
+        lanes_then ((length h - k.args.from - 1) * 2 ^ 56) (126 * 2 ^ 56) l.loop-j.invariant.2 k.requires.1.1.1
             (λ i. omega (arith, arms_size h (raised k.args.v.now) k.args.from (k.args.end + i - 1) (k.args.up + i) n k.requires.1.0 (raised_size k.requires.1.1.0)))
             (omega arith),
       ),
     )
 
-loop-again : tie.Need-loop-preserved invariant-loop decreases-loop
+loop-again : tie.Need-loop-j-preserved invariant-loop decreases-loop
 loop-again c =
     let l = c.before.before.before in
-    let k = l.before.before.args in
+    let k = l.args in
     let s = raised k.v.now in
     let h = k.h.now in
-    let j = l.loop.j in (
+    let j = l.loop-j.j in (
       omega arith,
       omega arith,
-      added_then l.loop.invariant.2 c.tap14.ensures
+      added_then l.loop-j.invariant.2 c.tap14-r.ensures
           (λ i.
-          ap (λ (z : ℤ). arms h s k.from (k.end + i - 1) (k.up + i) (j - k.from) +ℤ z *ℤ (s (k.end - 1 - j + i) +ℤ s (k.up + j + i))) (val (at0 h j) (at0 h j) c.before.tap14-arg.given refl)
+          ap (λ (z : ℤ). arms h s k.from (k.end + i - 1) (k.up + i) (j - k.from) +ℤ z *ℤ (s (k.end - 1 - j + i) +ℤ s (k.up + j + i))) (val (at0 h j) (at0 h j) c.tap14-arg-1.given refl)
           ∙ arms_more h s k.from k.end k.up j i (omega arith) (omega arith)),
     )
 
 returns : tie.Need-returns invariant-loop decreases-loop
-returns c = let e : c.before.loop.j ≡ length c.before.before.before.args.h.now = omega arith in rw e at c.before.loop.invariant.2
+returns c = let e : c.loop-j.j ≡ length c.args.h.now = omega arith in rw e at c.loop-j.invariant.2
 
 pub singly14_spec : {M : Type 1} → statement M
 singly14_spec =

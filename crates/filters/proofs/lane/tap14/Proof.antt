@@ -15,16 +15,16 @@ use Rattle.filters.proofs.Places.{written_none, written_more, written_added}
 use Rattle.filters.proofs.lane.tap14.Statement.{statement}
 use Rattle.filters.proofs.lane.tap14.Tie as tie
 
-abbrev invariant-loop : tie.invariant-loop
+abbrev invariant-loop : tie.invariant-loop-l
 invariant-loop h v down up s₀ l₀ s l = (l ≤ 14) × (length s ≡ 14) × Written (λ k. at0 s₀ k +ℤ to_z w64 h *ℤ (raised v (down + k) +ℤ raised v (up + k))) 0 l s₀ s
 
-abbrev decreases-loop : tie.decreases-loop
+abbrev decreases-loop : tie.decreases-loop-l
 decreases-loop h v down up s₀ l₀ s l = 14 - l
 
-loop-holds : tie.Need-loop-init invariant-loop decreases-loop
+loop-holds : tie.Need-loop-l-init invariant-loop decreases-loop
 loop-holds c = (search rules, search rules, written_none (omega arith))
 
-pair_requires : tie.Need-pair-requires invariant-loop decreases-loop
+pair_requires : tie.Need-pair-r-requires invariant-loop decreases-loop
 pair_requires c κs =
     let l = c.before.before in
     let k = l.before.before in (
@@ -32,26 +32,26 @@ pair_requires c κs =
         omega arith,
         omega arith,
         rw (to_z-of_z k.ranges.h) k.requires.0.2,
-        sized _ _ _ c.pair-arg.given (l.loop.invariant.2.above _ (omega arith)) (k.requires.1.1.size _ (omega arith)),
+        sized _ _ _ c.pair-arg-1.given (l.loop-l.invariant.2.above _ (omega arith)) (k.requires.1.1.size _ (omega arith)),
       ),
       k.requires.1.0,
     )
 
-loop-again : tie.Need-loop-preserved invariant-loop decreases-loop
+loop-again : tie.Need-loop-l-preserved invariant-loop decreases-loop
 loop-again c =
     let l = c.before.before.before in
-    let k = l.before.before.args in
-    let i = l.loop.l in
+    let k = l.args in
+    let i = l.loop-l.l in
     let v = raised k.v.now in
-    let old = val _ _ c.before.pair-arg.given (l.loop.invariant.2.above i (omega arith)) in
-    let new = val _ _ c.pair.type-inv c.pair.ensures ∙ ap (λ (z : ℤ). z +ℤ t k.h *ℤ (v (k.down + i) +ℤ v (k.up + i))) old in
-    let u = written_more {j = i + 1} l.loop.invariant.2 (omega arith) (omega arith) new (omega arith) in
-    (omega arith, omega (arith, u.same, l.loop.invariant.2.same), u)
+    let old = val _ _ c.pair-arg-1.given (l.loop-l.invariant.2.above i (omega arith)) in
+    let new = val _ _ c.pair-r.type_inv c.pair-r.ensures ∙ ap (λ (z : ℤ). z +ℤ t k.h *ℤ (v (k.down + i) +ℤ v (k.up + i))) old in
+    let u = written_more {j = i + 1} l.loop-l.invariant.2 (omega arith) (omega arith) new (omega arith) in
+    (omega arith, omega (arith, u.same, l.loop-l.invariant.2.same), u)
 
 returns : tie.Need-returns invariant-loop decreases-loop
 returns c =
     let k = c.before.before.before in
-    rw (to_z-of_z k.ranges.h) at (written_added c.before.loop.invariant.2 (omega arith))
+    rw (to_z-of_z k.ranges.h) at (written_added c.loop-l.invariant.2 (omega arith))
 
 pub tap14_spec : {M : Type 1} → statement M
 tap14_spec =

@@ -18,38 +18,38 @@ use Rattle.filters.proofs.Places.{written_none, written_more, written_added}
 use Rattle.filters.proofs.lane.two14.Statement.{statement}
 use Rattle.filters.proofs.lane.two14.Tie as tie
 
-abbrev invariant-loop : tie.invariant-loop
+abbrev invariant-loop : tie.invariant-loop-l
 invariant-loop a b v down up s₀ l₀ s l =
     (l ≤ 14) × (length s ≡ 14)
     × Written (λ k. at0 s₀ k +ℤ (to_z w64 a *ℤ (raised v (down + 2 + k) +ℤ raised v (up + k)) +ℤ to_z w64 b *ℤ (raised v (down + k) +ℤ raised v (up + 2 + k)))) 0 l s₀ s
 
-abbrev decreases-loop : tie.decreases-loop
+abbrev decreases-loop : tie.decreases-loop-l
 decreases-loop a b v down up s₀ l₀ s l = 14 - l
 
-loop-holds : tie.Need-loop-init invariant-loop decreases-loop
+loop-holds : tie.Need-loop-l-init invariant-loop decreases-loop
 loop-holds c = (search rules, search rules, written_none (omega arith))
 
-pair_requires : tie.Need-pair-requires invariant-loop decreases-loop
+pair_requires : tie.Need-pair-q-requires invariant-loop decreases-loop
 pair_requires c κs =
     let l = c.before.before in
     let k = l.before.before in
-    let s = k.requires.1.1.size l.loop.l (omega arith) in (
+    let s = k.requires.1.1.size l.loop-l.l (omega arith) in (
       (
         omega arith,
         omega arith,
         rw (to_z-of_z k.ranges.a) k.requires.0.2,
-        sized _ _ (126 * 2 ^ 56) c.pair-arg.given (l.loop.invariant.2.above _ (omega arith)) (omega (arith, s)),
+        sized _ _ (126 * 2 ^ 56) c.pair-arg-1.given (l.loop-l.invariant.2.above _ (omega arith)) (omega (arith, s)),
       ),
       k.requires.1.0,
     )
 
-pair_requires_2 : tie.Need-pair-requires-2 invariant-loop decreases-loop
+pair_requires_2 : tie.Need-pair-r-requires invariant-loop decreases-loop
 pair_requires_2 c κs =
     let l = c.before.before.before in
     let k = l.before.before in
     let v = raised k.args.v.now in
-    let i = l.loop.l in
-    let old = sized _ _ (125 * 2 ^ 56) c.before.pair-arg.given (l.loop.invariant.2.above i (omega arith)) (k.requires.1.1.size i (omega arith)) in
+    let i = l.loop-l.l in
+    let old = sized _ _ (125 * 2 ^ 56) c.pair-arg-1.given (l.loop-l.invariant.2.above i (omega arith)) (k.requires.1.1.size i (omega arith)) in
     let a = to_z-of_z k.ranges.a in
     let low = raised_size k.requires.1.0 in
     let gain : nat_abs (t k.args.a *ℤ (v (k.args.down + 2 + i) +ℤ v (k.args.up + i))) ≤ 2 ^ 56 = pair_size (t k.args.a) (v (k.args.down + 2 + i)) (v (k.args.up + i)) (rw a k.requires.0.2) (low _) (low _) in (
@@ -57,29 +57,29 @@ pair_requires_2 c κs =
         omega arith,
         omega arith,
         rw (to_z-of_z k.ranges.b) k.requires.0.3,
-        sized _ _ (126 * 2 ^ 56) c.pair.type-inv c.pair.ensures (omega (arith, old, gain, abs_add (t (at0 l.loop.s i)) (t k.args.a *ℤ (v (k.args.down + 2 + i) +ℤ v (k.args.up + i))))),
+        sized _ _ (126 * 2 ^ 56) c.pair-q.type_inv c.pair-q.ensures (omega (arith, old, gain, abs_add (t (at0 l.loop-l.s i)) (t k.args.a *ℤ (v (k.args.down + 2 + i) +ℤ v (k.args.up + i))))),
       ),
       k.requires.1.0,
     )
 
-loop-again : tie.Need-loop-preserved invariant-loop decreases-loop
+loop-again : tie.Need-loop-l-preserved invariant-loop decreases-loop
 loop-again c =
     let l = c.before.before.before.before in
-    let k = l.before.before.args in
-    let i = l.loop.l in
+    let k = l.args in
+    let i = l.loop-l.l in
     let v = raised k.v.now in
     let a = t k.a *ℤ (v (k.down + 2 + i) +ℤ v (k.up + i)) in
     let b = t k.b *ℤ (v (k.down + i) +ℤ v (k.up + 2 + i)) in
-    let old = val _ _ c.before.before.pair-arg.given (l.loop.invariant.2.above i (omega arith)) in
-    let mid = val _ _ c.before.pair.type-inv c.before.pair.ensures ∙ ap (λ (z : ℤ). z +ℤ a) old in
-    let new = val _ _ c.pair2.type-inv c.pair2.ensures ∙ ap (λ (z : ℤ). z +ℤ b) mid ∙ +ℤ_assoc (at0 k.acc i) a b in
-    let u = written_more {j = i + 1} l.loop.invariant.2 (omega arith) (omega arith) new (omega arith) in
-    (omega arith, omega (arith, u.same, l.loop.invariant.2.same), u)
+    let old = val _ _ c.pair-arg-1.given (l.loop-l.invariant.2.above i (omega arith)) in
+    let mid = val _ _ c.pair-q.type_inv c.pair-q.ensures ∙ ap (λ (z : ℤ). z +ℤ a) old in
+    let new = val _ _ c.pair-r.type_inv c.pair-r.ensures ∙ ap (λ (z : ℤ). z +ℤ b) mid ∙ +ℤ_assoc (at0 k.acc i) a b in
+    let u = written_more {j = i + 1} l.loop-l.invariant.2 (omega arith) (omega arith) new (omega arith) in
+    (omega arith, omega (arith, u.same, l.loop-l.invariant.2.same), u)
 
 returns : tie.Need-returns invariant-loop decreases-loop
 returns c =
     let k = c.before.before.before in
-    rw (to_z-of_z k.ranges.a, to_z-of_z k.ranges.b) at (written_added c.before.loop.invariant.2 (omega arith))
+    rw (to_z-of_z k.ranges.a, to_z-of_z k.ranges.b) at (written_added c.loop-l.invariant.2 (omega arith))
 
 pub two14_spec : {M : Type 1} → statement M
 two14_spec =

@@ -11,31 +11,31 @@ use lib.ListN.{length}
 use Rattle.filters.proofs.round.all24.Statement.{statement}
 use Rattle.filters.proofs.round.all24.Tie as tie
 
-abbrev invariant-loop : tie.invariant-loop
+abbrev invariant-loop : tie.invariant-loop-k
 invariant-loop y₀ k₀ y k = (k ≤ length y₀) × Written (rounded 24 y₀) 0 k y₀ y
 
-abbrev decreases-loop : tie.decreases-loop
+abbrev decreases-loop : tie.decreases-loop-k
 decreases-loop y₀ k₀ y k = length y₀ - k
 
-loop-holds : tie.Need-loop-init invariant-loop decreases-loop
+loop-holds : tie.Need-loop-k-init invariant-loop decreases-loop
 loop-holds c = (omega arith, written_none (omega arith))
 
-div_round24_requires : tie.Need-div-round24-requires invariant-loop decreases-loop
+div_round24_requires : tie.Need-div_round24-r-requires invariant-loop decreases-loop
 div_round24_requires c κs =
     let l = c.before.before in
-    let e = l.loop.invariant.1.above l.loop.k (omega arith) in
-    rw (sym e) at (sums_at l.before.requires l.loop.k (omega arith) (rw e at c.div-round24-arg.given))
+    let e = l.loop-k.invariant.1.above l.loop-k.k (omega arith) in
+    rw (sym e) at (sums_at l.requires l.loop-k.k (omega arith) (rw e at c.div_round24-arg-1.given))
 
-loop-again : tie.Need-loop-preserved invariant-loop decreases-loop
+loop-again : tie.Need-loop-k-preserved invariant-loop decreases-loop
 loop-again c =
     let l = c.before.before.before in
-    let u = l.loop.invariant.1.same in
-    let e = l.loop.invariant.1.above l.loop.k (omega arith) in
-    let w = written_more {j = l.loop.k + 1} l.loop.invariant.1 (omega arith) (omega arith) (stored 24 l.before.args.y.now l.loop.k (rw e at (val _ _ c.div-round24.type-inv c.div-round24.ensures)) (rw e at c.before.div-round24-arg.given)) (omega arith) in
+    let u = l.loop-k.invariant.1.same in
+    let e = l.loop-k.invariant.1.above l.loop-k.k (omega arith) in
+    let w = written_more {j = l.loop-k.k + 1} l.loop-k.invariant.1 (omega arith) (omega arith) (stored 24 l.args.y.now l.loop-k.k (rw e at (val _ _ c.div_round24-r.type_inv c.div_round24-r.ensures)) (rw e at c.div_round24-arg-1.given)) (omega arith) in
     (omega (arith, w.same), w)
 
 returns : tie.Need-returns invariant-loop decreases-loop
-returns c = let l = c.before.loop in written_filled l.invariant.1 (omega (arith, l.invariant.1.same))
+returns c = let l = c.loop-k in written_filled l.invariant.1 (omega (arith, l.invariant.1.same))
 
 pub all24_spec : {M : Type 1} → statement M
 all24_spec =

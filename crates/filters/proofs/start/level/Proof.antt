@@ -10,24 +10,24 @@ use lib.ListN.{length}
 use Rattle.filters.proofs.start.level.Statement.{statement}
 use Rattle.filters.proofs.start.level.Tie as tie
 
-abbrev invariant-loop : tie.invariant-loop
+abbrev invariant-loop : tie.invariant-loop-k
 invariant-loop y₀ k₀ y k = (k ≤ length y₀) × Written (λ i. pos (2 ^ 52)) 0 k y₀ y
 
-abbrev decreases-loop : tie.decreases-loop
+abbrev decreases-loop : tie.decreases-loop-k
 decreases-loop y₀ k₀ y k = length y₀ - k
 
-loop-holds : tie.Need-loop-init invariant-loop decreases-loop
+loop-holds : tie.Need-loop-k-init invariant-loop decreases-loop
 loop-holds c = (omega arith, written_none (omega arith))
 
-loop-again : tie.Need-loop-preserved invariant-loop decreases-loop
+loop-again : tie.Need-loop-k-preserved invariant-loop decreases-loop
 loop-again c =
     let l = c.before in
-    let u = l.loop.invariant.1.same in
-    let w = written_more {j = l.loop.k + 1} l.loop.invariant.1 (omega arith) (omega arith) refl (omega arith) in
+    let u = l.loop-k.invariant.1.same in
+    let w = written_more {j = l.loop-k.k + 1} l.loop-k.invariant.1 (omega arith) (omega arith) refl (omega arith) in
     (omega (arith, w.same), w)
 
 returns : tie.Need-returns invariant-loop decreases-loop
-returns c = let l = c.before.loop in written_filled l.invariant.1 (omega (arith, l.invariant.1.same))
+returns c = let l = c.loop-k in written_filled l.invariant.1 (omega (arith, l.invariant.1.same))
 
 pub level_spec : {M : Type 1} → statement M
 level_spec =

@@ -10,27 +10,27 @@ use lib.ListN.{length}
 use Rattle.filters.proofs.start.raise.Statement.{statement}
 use Rattle.filters.proofs.start.raise.Tie as tie
 
-abbrev invariant-loop : tie.invariant-loop
+abbrev invariant-loop : tie.invariant-loop-k
 invariant-loop x v₀ k₀ v k = (k ≤ length x) × (length v ≡ length v₀) × Raised k x v
 
-abbrev decreases-loop : tie.decreases-loop
+abbrev decreases-loop : tie.decreases-loop-k
 decreases-loop x v₀ k₀ v k = length x - k
 
-loop-holds : tie.Need-loop-init invariant-loop decreases-loop
-loop-holds c = (omega arith, refl, raised_none c.before.requires.1.1)
+loop-holds : tie.Need-loop-k-init invariant-loop decreases-loop
+loop-holds c = (omega arith, refl, raised_none c.requires.1.1)
 
-lift_requires : tie.Need-lift-requires invariant-loop decreases-loop
-lift_requires c κs = let l = c.before.before in got l.loop.k l.before.before.requires.1.0 c.lift-arg.given
+lift_requires : tie.Need-lift-r-requires invariant-loop decreases-loop
+lift_requires c κs = let l = c.before.before in got l.loop-k.k l.requires.1.0 c.lift-arg-1.given
 
-loop-again : tie.Need-loop-preserved invariant-loop decreases-loop
+loop-again : tie.Need-loop-k-preserved invariant-loop decreases-loop
 loop-again c =
     let l = c.before.before.before in
-    let x = l.before.before.args.x.now in
-    let r = c.lift.ensures in
-    (omega arith, search rules, raised_more l.loop.invariant.2 (omega arith) (read_lifted x l.loop.k r.0 c.before.lift-arg.given) r.1 (omega arith))
+    let x = l.args.x.now in
+    let r = c.lift-r.ensures in
+    (omega arith, search rules, raised_more l.loop-k.invariant.2 (omega arith) (read_lifted x l.loop-k.k r.0 c.lift-arg-1.given) r.1 (omega arith))
 
 returns : tie.Need-returns invariant-loop decreases-loop
-returns c = let l = c.before.loop in let e : l.k ≡ length c.before.before.before.args.x.now = omega arith in rw e at l.invariant.2
+returns c = let l = c.loop-k in let e : l.k ≡ length c.args.x.now = omega arith in rw e at l.invariant.2
 
 pub raise_spec : {M : Type 1} → statement M
 raise_spec =

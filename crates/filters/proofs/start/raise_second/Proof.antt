@@ -11,29 +11,29 @@ use Rattle.filters.proofs.Places.{raised_none, raised_more, second_lifted}
 use Rattle.filters.proofs.start.raise_second.Statement.{statement}
 use Rattle.filters.proofs.start.raise_second.Tie as tie
 
-abbrev invariant-loop : tie.invariant-loop
+abbrev invariant-loop : tie.invariant-loop-k
 invariant-loop x from v₀ n k₀ v k = (k ≤ (length x + 1 - from) / 2) × (length v ≡ length v₀) × Raised k (seconds from x) v
 
-abbrev decreases-loop : tie.decreases-loop
+abbrev decreases-loop : tie.decreases-loop-k
 decreases-loop x from v₀ n k₀ v k = (length x + 1 - from) / 2 - k
 
-loop-holds : tie.Need-loop-init invariant-loop decreases-loop
-loop-holds c = (omega arith, refl, raised_none c.before.requires.1.1)
+loop-holds : tie.Need-loop-k-init invariant-loop decreases-loop
+loop-holds c = (omega arith, refl, raised_none c.requires.1.1)
 
-lift_requires : tie.Need-lift-requires invariant-loop decreases-loop
-lift_requires c κs = let l = c.before.before in let k = l.before.before in got (2 * l.loop.k + k.args.from) k.requires.1.0 c.lift-arg.given
+lift_requires : tie.Need-lift-r-requires invariant-loop decreases-loop
+lift_requires c κs = let l = c.before.before in let k = l.before.before in got (2 * l.loop-k.k + k.args.from) k.requires.1.0 c.lift-arg-1.given
 
-loop-again : tie.Need-loop-preserved invariant-loop decreases-loop
+loop-again : tie.Need-loop-k-preserved invariant-loop decreases-loop
 loop-again c =
     let l = c.before.before.before in
-    let a = l.before.before.args in
+    let a = l.args in
     let x = a.x.now in
-    let j = l.loop.k in
-    let r = c.lift.ensures in
-    (omega arith, search rules, raised_more l.loop.invariant.2 (omega arith) (read_lifted x (2 * j + a.from) r.0 c.before.lift-arg.given ∙ second_lifted a.from x j (omega arith)) r.1 (omega arith))
+    let j = l.loop-k.k in
+    let r = c.lift-r.ensures in
+    (omega arith, search rules, raised_more l.loop-k.invariant.2 (omega arith) (read_lifted x (2 * j + a.from) r.0 c.lift-arg-1.given ∙ second_lifted a.from x j (omega arith)) r.1 (omega arith))
 
 returns : tie.Need-returns invariant-loop decreases-loop
-returns c = let l = c.before.loop in let a = c.before.before.before.args in let e : l.k ≡ (length a.x.now + 1 - a.from) / 2 = omega arith in rw e at l.invariant.2
+returns c = let l = c.loop-k in let a = c.args in let e : l.k ≡ (length a.x.now + 1 - a.from) / 2 = omega arith in rw e at l.invariant.2
 
 pub raise_second_spec : {M : Type 1} → statement M
 raise_second_spec =

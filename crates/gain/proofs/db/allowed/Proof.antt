@@ -15,13 +15,13 @@ below : (db : Float) → le (fin true 15 (pos 3)) db ≡ false → false ≡ all
 unfolding allowed of_int
 below db h = rw h
 
-returns : tie.Need-returns
+returns : tie.Need-returns-then-db
 unfolding of_bits neg
-returns c = above c.before.args.db c.if1.true
+returns c = above c.args.db c.if-db.true
 
-returns-2 : tie.Need-returns-2
+returns-2 : tie.Need-returns-else-db
 unfolding of_bits neg
-returns-2 c = below c.before.args.db c.if1.false
+returns-2 c = below c.args.db c.if-db.false
 
 pub allowed_spec : {M : Type 1} → statement M
 allowed_spec = tie.close (tie.spec returns returns-2)

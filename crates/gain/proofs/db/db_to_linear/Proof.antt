@@ -27,7 +27,7 @@ squared_done k x e = rw e
 loop-holds : tie.Need-loop-init invariant-loop decreases-loop
 loop-holds c = (omega arith, refl)
 
-add_counter : tie.Need-overflow-add-counter invariant-loop decreases-loop
+add_counter : tie.Need-overflow_step invariant-loop decreases-loop
 add_counter c = omega arith
 
 loop-less : tie.Need-loop-smaller invariant-loop decreases-loop
@@ -35,7 +35,7 @@ loop-less c = omega arith
 
 loop-again : tie.Need-loop-preserved invariant-loop decreases-loop
 loop-again c =
-    let l = c.before.loop in
+    let l = c.loop in
     let d : l.counter < 5 = omega arith in
     (omega arith, sym (squared_step l.counter l.power d) ∙ l.invariant.1)
 
@@ -43,20 +43,20 @@ loop-again c =
 abbrev Power : Float → Float
 Power db = squared 5 (series (exponent db) 25 1 (whole 1) (whole 1))
 
-power_is : (c : tie.After-loop invariant-loop decreases-loop) → c.before.loop.power ≡ Power c.before.before.before.before.args.db
+power_is : (c : tie.After-loop invariant-loop decreases-loop) → c.loop.power ≡ Power c.args.db
 unfolding exponent LN_10 of_bits of_int
 power_is c =
-    let l = c.before.loop in
+    let l = c.loop in
     let e : l.counter ≡ 5 = omega arith in
-    squared_done l.counter l.power e ∙ l.invariant.1 ∙ rw (c.before.before.series.ensures, c.before.before.before.magnitude.ensures)
+    squared_done l.counter l.power e ∙ l.invariant.1 ∙ rw (c.series-power.ensures, c.magnitude.ensures)
 
-returns : tie.Need-returns invariant-loop decreases-loop
+returns : tie.Need-returns-then-db invariant-loop decreases-loop
 unfolding of_bits of_int db_to_linear
-returns c = rw (power_is c.before, c.if1.true)
+returns c = rw (power_is c.before, c.if-db.true)
 
-returns-2 : tie.Need-returns-2 invariant-loop decreases-loop
+returns-2 : tie.Need-returns-else-db invariant-loop decreases-loop
 unfolding of_bits of_int db_to_linear
-returns-2 c = rw (power_is c.before, c.if1.false)
+returns-2 c = rw (power_is c.before, c.if-db.false)
 
 pub db_to_linear_spec : {M : Type 1} → statement M
 db_to_linear_spec = tie.close (tie.spec invariant-loop decreases-loop (λ c κs. search rules) (λ c κs. search rules) loop-holds add_counter loop-less loop-again returns returns-2)

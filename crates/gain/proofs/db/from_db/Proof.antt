@@ -24,11 +24,11 @@ turned_down db a = record {
   made = λ h. let k : refused 3 _ ≡ accepted = rw a at h in let z : ◌≡◌ {A = ℕ} 0 1 = cc in absurd (omega arith);
 }
 
-returns : tie.Need-returns
-returns c = made c.before.before.before.args.db c.db_to_linear.result (sym c.before.before.allowed.ensures ∙ c.before.if1.true) c.db_to_linear.ensures
+returns : tie.Need-returns-then-allowed
+returns c = made c.args.db c.db_to_linear-linear.result (sym c.allowed.ensures ∙ c.if-allowed.true) c.db_to_linear-linear.ensures
 
-returns-2 : tie.Need-returns-2
-returns-2 c = turned_down c.before.before.args.db (sym c.before.allowed.ensures ∙ c.if1.false)
+returns-2 : tie.Need-returns-else-allowed
+returns-2 c = turned_down c.args.db (sym c.allowed.ensures ∙ c.if-allowed.false)
 
 pub from_db_spec : {M : Type 1} → statement M
 from_db_spec = tie.close (tie.spec (λ c κs. search rules) (λ c κs. search rules) returns returns-2)

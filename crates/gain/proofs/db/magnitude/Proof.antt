@@ -34,17 +34,17 @@ plus_is (fin true zero e) z h = absurd (true≢false (sym (is_nought true e) ∙
 plus_is (fin true (suc m) e) z h = absurd (true≢false (sym (minus_below m e) ∙ h))
 plus_is (fin false m e) z h = refl
 
-returns : tie.Need-returns
+returns : tie.Need-returns-then-db
 unfolding of_bits
-returns c = zero_is c.before.args.db (subst T (sym c.before.well-formed.0.1) tt) c.if1.true
+returns c = zero_is c.args.db (subst T (sym c.before.well-formed.0.1) tt) c.if-db.true
 
-returns-2 : tie.Need-returns-2
+returns-2 : tie.Need-returns-then-db-2
 unfolding of_bits
-returns-2 c = minus_is c.before.before.args.db c.if2.true
+returns-2 c = minus_is c.args.db c.if-db-2.true
 
-returns-3 : tie.Need-returns-3
+returns-3 : tie.Need-returns-else-db-2
 unfolding of_bits
-returns-3 c = plus_is c.before.before.args.db c.before.if1.false c.if2.false
+returns-3 c = plus_is c.args.db c.if-db.false c.if-db-2.false
 
 pub magnitude_spec : {M : Type 1} → statement M
 magnitude_spec = tie.close (tie.spec returns returns-2 returns-3)

@@ -32,25 +32,25 @@ by_bits : (g : Gain) (x : Float) → allowed g.db ≡ true → x ≡ db_to_linea
 unfolding right_gain
 by_bits g x a e = rw (a, e)
 
-is_allowed : (c : tie.Else1) → allowed c.before.before.args.g.db ≡ true
-is_allowed c = sym c.before.allowed.ensures ∙ not-false _ c.if1.false
+is_allowed : (c : tie.Else-not-allowed) → allowed c.args.g.db ≡ true
+is_allowed c = sym c.allowed.ensures ∙ not-false _ c.if-not-allowed.false
 
-returns : tie.Need-returns
-returns c = not_allowed c.before.before.args.g (sym c.before.allowed.ensures ∙ not-true _ c.if1.true)
+returns : tie.Need-returns-then-not-allowed
+returns c = not_allowed c.args.g (sym c.allowed.ensures ∙ not-true _ c.if-not-allowed.true)
 
-returns-2 : tie.Need-returns-2
-returns-2 c = no_number c.before.before.before.args.g (is_allowed c.before) c.if2.true
+returns-2 : tie.Need-returns-then-linear
+returns-2 c = no_number c.args.g (is_allowed c.before) c.if-linear.true
 
-float_to_bits_result : tie.Need-float-to-bits-result
-float_to_bits_result c = number c.before.before.before.args.g.linear c.if2.false
+float_to_bits_result : tie.Need-float_to_bits-result
+float_to_bits_result c = number c.args.g.linear c.if-linear.false
 
-float_to_bits_result_2 : tie.Need-float-to-bits-result-2
+float_to_bits_result_2 : tie.Need-float_to_bits-result-2
 float_to_bits_result_2 c =
     let a = is_allowed c.before.before in
-    subst (λ (x : Float). T (not (is_nan x))) (sym c.db_to_linear.ensures) (bounded_number _ (factor_bounded c.before.before.before.before.args.g.db (subst T (sym a) tt)))
+    subst (λ (x : Float). T (not (is_nan x))) (sym c.db_to_linear.ensures) (bounded_number _ (factor_bounded c.args.g.db (subst T (sym a) tt)))
 
-returns-3 : tie.Need-returns-3
-returns-3 c = by_bits c.before.before.before.before.args.g c.db_to_linear.result (is_allowed c.before.before) c.db_to_linear.ensures
+returns-3 : tie.Need-returns
+returns-3 c = by_bits c.args.g c.db_to_linear.result (is_allowed c.before.before) c.db_to_linear.ensures
 
 pub right_gain_spec : {M : Type 1} → statement M
 right_gain_spec = tie.close (tie.spec (λ c κs. search rules) returns returns-2 float_to_bits_result (λ c κs. search rules) float_to_bits_result_2 returns-3)

@@ -26,26 +26,26 @@ narrow c = to_z-of_z c.ranges.y
 widened : (c : tie.Start) → to_z w64 (of_z w64 (to_z w32 (of_z w32 c.args.y))) ≡ c.args.y
 widened c = rw (narrow c) (to_z-of_z (sfits_abs (omega (arith, small c))))
 
-cast_product : tie.Need-overflow-cast-product
+cast_product : tie.Need-overflow_cast-y
 cast_product c = rw (narrow c) (sfits_abs (omega (arith, small c)))
 
-product_requires : tie.Need-product-requires
+product_requires : tie.Need-product-x-requires
 product_requires c κs = rw (widened c) (small c)
 
-x_is : (c : tie.After-product) → c.product.result ≡ unrounded c.before.args.factor c.before.args.y
-x_is c = rw (widened c.before) at c.product.ensures
+x_is : (c : tie.After-product-x) → c.product-x.result ≡ unrounded c.args.factor c.args.y
+x_is c = rw (widened c.before) at c.product-x.ensures
 
-nearest_even_requires : tie.Need-nearest-even-requires
+nearest_even_requires : tie.Need-nearest_even-z-requires
 nearest_even_requires c κs = let s = c.before in rw (x_is c) (unrounded_reach s.args.y s.args.factor (small s) s.requires)
 
-back : (c : tie.After-nearest-even) → let s = c.before.before in
-    T (in_signed binary64 63 c.nearest-even.result) × (to_signed 63 c.nearest-even.result ≡ scaled s.args.factor s.args.y)
+back : (c : tie.After-nearest_even-z) → let s = c.before.before in
+    T (in_signed binary64 63 c.nearest_even-z.result) × (to_signed 63 c.nearest_even-z.result ≡ scaled s.args.factor s.args.y)
 back c =
     let s = c.before.before in
-    let is = rw (x_is c.before, unrounded_is s.args.y s.args.factor (small s) s.requires) at c.nearest-even.ensures in
+    let is = rw (x_is c.before, unrounded_is s.args.y s.args.factor (small s) s.requires) at c.nearest_even-z.ensures in
     rw is (scaled_back s.args.y s.args.factor (small s) s.requires)
 
-float_to_int_result : tie.Need-float-to-int-result
+float_to_int_result : tie.Need-float_to_int-result
 float_to_int_result c = (back c.before).0
 
 returns : tie.Need-returns

@@ -48,24 +48,24 @@ upper c b h = go b (sym (lt_whole binary64 (pos 8388607) (Z c) tt (z_back c).0) 
     go true k = rw k
     go false k = rw (k, (z_back c).1)
 
-capped_is : (c : tie.Joined1) → c.if1.capped ≡ of_int binary64 (at_most (Z c.before))
+capped_is : (c : tie.Joined1) → c.if-z.capped ≡ of_int binary64 (at_most (Z c.before))
 unfolding of_bits of_int
-capped_is c = ⊎_elim (λ w. w.1 ∙ upper c.before true w.0.taken) (λ w. w.1 ∙ upper c.before false w.0.left) c.if1.branch
+capped_is c = ⊎_elim (λ w. w.1 ∙ upper c.before true w.0.taken) (λ w. w.1 ∙ upper c.before false w.0.left) c.if-z.branch
 
-capped_test : (c : tie.Joined1) → lt c.if1.capped (of_int binary64 (negsuc 8388607)) ≡ lt_z (at_most (Z c.before)) (negsuc 8388607)
+capped_test : (c : tie.Joined1) → lt c.if-z.capped (of_int binary64 (negsuc 8388607)) ≡ lt_z (at_most (Z c.before)) (negsuc 8388607)
 unfolding in_float
 capped_test c = rw (capped_is c) (lt_whole binary64 (at_most (Z c.before)) (negsuc 8388607) (at_most_exact (Z c.before) (z_back c.before).0) tt)
 
-returns : tie.Need-returns
+returns : tie.Need-returns-then-capped
 unfolding of_bits of_int neg
 returns c =
-    let h : lt_z (at_most (Z c.before.before)) (negsuc 8388607) ≡ true = sym (capped_test c.before) ∙ c.if2.true in
+    let h : lt_z (at_most (Z c.before.before)) (negsuc 8388607) ≡ true = sym (capped_test c.before) ∙ c.if-capped.true in
     ap (of_int binary64) (rw h at (in_turn (Z c.before.before)))
 
-returns-2 : tie.Need-returns-2
+returns-2 : tie.Need-returns-else-capped
 unfolding of_bits of_int neg
 returns-2 c =
-    let h : lt_z (at_most (Z c.before.before)) (negsuc 8388607) ≡ false = sym (capped_test c.before) ∙ c.if2.false in
+    let h : lt_z (at_most (Z c.before.before)) (negsuc 8388607) ≡ false = sym (capped_test c.before) ∙ c.if-capped.false in
     capped_is c.before ∙ ap (of_int binary64) (rw h at (in_turn (Z c.before.before)))
 
 pub clip_spec : {M : Type 1} → statement M

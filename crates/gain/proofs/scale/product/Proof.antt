@@ -10,7 +10,7 @@ use Rattle.gain.specs.Scale.{unrounded}
 use Rattle.gain.proofs.scale.product.Statement.{statement}
 use Rattle.gain.proofs.scale.product.Tie as tie
 
-int_to_float_result : tie.Need-int-to-float-result
+int_to_float_result : tie.Need-int_to_float-result
 int_to_float_result c = let s = c.before in rw (to_z-of_z w64 s.args.y s.ranges.y) (float_holds binary64 s.args.y (le_trans (le_of_lt s.requires) (lit≤ tt)))
 
 returns : tie.Need-returns

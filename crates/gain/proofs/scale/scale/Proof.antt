@@ -15,24 +15,24 @@ abbrev Z : tie.Start → ℤ
 Z c = scaled c.args.factor c.args.y
 
 -- what is rounded
-x_is : (c : tie.After-product) → c.product.result ≡ unrounded c.before.args.factor c.before.args.y
-x_is c = let s = c.before in rw (to_z-of_z w64 s.args.y s.ranges.y) at c.product.ensures
+x_is : (c : tie.After-product-x) → c.product-x.result ≡ unrounded c.args.factor c.args.y
+x_is c = let s = c.before in rw (to_z-of_z w64 s.args.y s.ranges.y) at c.product-x.ensures
 
-nearest_even_requires : tie.Need-nearest-even-requires
+nearest_even_requires : tie.Need-nearest_even-z-requires
 nearest_even_requires c κs = let s = c.before in rw (x_is c) (unrounded_reach s.args.y s.args.factor s.requires.0 s.requires.1)
 
 -- the number before the clamp, as a float
-z_is : (c : tie.After-nearest-even) → c.nearest-even.result ≡ of_int binary64 (Z c.before.before)
-z_is c = let s = c.before.before in rw (x_is c.before, unrounded_is s.args.y s.args.factor s.requires.0 s.requires.1) at c.nearest-even.ensures
+z_is : (c : tie.After-nearest_even-z) → c.nearest_even-z.result ≡ of_int binary64 (Z c.before.before)
+z_is c = let s = c.before.before in rw (x_is c.before, unrounded_is s.args.y s.args.factor s.requires.0 s.requires.1) at c.nearest_even-z.ensures
 
-clip_requires : tie.Need-clip-requires
+clip_requires : tie.Need-clip-s-requires
 clip_requires c κs = let s = c.before.before in rw (z_is c) (scaled_back s.args.y s.args.factor s.requires.0 s.requires.1).0
 
 -- the sample
-s_is : (c : tie.After-clip) → c.clip.result ≡ of_int binary64 (clamp (Z c.before.before.before))
-s_is c = let s = c.before.before.before in rw (z_is c.before, (scaled_back s.args.y s.args.factor s.requires.0 s.requires.1).1) at c.clip.ensures
+s_is : (c : tie.After-clip-s) → c.clip-s.result ≡ of_int binary64 (clamp (Z c.before.before.before))
+s_is c = let s = c.before.before.before in rw (z_is c.before, (scaled_back s.args.y s.args.factor s.requires.0 s.requires.1).1) at c.clip-s.ensures
 
-float_to_int_sample : tie.Need-float-to-int-sample
+float_to_int_sample : tie.Need-float_to_int-sample
 float_to_int_sample c = rw (s_is c.before) (clamp_back _).0
 
 returns : tie.Need-returns

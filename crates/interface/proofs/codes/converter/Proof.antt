@@ -9,7 +9,7 @@ returns : tie.Need-returns
 unfolding held_converter settings_of
 returns c =
     let f = c.before.before.before in
-    rw (f.filter_of.ensures, f.before.before.settings.ensures) refl
+    rw (f.filter_of-filter.ensures, f.settings-s.ensures) refl
 
 pub converter_spec : {M : Type 1} → statement M
 converter_spec = tie.close (tie.spec (λ c κs. search rules) (λ c κs. search rules) (λ c. search rules) (λ c. search rules) (λ c. search rules) returns)

@@ -12,10 +12,10 @@ returns c =
     let numbers = c.before.before.before.before in
     let at-rate-of = numbers.before.before.before in
     let s = at-rate-of.before in
-    let cutoff_is = numbers.cutoff_number.ensures ∙ ap cutoff_number numbers.before.cutoff_of.ensures in
-    let rate_is = numbers.before.before.hertz.ensures ∙ ap hertz at-rate-of.rate_of.ensures in
-    c.both3.ensures
-    ∙ rw (c.before.both2.ensures, c.before.before.both.ensures, c.before.before.before.known_flag.ensures)
+    let cutoff_is = numbers.cutoff_number.ensures ∙ ap cutoff_number numbers.cutoff_of.ensures in
+    let rate_is = numbers.hertz.ensures ∙ ap hertz at-rate-of.rate_of.ensures in
+    c.both-3.ensures
+    ∙ rw (c.both-2.ensures, c.both.ensures, c.known_flag.ensures)
     (ap₂ (λ r q. eqb r s.args.rate && (eqb q s.args.cutoff && (eqb s.args.floats 2 && known_flag s.args.own))) rate_is cutoff_is)
 
 pub known_settings_spec : {M : Type 1} → statement M

@@ -16,22 +16,22 @@ use Rattle.interface.specs.Settings.{listed}
 use Rattle.interface.proofs.codes.listed.Statement.{statement}
 use Rattle.interface.proofs.codes.listed.Tie as tie
 
-abbrev invariant-loop : tie.invariant-loop
+abbrev invariant-loop : tie.invariant-loop-k
 invariant-loop taps made₀ k₀ made k = (k ≤ 117) × (length made ≡ 117) × Held (pos 0) (tap taps) 0 k made
 
-abbrev decreases-loop : tie.decreases-loop
+abbrev decreases-loop : tie.decreases-loop-k
 decreases-loop taps made₀ k₀ made k = 117 - k
 
-loop-holds : tie.Need-loop-init invariant-loop decreases-loop
+loop-holds : tie.Need-loop-k-init invariant-loop decreases-loop
 loop-holds c = (omega arith, refl, held_none)
 
-loop-again : tie.Need-loop-preserved invariant-loop decreases-loop
+loop-again : tie.Need-loop-k-preserved invariant-loop decreases-loop
 loop-again c =
     let l = c.before.before in
-    let h = l.before.args.taps.now in (
+    let h = l.args.taps.now in (
       omega arith,
-      simp length-set l.loop.invariant.1,
-      held_more l.loop.invariant.2 (omega arith) (to_z-of_z {w = w32} (record { sfits = c.tap.type-inv }) ∙ c.tap.ensures ∙ ap (tap h) (omega arith)),
+      simp length-set l.loop-k.invariant.1,
+      held_more l.loop-k.invariant.2 (omega arith) (to_z-of_z {w = w32} (record { sfits = c.tap-t.type_inv }) ∙ c.tap-t.ensures ∙ ap (tap h) (omega arith)),
     )
 
 -- a list of n places that are filled
@@ -42,8 +42,8 @@ filled h made n e held =
 returns : tie.Need-returns invariant-loop decreases-loop
 unfolding listed
 returns c =
-    let l = c.before.loop in
-    let h = c.before.before.args.taps.now in
+    let l = c.loop-k in
+    let h = c.args.taps.now in
     let e : l.k ≡ 117 = omega arith in
     ap (λ (made : List ℤ). record { taps = made; count = length h }) (filled h l.made 117 l.invariant.1 (rw e at l.invariant.2))
 

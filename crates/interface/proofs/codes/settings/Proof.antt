@@ -9,7 +9,7 @@ unfolding settings_of
 returns c =
     let g = c.before in
     let n = g.before in
-    rw (c.listed.ensures, g.gain_of.ensures, n.cutoff_of.ensures, n.before.rate_of.ensures)
+    rw (c.listed-filter.ensures, g.gain_of-gain.ensures, n.cutoff_of-cutoff.ensures, n.rate_of-rate.ensures)
 
 pub settings_spec : {M : Type 1} → statement M
 settings_spec =

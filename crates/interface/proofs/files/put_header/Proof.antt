@@ -5,7 +5,7 @@ use borrow.Author.Rules.{rules}
 use Rattle.interface.proofs.files.put_header.Statement.{statement}
 use Rattle.interface.proofs.files.put_header.Tie as tie
 
-slice_write_list_5 : tie.Need-slice-write-list-5
+slice_write_list_5 : tie.Need-bounds-list-4
 slice_write_list_5 c = search rules depth 7
 
 returns : tie.Need-returns

@@ -8,43 +8,43 @@ use borrow.Author.Rules.{rules}
 use Rattle.interface.proofs.files.tell_number.Statement.{statement}
 use Rattle.interface.proofs.files.tell_number.Tie as tie
 
-enum_told : tie.Need-enum-told
+enum_told : tie.Need-enum_told-1
 enum_told c = search rules
 
-slice_write_list : tie.Need-slice-write-list
+slice_write_list : tie.Need-bounds-list-0
 slice_write_list c = search rules
 
-tell_data_requires : tie.Need-tell-data-requires
+tell_data_requires : tie.Need-tell_data-requires
 tell_data_requires c κs = search rules
 
-enum_told_2 : tie.Need-enum-told-2
+enum_told_2 : tie.Need-enum_told-in-Refused
 enum_told_2 c = search rules
 
-tell_data_requires_2 : tie.Need-tell-data-requires-2
+tell_data_requires_2 : tie.Need-tell_data-requires-in-Refused
 tell_data_requires_2 c κs = search rules
 
-same_length : tie.Need-same-length
+same_length : tie.Need-shape_of-list
 same_length c = search rules
 
-same-length-2 : tie.Need-same-length-2
+same-length-2 : tie.Need-shape_of-data-in-Accepted
 same-length-2 c = search rules
 
-returns : tie.Need-returns
+returns : tie.Need-returns-in-Accepted
 unfolding by_decision
 returns c =
     let told = c.before.before in
     let known = told.before.before in
-    let s = known.before.before.before.before in
-    (told.tell-data.ensures, rw known.enum_told.given.1 (one_set s.args.list.now s.args.n s.requires.0))
+    let s = known.before.before.before in
+    (told.tell_data.ensures, rw known.in-Accepted.is (one_set s.args.list.now s.args.n s.requires.0))
 
-same-length-3 : tie.Need-same-length-3
+same-length-3 : tie.Need-shape_of-data-in-Refused
 same-length-3 c = search rules
 
-returns-2 : tie.Need-returns-2
+returns-2 : tie.Need-returns-in-Refused
 returns-2 c =
     let told = c.before.before in
-    let refused = told.before.before.enum-told2.given in
-    (told.tell-data2.ensures, rw (refused.1, exit_refused _ _ _ (error_refuses refused.0.0)) refl)
+    let refused = told.in-Refused.given in
+    (told.tell_data-in-Refused.ensures, rw (refused.1, exit_refused _ _ _ (error_refuses refused.0.0)) refl)
 
 pub tell_number_spec : {M : Type 1} → statement M
 tell_number_spec =

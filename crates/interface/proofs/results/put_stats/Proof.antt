@@ -30,11 +30,11 @@ module _ {A : Type 0} {wanted : List A} {c : ℕ} {l : List A} (h : Copied wante
   copied_all : 6 ≤ c → l ≡ wanted
   copied_all m = sym (take_all c l (omega (arith, h.six))) ∙ h.same ∙ take_all c wanted (omega arith)
 
-abbrev invariant-loop : tie.invariant-loop
+abbrev invariant-loop : tie.invariant-loop-c
 invariant-loop clipped₀ lowest₀ highest₀ empty₀ counts low high marks c₀ clipped lowest highest empty c =
     (c ≤ 6) × Copied counts c clipped × Copied low c lowest × Copied high c highest × Copied (map mark marks) c empty
 
-abbrev decreases-loop : tie.decreases-loop
+abbrev decreases-loop : tie.decreases-loop-c
 decreases-loop clipped₀ lowest₀ highest₀ empty₀ counts low high marks c₀ clipped lowest highest empty c = 6 - c
 
 marked : (marks : List Bool) (c : ℕ) → bool_byte (get_or marks c false) ≡ get_or (map mark marks) c 0
@@ -59,32 +59,32 @@ module _ (c : tie.Start invariant-loop decreases-loop) where
   marks_six = simp length-map (simp length-map at c.well-formed.0.1.1.1.1.1.0.1.0.1)
 
 -- the entry, from the loop
-abbrev start : tie.After-marks invariant-loop decreases-loop → tie.Start invariant-loop decreases-loop
+abbrev start : tie.After-marks-1 invariant-loop decreases-loop → tie.Start invariant-loop decreases-loop
 start c = c.before.before.before.before
 
-loop-holds : tie.Need-loop-init invariant-loop decreases-loop
+loop-holds : tie.Need-loop-c-init invariant-loop decreases-loop
 loop-holds c =
     let long = (start c).requires in
     (omega arith, record { six = long.0; same = refl }, record { six = long.1; same = refl }, record { six = long.2; same = refl }, record { six = long.3; same = refl })
 
-loop-again : tie.Need-loop-preserved invariant-loop decreases-loop
+loop-again : tie.Need-loop-c-preserved invariant-loop decreases-loop
 loop-again c =
     let turn = c.before.before in
-    let l = turn.before.loop in
+    let l = turn.loop-c in
     let s = start turn.before.before in
-    let m = turn.loop-test.true in (
+    let m = turn.loop-c-test.true in (
       omega arith,
       copied_more l.invariant.1 (counts_six s) 0 m refl,
-      copied_more l.invariant.2 (low_six s) (pos 0) m (to_z-of_z (record { sfits = c.before.lowest.given })),
-      copied_more l.invariant.3 (high_six s) (pos 0) m (to_z-of_z (record { sfits = c.highest.given })),
+      copied_more l.invariant.2 (low_six s) (pos 0) m (to_z-of_z (record { sfits = c.lowest-1.given })),
+      copied_more l.invariant.3 (high_six s) (pos 0) m (to_z-of_z (record { sfits = c.highest-1.given })),
       copied_more l.invariant.4 (marks_six s) 0 m (marked s.args.stats.empty l.c),
     )
 
 returns : tie.Need-returns invariant-loop decreases-loop
 returns c =
-    let l = c.before.loop in
+    let l = c.loop-c in
     let s = start c.before.before in
-    let full : 6 ≤ l.c = omega (arith, c.loop-test.false) in
+    let full : 6 ≤ l.c = omega (arith, c.loop-c-test.false) in
     rw (copied_all l.invariant.1 (counts_six s) full, copied_all l.invariant.2 (low_six s) full, copied_all l.invariant.3 (high_six s) full, copied_all l.invariant.4 (marks_six s) full) refl
 
 pub put_stats_spec : {M : Type 1} → statement M

@@ -11,11 +11,11 @@ returns : tie.Need-returns
 returns c =
     let at-of-verdict = c.before.before.before.before in
     let s = at-of-verdict.before.before.before in
-    let v = at-of-verdict.of-verdict in
+    let v = at-of-verdict.of_verdict-report in
     let e : v.result ≡ report (decision s.args.v) = v.ensures in
     record {
       told = record { number = rw e; decibels = rw e (one_set s.args.decibels.now _ s.requires.1) };
-      numbers = rw e at c.before.before.put_two.ensures;
+      numbers = rw e at c.put_two.ensures;
     }
 
 pub tell_spec : {M : Type 1} → statement M

@@ -9,35 +9,35 @@ use Rattle.interface.proofs.results.tell_conversion.Tie as tie
 
 -- ---- places of the accepted branch, and of the other, from its end
 
-abbrev told : tie.After-slice-known8 → tie.After-tell
+abbrev told : tie.After-slice_known-in-Accepted-4-1 → tie.After-tell
 told c = c.before.before.before.before
 
-abbrev written : tie.After-tell → tie.After-put-stats
+abbrev written : tie.After-tell → tie.After-put_stats
 written c =
     let lists = c.before.before.before.before in
     lists.before.before.before.before.before
 
-abbrev accepted : tie.After-put-stats → tie.After-enum-told
+abbrev accepted : tie.After-put_stats → tie.In-Accepted
 accepted c =
     let lent = c.before.before.before.before in
     lent.before.before
 
-abbrev refusal_told : tie.After-slice-known10 → tie.After-tell2
+abbrev refusal_told : tie.After-slice_known-in-Refused-2-1 → tie.After-tell-in-Refused
 refusal_told c = c.before.before.before.before
 
-abbrev refused : tie.After-tell2 → tie.After-enum-told2
+abbrev refused : tie.After-tell-in-Refused → tie.In-Refused
 refused c = c.before.before.before
 
-returns : tie.Need-returns
+returns : tie.Need-returns-in-Accepted
 unfolding by_decision
 returns c =
     let stats = written (told c) in
-    ((told c).tell.ensures, rw (accepted stats).enum_told.given.1 stats.put-stats.ensures)
+    ((told c).tell.ensures, rw (accepted stats).enum_told-1.given.1 stats.put-stats.ensures)
 
-returns-2 : tie.Need-returns-2
+returns-2 : tie.Need-returns-in-Refused
 returns-2 c =
-    let known = (refused (refusal_told c)).enum-told2.given in
-    ((refusal_told c).tell2.ensures, rw (known.1, exit_refused _ _ _ (error_refuses known.0.0)) refl)
+    let known = (refused (refusal_told c)).enum_told-in-Refused-1.given in
+    ((refusal_told c).tell-in-Refused.ensures, rw (known.1, exit_refused _ _ _ (error_refuses known.0.0)) refl)
 
 pub tell_conversion_spec : {M : Type 1} → statement M
 tell_conversion_spec =

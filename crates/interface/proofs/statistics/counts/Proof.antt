@@ -10,26 +10,26 @@ use Rattle.interface.proofs.Six.{six_is}
 use Rattle.interface.proofs.statistics.counts.Statement.{statement}
 use Rattle.interface.proofs.statistics.counts.Tie as tie
 
-abbrev invariant-loop : tie.invariant-loop
+abbrev invariant-loop : tie.invariant-loop-c
 invariant-loop list six₀ c₀ six c = (c ≤ 6) × (length six ≡ 6) × Held 0 (λ j. get_or list j 0) 0 c six
 
-abbrev decreases-loop : tie.decreases-loop
+abbrev decreases-loop : tie.decreases-loop-c
 decreases-loop list six₀ c₀ six c = 6 - c
 
-loop-holds : tie.Need-loop-init invariant-loop decreases-loop
+loop-holds : tie.Need-loop-c-init invariant-loop decreases-loop
 loop-holds c = (omega arith, refl, held_none)
 
-loop-again : tie.Need-loop-preserved invariant-loop decreases-loop
+loop-again : tie.Need-loop-c-preserved invariant-loop decreases-loop
 loop-again c =
-    let l = c.before.before.loop in
+    let l = c.loop-c in
     let z : 0 + l.c ≡ l.c = omega arith in
     (omega arith, length-set l.six _ _ ∙ l.invariant.1, held_more l.invariant.2 (omega arith) (rw z refl))
 
 returns : tie.Need-returns invariant-loop decreases-loop
 returns c =
-    let l = c.before.loop in
+    let l = c.loop-c in
     let e : l.c ≡ 6 = omega arith in
-    six_is l.invariant.1 c.before.before.requires (rw e at l.invariant.2)
+    six_is l.invariant.1 c.requires (rw e at l.invariant.2)
 
 pub counts_spec : {M : Type 1} → statement M
 counts_spec = tie.close (tie.spec invariant-loop decreases-loop loop-holds (λ c. search rules) (λ c. search rules) (λ c. search rules) (λ c. search rules) (λ c. search rules) (λ c. search rules) loop-again returns)

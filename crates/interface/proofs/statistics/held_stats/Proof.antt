@@ -9,9 +9,9 @@ unfolding held_stats
 returns c =
     let at-highest = c.before in
     let at-lowest = at-highest.before in
-    let n = at-lowest.before.counts.ensures in
+    let n = at-lowest.counts.ensures in
     let l = at-lowest.levels.ensures in
-    let h = at-highest.levels2.ensures in
+    let h = at-highest.levels-2.ensures in
     let m = c.marks.ensures in
     λ i. record { clipped = n i; lowest = l i; highest = h i; empty = m i }
 

@@ -17,7 +17,7 @@ returns c =
     let at-decimal = c.before.before in
     let at-put = at-decimal.before.before.before.before in
     let s = at-put.before.before.before.before in
-    (then at-put.put.ensures at-decimal.decimal.ensures, omega (arith, places 19 s.args.n (omega (arith, s.ranges.n))))
+    (then at-put.put-next.ensures at-decimal.decimal.ensures, omega (arith, places 19 s.args.n (omega (arith, s.ranges.n))))
 
 pub labelled_spec : {M : Type 1} → statement M
 labelled_spec = tie.close (tie.spec (λ c κs. search rules) decimal_requires (λ c. search rules) returns)

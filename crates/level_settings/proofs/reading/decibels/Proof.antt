@@ -10,47 +10,46 @@ use Rattle.level_settings.proofs.Negated.{negated_fits, negated_is}
 use Rattle.level_settings.proofs.reading.decibels.Statement.{statement}
 use Rattle.level_settings.proofs.reading.decibels.Tie as tie
 
-returns : tie.Need-returns
+returns : tie.Need-returns-then-m-eq0
 returns c =
     let at-skip = c.before.before.before.before in
     let s = at-skip.before.before.before in
-    no_minus s.args.text.now (left at-skip.skip.ensures c.before.before.before.if1.true) c.before.number.ensures (λ p q. omega arith)
+    no_minus s.args.text.now (left at-skip.skip-k.ensures c.if-k-gt0.true) c.number-m.ensures (λ p q. omega arith)
 
-returns-2 : tie.Need-returns-2
+returns-2 : tie.Need-returns-then-m-gt120
 returns-2 c =
     let at-skip = c.before.before.before.before.before in
     let s = at-skip.before.before.before in
-    no_minus s.args.text.now (left at-skip.skip.ensures c.before.before.before.before.if1.true) c.before.before.number.ensures (λ p q. omega arith)
+    no_minus s.args.text.now (left at-skip.skip-k.ensures c.if-k-gt0.true) c.number-m.ensures (λ p q. omega arith)
 
-sub_result : tie.Need-overflow-sub-result
-sub_result c = negated_fits c.before.before.number.result (omega arith)
+sub_result : tie.Need-overflow_sub-result
+sub_result c = negated_fits c.number-m.result (omega arith)
 
-returns-3 : tie.Need-returns-3
+returns-3 : tie.Need-returns-then-k-gt0
 returns-3 c =
     let at-skip = c.before.before.before.before.before in
     let s = at-skip.before.before.before in
-    rw (negated_is c.before.before.number.result (omega arith))
-    (minus s.args.text.now (left at-skip.skip.ensures c.before.before.before.before.if1.true) c.before.before.number.ensures (pos_of_ne-zero c.before.if2.false) c.if3.false)
+    rw (negated_is c.number-m.result (omega arith))
+    (minus s.args.text.now (left at-skip.skip-k.ensures c.if-k-gt0.true) c.number-m.ensures (pos_of_ne-zero c.if-m-eq0.false) c.if-m-gt120.false)
 
-returns-4 : tie.Need-returns-4
+returns-4 : tie.Need-returns-then-n-gt24
 returns-4 c =
     let at-skip = c.before.before.before in
     let s = at-skip.before.before.before in
-    no_plus s.args.text.now (at-skip.skip.ensures.refuses c.before.before.if1.false) c.before.number2.ensures c.if4.true
+    no_plus s.args.text.now (at-skip.skip-k.ensures.refuses c.if-k-gt0.false) c.number-n.ensures c.if-n-gt24.true
 
-returns-5 : tie.Need-returns-5
+returns-5 : tie.Need-returns
 returns-5 c =
     let at-skip = c.before.before.before in
     let s = at-skip.before.before.before in
-    let small : c.before.number2.result < 2147483648 = omega arith in
+    let small : c.number-n.result < 2147483648 = omega arith in
     rw (to_z_pos w32 small)
-    (plus s.args.text.now (at-skip.skip.ensures.refuses c.before.before.if1.false) c.before.number2.ensures c.if4.false)
+    (plus s.args.text.now (at-skip.skip-k.ensures.refuses c.if-k-gt0.false) c.number-n.ensures c.if-n-gt24.false)
 
 pub decibels_spec : {M : Type 1} → statement M
 decibels_spec =
     tie.close
     (tie.spec
-    (λ c. search rules)
     (λ c κs. search rules)
     (λ c. search rules)
     (λ c. search rules)

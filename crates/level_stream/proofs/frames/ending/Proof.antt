@@ -6,13 +6,13 @@ use borrow.Author.Rules.{rules}
 use Rattle.level_stream.proofs.frames.ending.Statement.{statement}
 use Rattle.level_stream.proofs.frames.ending.Tie as tie
 
-returns : tie.Need-returns
+returns : tie.Need-returns-then-s-eq0
 unfolding ending
 returns c =
     let past = c.before.before.before.before.before in
     let s = past.before.before in rw (eq-eqb s.args.s.left 0 (omega arith)) (search rules)
 
-returns-2 : tie.Need-returns-2
+returns-2 : tie.Need-returns
 unfolding ending
 returns-2 c =
     let past = c.before.before.before.before.before in

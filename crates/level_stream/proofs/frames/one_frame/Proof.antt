@@ -6,7 +6,7 @@ use Rattle.level_stream.proofs.frames.one_frame.Tie as tie
 
 returns : tie.Need-returns
 unfolding at_hand
-returns c = c.before.before.before.frame-report.ensures
+returns c = c.frame_report.ensures
 
 pub one_frame_spec : {M : Type 1} → statement M
 one_frame_spec =

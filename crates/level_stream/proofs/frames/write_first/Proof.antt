@@ -5,8 +5,8 @@ use borrow.Author.Rules.{rules}
 use Rattle.level_stream.proofs.frames.write_first.Statement.{statement}
 use Rattle.level_stream.proofs.frames.write_first.Tie as tie
 
-slice_aggregate_written : tie.Need-slice-aggregate-written
-slice_aggregate_written c = sym (length-take-le c.before.before.args.n c.before.before.args.text.now c.before.before.requires)
+slice_aggregate_written : tie.Need-slice_bounds-written-end
+slice_aggregate_written c = sym (length-take-le c.args.n c.args.text.now c.requires)
 
 pub write_first_spec : {M : Type 1} → statement M
 write_first_spec = tie.close (tie.spec slice_aggregate_written (λ c κs. search rules) (λ c. search rules))

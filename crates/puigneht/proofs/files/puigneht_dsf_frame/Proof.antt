@@ -9,16 +9,16 @@ use Rattle.puigneht.proofs.Done.{frame_done}
 use Rattle.puigneht.proofs.files.puigneht_dsf_frame.Statement.{statement}
 use Rattle.puigneht.proofs.files.puigneht_dsf_frame.Tie as tie
 
-returns : tie.Need-returns
+returns : tie.Need-returns-then-data-eq2
 returns c =
     let told = c.before.before in
     let made = told.before.before.before.before in
     let test = made.before.before in
-    let a = test.before.before.before.before.args in
-    worked (eq-eqb _ _ test.if1.true) (frame_done (frame_places a.file.now a.frame (length a.out.now)) (file_frame a.file.now a.frame) made.frame.result made.frame.ensures told.tell-data.ensures)
+    let a = test.args in
+    worked (eq-eqb _ _ test.if-data-eq2.true) (frame_done (frame_places a.file.now a.frame (length a.out.now)) (file_frame a.file.now a.frame) made.frame-verdict.result made.frame-verdict.ensures told.tell_data.ensures)
 
-returns-2 : tie.Need-returns-2
-returns-2 c = turned_away (ne_eqb _ _ c.if1.false) (refl, refl)
+returns-2 : tie.Need-returns
+returns-2 c = turned_away (ne_eqb _ _ c.if-data-eq2.false) (refl, refl)
 
 pub puigneht_dsf_frame_spec : {M : Type 1} → statement M
 puigneht_dsf_frame_spec = tie.close (tie.spec (λ c κs. search rules) (λ c κs. search rules) (λ c. search rules) (λ c. search rules) returns returns-2)

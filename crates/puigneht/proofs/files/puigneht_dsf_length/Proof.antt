@@ -17,22 +17,22 @@ asked s = eqb (length s.args.size.now) 1 && eqb (length s.args.«data».now) 2
 abbrev start : tie.After-both → tie.Start
 start c = c.before.before.before
 
-known : (c : tie.Then1) → asked (start c.before) ≡ true
+known : (c : tie.Then-both) → asked (start c.before) ≡ true
 known c = cc
 
-tell_number_requires : tie.Need-tell-number-requires
+tell_number_requires : tie.Need-tell_number-requires
 tell_number_requires c κs =
     let t = both_true _ _ (known c.before.before.before) in
     (eqb-true _ _ t.0, eqb-true _ _ t.1)
 
-returns : tie.Need-returns
+returns : tie.Need-returns-then-both
 returns c =
     let told = c.before.before.before.before in
     let made = told.before.before.before in
     let a = (start made.before.before).args in
-    worked (known made.before) (length_done a.channels a.bytes made.file_length.result made.file_length.ensures told.tell-number.ensures.0 told.tell-number.ensures.1)
+    worked (known made.before) (length_done a.channels a.bytes made.file_length-answer.result made.file_length-answer.ensures told.tell_number.ensures.0 told.tell_number.ensures.1)
 
-returns-2 : tie.Need-returns-2
+returns-2 : tie.Need-returns
 returns-2 c =
     let h : asked (start c.before) ≡ false = cc in
     turned_away h (refl, refl)

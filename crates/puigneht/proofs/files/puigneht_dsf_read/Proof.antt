@@ -18,22 +18,22 @@ asked s = eqb (length s.args.header.now) 5 && eqb (length s.args.«data».now) 2
 abbrev start : tie.After-both → tie.Start
 start c = c.before.before.before.before
 
-known : (c : tie.Then1) → asked (start c.before) ≡ true
+known : (c : tie.Then-both) → asked (start c.before) ≡ true
 known c = cc
 
-tell_header_requires : tie.Need-tell-header-requires
+tell_header_requires : tie.Need-tell_header-requires
 tell_header_requires c κs =
     let t = both_true _ _ (known c.before.before.before) in
     (eqb-true _ _ t.0, eqb-true _ _ t.1)
 
-returns : tie.Need-returns
+returns : tie.Need-returns-then-both
 returns c =
     let told = c.before.before.before.before in
     let made = told.before.before.before in
     let a = (start made.before.before).args in
-    worked (known made.before) (read_done (file_places a.file.now) a.file.now made.read.result made.read.ensures told.tell-header.ensures.0 told.tell-header.ensures.1)
+    worked (known made.before) (read_done (file_places a.file.now) a.file.now made.read-opened.result made.read-opened.ensures told.tell_header.ensures.0 told.tell_header.ensures.1)
 
-returns-2 : tie.Need-returns-2
+returns-2 : tie.Need-returns
 returns-2 c =
     let h : asked (start c.before) ≡ false = cc in
     turned_away h (refl, refl)

@@ -7,16 +7,16 @@ use Rattle.puigneht.proofs.Done.{write_done}
 use Rattle.puigneht.proofs.files.puigneht_dsf_write.Statement.{statement}
 use Rattle.puigneht.proofs.files.puigneht_dsf_write.Tie as tie
 
-returns : tie.Need-returns
+returns : tie.Need-returns-then-data-eq2
 returns c =
     let told = c.before.before in
     let made = told.before.before.before.before in
     let test = made.before.before in
-    let a = test.before.before.before.before.args in
-    worked (eq-eqb _ _ test.if1.true) (write_done a.channels a.frames.now made.write.result made.write.ensures told.tell-data.ensures)
+    let a = test.args in
+    worked (eq-eqb _ _ test.if-data-eq2.true) (write_done a.channels a.frames.now made.write-verdict.result made.write-verdict.ensures told.tell_data.ensures)
 
-returns-2 : tie.Need-returns-2
-returns-2 c = turned_away (ne_eqb _ _ c.if1.false) (refl, refl)
+returns-2 : tie.Need-returns
+returns-2 c = turned_away (ne_eqb _ _ c.if-data-eq2.false) (refl, refl)
 
 pub puigneht_dsf_write_spec : {M : Type 1} → statement M
 puigneht_dsf_write_spec = tie.close (tie.spec (λ c κs. search rules) (λ c κs. search rules) (λ c. search rules) (λ c. search rules) returns returns-2)

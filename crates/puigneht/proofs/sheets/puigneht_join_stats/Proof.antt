@@ -22,42 +22,42 @@ module _ (c : tie.After-both) where
   start =
       let at-known = c.before.before in
       let at-lent = at-known.before.before.before.before in
-      at-lent.before.before.before.before.before
+      at-lent
 
   found : c.both.result ≡ (known_stats (first start) && known_stats (second start))
-  found = c.both.ensures ∙ ap₂ (λ p q. p && q) c.before.before.known_stats.ensures c.before.known-stats2.ensures
+  found = c.both.ensures ∙ ap₂ (λ p q. p && q) c.known_stats-known.ensures c.known_stats.ensures
 
   both_hold : c.both.result ≡ true → (known_stats (first start) ≡ true) × (known_stats (second start) ≡ true)
   both_hold e = (and-eq-true_iff (known_stats (first start)) (known_stats (second start))).0 (sym found ∙ e)
 
-held_stats_requires : tie.Need-held-stats-requires
+held_stats_requires : tie.Need-held_stats-a-requires
 held_stats_requires c κs =
     let at-if1 = c.before.before.before.before in
-    known_six (first (start at-if1.before)) (both_hold at-if1.before at-if1.if1.true).0
+    known_six (first (start at-if1.before)) (both_hold at-if1.before at-if1.if-both.true).0
 
-held_stats_requires_2 : tie.Need-held-stats-requires-2
+held_stats_requires_2 : tie.Need-held_stats-b-requires
 held_stats_requires_2 c κs =
     let at-if1 = c.before.before.before.before.before in
-    known_six (second (start at-if1.before)) (both_hold at-if1.before at-if1.if1.true).1
+    known_six (second (start at-if1.before)) (both_hold at-if1.before at-if1.if-both.true).1
 
-put_stats_requires : tie.Need-put-stats-requires
+put_stats_requires : tie.Need-put_stats-requires
 put_stats_requires c κs =
     let at_join = c.before.before.before.before in
     let at-if1 = at_join.before.before.before.before.before.before.before in
-    known_six (first (start at-if1.before)) (both_hold at-if1.before at-if1.if1.true).0
+    known_six (first (start at-if1.before)) (both_hold at-if1.before at-if1.if-both.true).0
 
-returns : tie.Need-returns
+returns : tie.Need-returns-then-both
 returns c =
     let at-put = c.before.before.before.before.before.before in
     let at_join = at-put.before.before.before.before.before in
     let at_second = at_join.before in
     let at_first = at_second.before in
     let at-if1 = at_first.before.before.before.before.before in
-    let e = at_join.join-stats.ensures ∙ ap₂ joined_stats at_first.held_stats.ensures at_second.held-stats2.ensures in
-    worked (sym (found at-if1.before) ∙ at-if1.if1.true) (record { told = refl; written = at-put.put-stats.ensures ∙ ap told_stats e })
+    let e = at_join.join_stats-joined.ensures ∙ ap₂ joined_stats at_first.held_stats-a.ensures at_second.held_stats-b.ensures in
+    worked (sym (found at-if1.before) ∙ at-if1.if-both.true) (record { told = refl; written = at-put.put_stats.ensures ∙ ap told_stats e })
 
-returns-2 : tie.Need-returns-2
-returns-2 c = turned_away (sym (found c.before) ∙ c.if1.false) refl
+returns-2 : tie.Need-returns
+returns-2 c = turned_away (sym (found c.before) ∙ c.if-both.false) refl
 
 pub puigneht_join_stats_spec : {M : Type 1} → statement M
 puigneht_join_stats_spec =

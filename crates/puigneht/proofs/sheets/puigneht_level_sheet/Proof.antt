@@ -21,32 +21,32 @@ module _ (c : tie.After-both) where
   start = c.before.before.before.before.before.before
 
   found : c.both.result ≡ (known_stats (lists start) && eqb (length start.args.«data».now) 2)
-  found = c.both.ensures ∙ ap (λ b. b && eqb (length start.args.«data».now) 2) c.before.known_stats.ensures
+  found = c.both.ensures ∙ ap (λ b. b && eqb (length start.args.«data».now) 2) c.known_stats.ensures
 
   both_hold : c.both.result ≡ true → (known_stats (lists start) ≡ true) × (length start.args.«data».now ≡ 2)
   both_hold e =
       let p = (and-eq-true_iff (known_stats (lists start)) (eqb (length start.args.«data».now) 2)).0 (sym found ∙ e) in
       (p.0, eqb-true _ _ p.1)
 
-held_stats_requires : tie.Need-held-stats-requires
-held_stats_requires c κs = known_six (lists (start c.before)) (both_hold c.before c.if1.true).0
+held_stats_requires : tie.Need-held_stats-stats-requires
+held_stats_requires c κs = known_six (lists (start c.before)) (both_hold c.before c.if-both.true).0
 
-tell_data_requires : tie.Need-tell-data-requires
+tell_data_requires : tie.Need-tell_data-requires
 tell_data_requires c κs =
     let at-if1 = c.before.before.before.before.before.before in
-    (both_hold at-if1.before at-if1.if1.true).1
+    (both_hold at-if1.before at-if1.if-both.true).1
 
-returns : tie.Need-returns
+returns : tie.Need-returns-then-both
 returns c =
     let told = c.before.before in
     let made = told.before.before.before.before in
     let at_held = made.before.before in
     let at-if1 = at_held.before in
-    let p = rw at_held.held_stats.ensures at made.level-sheet.ensures in
-    worked (sym (found at-if1.before) ∙ at-if1.if1.true) (record { told = rw p.decided at told.tell-data.ensures; written = p.written })
+    let p = rw at_held.held_stats-stats.ensures at made.level_sheet-verdict.ensures in
+    worked (sym (found at-if1.before) ∙ at-if1.if-both.true) (record { told = rw p.decided at told.tell_data.ensures; written = p.written })
 
-returns-2 : tie.Need-returns-2
-returns-2 c = turned_away (sym (found c.before) ∙ c.if1.false) (refl, refl)
+returns-2 : tie.Need-returns
+returns-2 c = turned_away (sym (found c.before) ∙ c.if-both.false) (refl, refl)
 
 pub puigneht_level_sheet_spec : {M : Type 1} → statement M
 puigneht_level_sheet_spec =

@@ -20,25 +20,25 @@ start c = c.before.before.before
 
 -- what the test finds
 found : (c : tie.After-both) → c.both.result ≡ asked (start c)
-found c = c.both.ensures ∙ ap (λ b. b && eqb (length (start c).args.told.now) 3) c.before.known_end.ensures
+found c = c.both.ensures ∙ ap (λ b. b && eqb (length (start c).args.told.now) 3) c.known_end.ensures
 
-tell_overs_requires : tie.Need-tell-overs-requires
+tell_overs_requires : tie.Need-tell_overs-requires
 tell_overs_requires c κs =
     let test = c.before.before.before in
     let s = start test.before in
-    eqb-true (length s.args.told.now) 3 (both_true (known_end s.args.end) _ (sym (found test.before) ∙ test.if1.true)).1
+    eqb-true (length s.args.told.now) 3 (both_true (known_end s.args.end) _ (sym (found test.before) ∙ test.if-both.true)).1
 
-returns : tie.Need-returns
+returns : tie.Need-returns-then-both
 returns c =
     let made = c.before.before.before.before in
     let test = made.before.before in
     let s = start test.before in
-    let before = made.before.in_progress.ensures in
-    let counted = made.overs.ensures ∙ ap (overs_of s.args.samples.now s.args.channels s.args.channel) before in
-    worked (sym (found test.before) ∙ test.if1.true) (refl, c.before.before.tell-overs.ensures ∙ ap over_numbers counted)
+    let before = made.in_progress-before.ensures in
+    let counted = made.overs-counted.ensures ∙ ap (overs_of s.args.samples.now s.args.channels s.args.channel) before in
+    worked (sym (found test.before) ∙ test.if-both.true) (refl, c.tell_overs.ensures ∙ ap over_numbers counted)
 
-returns-2 : tie.Need-returns-2
-returns-2 c = turned_away (sym (found c.before) ∙ c.if1.false) refl
+returns-2 : tie.Need-returns
+returns-2 c = turned_away (sym (found c.before) ∙ c.if-both.false) refl
 
 pub puigneht_overs_spec : {M : Type 1} → statement M
 puigneht_overs_spec =

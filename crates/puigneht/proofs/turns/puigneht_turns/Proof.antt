@@ -13,24 +13,24 @@ abbrev asked : tie.Start → Bool
 asked s = turns_understood s.args.frames.now s.args.dues.now s.args.finishes.now s.args.late.now
 
 -- the entry, from the place of the test
-abbrev start : tie.After-both2 → tie.Start
+abbrev start : tie.After-both → tie.Start
 start c = c.before.before.before.before.before
 
 -- what the test finds
-found : (c : tie.After-both2) → c.both2.result ≡ asked (start c)
+found : (c : tie.After-both) → c.both.result ≡ asked (start c)
 found c =
     let s = start c in
-    c.both2.ensures ∙ ap (λ b. eqb (length s.args.dues.now) (length s.args.frames.now) && b) c.before.both.ensures
+    c.both.ensures ∙ ap (λ b. eqb (length s.args.dues.now) (length s.args.frames.now) && b) c.both-lent.ensures
 
-returns : tie.Need-returns
+returns : tie.Need-returns-then-both
 returns c =
     let made = c.before.before.before.before in
     let test = made.before.before.before in
-    worked (sym (found test.before) ∙ test.if1.true) (record { made = made.simulate.result; promise = made.simulate.ensures; told = ap (λ r. r.number) c.of-verdict.ensures })
+    worked (sym (found test.before) ∙ test.if-both.true) (record { made = made.simulate-verdict.result; promise = made.simulate-verdict.ensures; told = ap (λ r. r.number) c.of_verdict-report.ensures })
 
-returns-2 : tie.Need-returns-2
+returns-2 : tie.Need-returns
 returns-2 c =
-    let h : asked (start c.before) ≡ false = sym (found c.before) ∙ c.if1.false in
+    let h : asked (start c.before) ≡ false = sym (found c.before) ∙ c.if-both.false in
     turned_away h (refl, refl)
 
 pub puigneht_turns_spec : {M : Type 1} → statement M

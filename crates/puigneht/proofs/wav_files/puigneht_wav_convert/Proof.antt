@@ -36,20 +36,20 @@ start c =
 found : (c : tie.After-both) → c.both.result ≡ asked (start c)
 found c =
     let u = c.before.before in
-    c.both.ensures ∙ ap₂ ◌&&◌ c.before.known_flag.ensures (rw u.before.room_for_stats.ensures at u.understood.ensures)
+    c.both.ensures ∙ ap₂ ◌&&◌ c.known_flag.ensures (rw u.room_for_stats-fits.ensures at u.understood-known.ensures)
 
-known : (c : tie.Then1) → asked (start c.before) ≡ true
-known c = sym (found c.before) ∙ c.if1.true
+known : (c : tie.Then-both) → asked (start c.before) ≡ true
+known c = sym (found c.before) ∙ c.if-both.true
 
-fit : (c : tie.Then1) → let s = start c.before in Lengths s.args.gain.now s.args.«data».now s.args.decibels.now × (length s.args.numbers.now ≡ 3) × (has_room (old s).stats ≡ true)
+fit : (c : tie.Then-both) → let s = start c.before in Lengths s.args.gain.now s.args.«data».now s.args.decibels.now × (length s.args.numbers.now ≡ 3) × (has_room (old s).stats ≡ true)
 fit c =
     let s = start c.before in
     lengths (the_converter s) (the_input s) (old s) (both_true (known_flag s.args.lent) _ (known c)).1
 
-converter_requires : tie.Need-converter-requires
+converter_requires : tie.Need-converter-conv-requires
 converter_requires c κs = let l = fit c in (l.0.floats, l.1)
 
-tell_conversion_requires : tie.Need-tell-conversion-requires
+tell_conversion_requires : tie.Need-tell_conversion-requires
 tell_conversion_requires c κs =
     let lent = c.before.before.before.before.before in
     let lists = lent.before.before.before.before.before in
@@ -57,7 +57,7 @@ tell_conversion_requires c κs =
     let l = fit taken in
     (six_each (old (start taken.before)).stats l.2, l.0.told)
 
-returns : tie.Need-returns
+returns : tie.Need-returns-then-both
 returns c =
     let lists = c.before.before.before.before.before in
     let at-tell-conversion = lists.before.before.before.before.before in
@@ -65,14 +65,14 @@ returns c =
     let outputs = lent.before.before.before.before.before in
     let at-convert-parts = outputs.before in
     let at-converter = at-convert-parts.before.before.before in
-    let told = at-tell-conversion.tell-conversion.ensures in
-    let made = at-convert-parts.convert-parts in
+    let told = at-tell-conversion.tell_conversion.ensures in
+    let made = at-convert-parts.convert_parts-made in
     worked (known at-converter.before)
-    (record { made = made.result; promise = rw at-converter.converter.ensures at made.ensures; told = told.0; counted = told.1 })
+    (record { made = made.result; promise = rw at-converter.converter-conv.ensures at made.ensures; told = told.0; counted = told.1 })
 
-returns-2 : tie.Need-returns-2
+returns-2 : tie.Need-returns
 returns-2 c =
-    let h : asked (start c.before) ≡ false = sym (found c.before) ∙ c.if1.false in
+    let h : asked (start c.before) ≡ false = sym (found c.before) ∙ c.if-both.false in
     turned_away h (refl, refl, refl)
 
 pub puigneht_wav_convert_spec : {M : Type 1} → statement M

@@ -11,26 +11,26 @@ use Rattle.puigneht.proofs.wav_files.puigneht_wav_read.Statement.{statement}
 use Rattle.puigneht.proofs.wav_files.puigneht_wav_read.Tie as tie
 
 -- places in the code: the list is of four, the numbers told
-abbrev understood : tie.After-samples-of → tie.Then1
+abbrev understood : tie.After-samples_of-n → tie.Then-told-eq4
 understood c = c.before.before
 
-abbrev told : tie.After-slice-known2 → tie.After-tell-file
+abbrev told : tie.After-slice_known-then-told-eq4-1 → tie.After-tell_file
 told c = c.before.before
 
-tell_file_requires : tie.Need-tell-file-requires
-tell_file_requires c κs = (understood c.before).if1.true
+tell_file_requires : tie.Need-tell_file-requires
+tell_file_requires c κs = (understood c.before).if-told-eq4.true
 
-returns : tie.Need-returns
+returns : tie.Need-returns-then-told-eq4
 returns c =
     let t = told c in
     let d = t.before.before in
     let made = d.before.read in
     let old = (understood d).before.before.before.args.told.now in
-    worked (eq-eqb _ _ (understood d).if1.taken)
+    worked (eq-eqb _ _ (understood d).if-told-eq4.taken)
     (record { made = made.result; promise = made.ensures; number = t.tell-file.ensures.0; written = t.tell-file.ensures.1 ∙ ap (λ (l : List ℕ). read_numbers made.result (length l) old) d.samples_of.ensures })
 
-returns-2 : tie.Need-returns-2
-returns-2 c = turned_away (ne_eqb _ _ c.if1.false) refl
+returns-2 : tie.Need-returns
+returns-2 c = turned_away (ne_eqb _ _ c.if-told-eq4.false) refl
 
 pub puigneht_wav_read_spec : {M : Type 1} → statement M
 puigneht_wav_read_spec =

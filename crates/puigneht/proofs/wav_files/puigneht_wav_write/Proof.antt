@@ -10,24 +10,24 @@ use Rattle.puigneht.proofs.wav_files.puigneht_wav_write.Statement.{statement}
 use Rattle.puigneht.proofs.wav_files.puigneht_wav_write.Tie as tie
 
 -- places in the code: the list is of two, the file written, its verdict as numbers
-abbrev understood : tie.After-written → tie.Then1
+abbrev understood : tie.After-written-verdict → tie.Then-data-eq2
 understood c = c.before.before
 
-abbrev done : tie.After-of-verdict → tie.After-written
+abbrev done : tie.After-of_verdict-report → tie.After-written-verdict
 done c = c.before.before.before
 
-abbrev told : tie.After-put-two → tie.After-of-verdict
+abbrev told : tie.After-put_two → tie.After-of_verdict-report
 told c = c.before.before
 
-put_two_requires : tie.Need-put-two-requires
-put_two_requires c κs = (understood (done c.before)).if1.true
+put_two_requires : tie.Need-put_two-requires
+put_two_requires c κs = (understood (done c.before)).if-data-eq2.true
 
-returns : tie.Need-returns
+returns : tie.Need-returns-then-data-eq2
 returns c =
     let p = c.before.before in
     let t = told p in
     let w = done t in
-    worked (eq-eqb _ _ (understood w).if1.taken)
+    worked (eq-eqb _ _ (understood w).if-data-eq2.taken)
     (record {
       made = w.written.result;
       promise = w.written.ensures;
@@ -35,8 +35,8 @@ returns c =
       numbers = p.put_two.ensures ∙ ap (λ (r : Report). r.first ∷ r.second ∷ []) t.of-verdict.ensures;
     })
 
-returns-2 : tie.Need-returns-2
-returns-2 c = turned_away (ne_eqb _ _ c.if1.false) (refl, refl)
+returns-2 : tie.Need-returns
+returns-2 c = turned_away (ne_eqb _ _ c.if-data-eq2.false) (refl, refl)
 
 pub puigneht_wav_write_spec : {M : Type 1} → statement M
 puigneht_wav_write_spec =

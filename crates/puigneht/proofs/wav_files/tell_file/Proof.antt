@@ -7,17 +7,17 @@ use Rattle.puigneht.proofs.wav_files.tell_file.Statement.{statement}
 use Rattle.puigneht.proofs.wav_files.tell_file.Tie as tie
 
 -- places in the code: the start, from a match
-abbrev start : tie.After-slice-known → tie.Start
+abbrev start : tie.After-slice_known-1 → tie.Start
 start c = c.before
 
-returns : tie.Need-returns
+returns : tie.Need-returns-in-Wav
 returns c =
-    let m = c.before.before.before in
-    let s = start m.before.before in
-    rw (m.made.given.1, ← c.before.hertz.ensures) (refl, four_set s.args.told.now _ _ _ _ s.pre)
+    let m = c.before.before in
+    let s = start m.before in
+    rw (m.in-Wav.is, ← c.hertz.ensures) (refl, four_set s.args.told.now _ _ _ _ s.pre)
 
-returns-2 : tie.Need-returns-2
-returns-2 c = rw c.before.before.made2.given.1 (ap (λ (r : Report). r.number) c.of-error.ensures, refl)
+returns-2 : tie.Need-returns-in-Refused
+returns-2 c = rw c.in-Refused.is (ap (λ (r : Report). r.number) c.of_error-report.ensures, refl)
 
 pub tell_file_spec : {M : Type 1} → statement M
 tell_file_spec =

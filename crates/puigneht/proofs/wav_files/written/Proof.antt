@@ -8,17 +8,17 @@ use Rattle.puigneht.proofs.wav_files.written.Statement.{statement}
 use Rattle.puigneht.proofs.wav_files.written.Tie as tie
 
 -- places in the code: the start, the rate tried, the file written
-abbrev start : tie.After-rate-of → tie.Start
+abbrev start : tie.After-rate_of-known → tie.Start
 start c = c.before.before.before
 
-abbrev known : tie.After-write → tie.Then1
+abbrev known : tie.After-write → tie.Then-hertz-rate
 known c = c.before.before
 
 -- the number that the rate read has
 number : (c : tie.After-hertz) → c.hertz.result ≡ codes.hertz (codes.rate_of (start c.before).args.rate)
-number c = c.hertz.ensures ∙ ap codes.hertz c.before.rate_of.ensures
+number c = c.hertz.ensures ∙ ap codes.hertz c.rate_of-known.ensures
 
-returns : tie.Need-returns
+returns : tie.Need-returns-then-hertz-rate
 returns c =
     let w = c.before.before in
     let t = known w in
@@ -26,11 +26,11 @@ returns c =
     let a = (start h.before).args in
     of_known_rate a.rate a.channels a.bytes.now a.out.now (eq-eqb _ _ (sym (number h) ∙ t.if1.taken)) h.before.rate_of.result h.before.rate_of.ensures _ w.write.result w.write.ensures
 
-returns-2 : tie.Need-returns-2
+returns-2 : tie.Need-returns
 returns-2 c =
     let h = c.before in
     let a = (start h.before).args in
-    unknown_rate a.rate a.channels a.bytes.now a.out.now (ne_eqb _ _ (λ e. c.if1.false (number h ∙ e)))
+    unknown_rate a.rate a.channels a.bytes.now a.out.now (ne_eqb _ _ (λ e. c.if-hertz-rate.false (number h ∙ e)))
 
 pub written_spec : {M : Type 1} → statement M
 written_spec =

@@ -11,21 +11,21 @@ use Rattle.scarletbook_pcm.proofs.Same.{slices_accepted, ran_items, ran_stats}
 use Rattle.scarletbook_pcm.proofs.work.items.Statement.{statement}
 use Rattle.scarletbook_pcm.proofs.work.items.Tie as tie
 
-div_count : tie.Need-nonzero-div-count
+div_count : tie.Need-nonzero_div-count
 div_count c =
     let s = c.before.before.before.before in
     omega (arith, some_channel s.args.conv s.requires.0.opens, stored_frame s.args.conv s.requires.0.opens)
 
-taps_long : (u : tie.After-struct-known) → length u.before.before.before.before.args.conv.filter.taps ≡ 117
+taps_long : (u : tie.After-struct_known-1) → length u.args.conv.filter.taps ≡ 117
 taps_long u = search rules
 
-convert_slices_requires : tie.Need-convert-slices-requires
+convert_slices_requires : tie.Need-convert_slices-requires
 unfolding frame_count all_samples channel_samples
 convert_slices_requires c κs =
     let at-struct-known = c.before.before.before.before.before in
     let s = at-struct-known.before.before.before.before in
     let a = s.args in
-    rw (stored_count a.conv s.requires.0.opens a.frames.now, c.before.before.before.before.present.ensures, c.before.before.before.present2.ensures) (slices_accepted a.conv a.has_before a.before.now a.frames.now a.has_after a.after.now s.requires.0 at-struct-known.struct_known.given.1.1.1.0.1.0 (taps_long at-struct-known), (record { items = λ e. s.requires.1; bytes = λ e. absurd (true≢false (sym e)) }, omega arith))
+    rw (stored_count a.conv s.requires.0.opens a.frames.now, c.present-b.ensures, c.present-a.ensures) (slices_accepted a.conv a.has_before a.before.now a.frames.now a.has_after a.after.now s.requires.0 at-struct-known.struct_known-1.given.1.1.1.0.1.0 (taps_long at-struct-known), (record { items = λ e. s.requires.1; bytes = λ e. absurd (true≢false (sym e)) }, omega arith))
 
 returns : tie.Need-returns
 unfolding frame_count
@@ -35,7 +35,7 @@ returns c =
     let at-present = at-present2.before in
     let s = at-present.before.before.before.before.before in
     let a = s.args in
-    let ran = rw (at-present.present.ensures, at-present2.present2.ensures) at at-convert-slices.convert-slices.ensures in
+    let ran = rw (at-present.present-b.ensures, at-present2.present-a.ensures) at at-convert-slices.convert_slices.ensures in
     (ran_items a.conv a.has_before a.before.now a.frames.now a.has_after a.after.now s.requires.0 ran refl, ran_stats a.conv a.has_before a.before.now a.frames.now a.has_after a.after.now s.requires.0 ran)
 
 pub items_spec : {M : Type 1} → statement M

@@ -16,11 +16,11 @@ absent : (t : Bool) (l : List ℕ) → t ≡ false → [] ≡ present t l
 unfolding present
 absent t l e = rw e
 
-returns : tie.Need-returns
-returns c = there _ _ c.if1.true
+returns : tie.Need-returns-then-there
+returns c = there _ _ c.if-there.true
 
-returns-2 : tie.Need-returns-2
-returns-2 c = absent _ _ c.before.if1.false
+returns-2 : tie.Need-returns
+returns-2 c = absent _ _ c.if-there.false
 
 pub present_spec : {M : Type 1} → statement M
 present_spec = tie.close (tie.spec returns (λ c. search rules) (λ c. search rules) (λ c. search rules) returns-2)

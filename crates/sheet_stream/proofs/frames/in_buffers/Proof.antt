@@ -18,24 +18,24 @@ bytes_fit s = omega arith
 items_fit : (s : tie.Start) → samples_per_frame s.args.conv.rate * s.args.conv.channels ≤ length s.args.samples.now
 items_fit s = omega (arith, mul-le-mul (frame_samples s.args.conv.rate) s.requires.0.1)
 
-mul_items : tie.Need-overflow-mul-items
+mul_items : tie.Need-overflow_mul-items
 mul_items c = rw c.samples_per_frame.ensures (record { fits = omega (arith, items_fit c.before.before) })
 
-slice_aggregate_turns : tie.Need-slice-aggregate-turns
+slice_aggregate_turns : tie.Need-slice_bounds-turns-end-2
 slice_aggregate_turns c =
     let s = c.before.before.before in
     sym (length-take-le _ s.args.three.now (bytes_fit s))
 
-slice_relend_prefix_turns_2 : tie.Need-slice-relend-prefix-turns-2
-slice_relend_prefix_turns_2 c = rw c.before.samples_per_frame.ensures (items_fit c.before.before.before)
+slice_relend_prefix_turns_2 : tie.Need-slice_bounds-turns-end-3
+slice_relend_prefix_turns_2 c = rw c.samples_per_frame.ensures (items_fit c.before.before.before)
 
-slice_aggregate_turns_2 : tie.Need-slice-aggregate-turns-2
+slice_aggregate_turns_2 : tie.Need-slice_bounds-turns-end-4
 slice_aggregate_turns_2 c =
     let at-samples = c.before.before in
     let s = at-samples.before.before in
     sym (length-take-le _ s.args.samples.now (rw at-samples.samples_per_frame.ensures (items_fit s)))
 
-turns_requires : tie.Need-turns-requires
+turns_requires : tie.Need-turns-s-requires
 turns_requires c κs =
     let s = c.before.before.before.before in
     length-take-le _ s.args.three.now (bytes_fit s)

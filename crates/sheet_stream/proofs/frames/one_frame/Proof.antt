@@ -11,7 +11,7 @@ returns : tie.Need-returns
 unfolding frame_stats at_hand
 returns c =
     let at-frame = c.before.before.before in
-    c.join-stats.ensures ∙ ap (joined_stats _) at-frame.convert-frame-parts.ensures.answered.counted
+    c.join_stats.ensures ∙ ap (joined_stats _) at-frame.convert_frame_parts-done.ensures.answered.counted
 
 pub one_frame_spec : {M : Type 1} → statement M
 one_frame_spec =

@@ -7,7 +7,7 @@ use borrow.Author.Rules.{rules}
 use Rattle.sheet_stream.proofs.frames.put_sheet.Statement.{statement}
 use Rattle.sheet_stream.proofs.frames.put_sheet.Tie as tie
 
-slice_aggregate_level_sheet : tie.Need-slice-aggregate-level-sheet
+slice_aggregate_level_sheet : tie.Need-slice_bounds-level_sheet-end-2
 slice_aggregate_level_sheet c = let s = c.before.before in sym (length-take-le (43 * (s.args.channels + 1)) s.args.text.now (omega arith))
 
 pub put_sheet_spec : {M : Type 1} → statement M

@@ -7,8 +7,8 @@ use borrow.Author.Rules.{rules}
 use Rattle.test_support.proofs.answers.byte.Statement.{statement}
 use Rattle.test_support.proofs.answers.byte.Tie as tie
 
-returns-2 : tie.Need-returns-2
-returns-2 c = let h : length c.before.args.s.now ≤ c.before.args.i = omega arith in sym (get_or-eq_default c.before.args.s.now 0 h)
+returns-2 : tie.Need-returns-else-i-s
+returns-2 c = let h : length c.args.s.now ≤ c.args.i = omega arith in sym (get_or-eq_default c.args.s.now 0 h)
 
 pub byte_spec : {M : Type 1} → statement M
 byte_spec = tie.close (tie.spec (λ c. search rules) (λ c. search rules) returns-2)

@@ -11,41 +11,41 @@ use borrow.Author.Rules.{rules}
 use Rattle.test_support.proofs.answers.column.Statement.{statement}
 use Rattle.test_support.proofs.answers.column.Tie as tie
 
-abbrev invariant-loop : tie.invariant-loop
+abbrev invariant-loop : tie.invariant-loop-k
 invariant-loop bytes start step out₀ k₀ out k = (k ≤ length out₀) × (length out ≡ length out₀) × Held 0 (λ i. number_at bytes (start + step * i)) 0 k out
 
-abbrev decreases-loop : tie.decreases-loop
+abbrev decreases-loop : tie.decreases-loop-k
 decreases-loop bytes start step out₀ k₀ out k = length out₀ - k
 
 -- the place is small
-small : (c : tie.In-loop invariant-loop decreases-loop) → c.before.before.before.before.args.step * c.before.loop.k ≤ 100 * 4096
+small : (c : tie.In-loop-k invariant-loop decreases-loop) → c.args.step * c.loop-k.k ≤ 100 * 4096
 small c = mul-le-mul {n₂ = 100} {m₂ = 4096} (omega arith) (omega arith)
 
-loop-holds : tie.Need-loop-init invariant-loop decreases-loop
+loop-holds : tie.Need-loop-k-init invariant-loop decreases-loop
 loop-holds c = (omega arith, refl, held_none)
 
-mul_number : tie.Need-overflow-mul-number invariant-loop decreases-loop
+mul_number : tie.Need-overflow_mul-step invariant-loop decreases-loop
 mul_number c = omega (arith, small c)
 
-add_number : tie.Need-overflow-add-number invariant-loop decreases-loop
+add_number : tie.Need-overflow_add-start invariant-loop decreases-loop
 add_number c = omega (arith, small c)
 
-number_requires : tie.Need-number-requires invariant-loop decreases-loop
+number_requires : tie.Need-number-n-requires invariant-loop decreases-loop
 number_requires c κs = omega (arith, small c)
 
-loop-again : tie.Need-loop-preserved invariant-loop decreases-loop
+loop-again : tie.Need-loop-k-preserved invariant-loop decreases-loop
 loop-again c =
     let l = c.before.before in
-    let s = l.before.before.before.args in
-    (omega arith, length-set l.loop.out l.loop.k c.number.result ∙ l.loop.invariant.1, held_more l.loop.invariant.2 (omega arith) (c.number.ensures ∙ ap (number_at s.bytes.now) (omega arith)))
+    let s = l.args in
+    (omega arith, length-set l.loop-k.out l.loop-k.k c.number-n.result ∙ l.loop-k.invariant.1, held_more l.loop-k.invariant.2 (omega arith) (c.number-n.ensures ∙ ap (number_at s.bytes.now) (omega arith)))
 
-same_length : tie.Need-same-length invariant-loop decreases-loop
-same_length c = c.before.loop.invariant.1
+same_length : tie.Need-shape_of-out invariant-loop decreases-loop
+same_length c = c.loop-k.invariant.1
 
 returns : tie.Need-returns invariant-loop decreases-loop
 returns c =
-    let e : c.before.loop.k ≡ length c.before.before.before.before.args.out.now = omega arith in
-    rw e at c.before.loop.invariant.2
+    let e : c.loop-k.k ≡ length c.args.out.now = omega arith in
+    rw e at c.loop-k.invariant.2
 
 pub column_spec : {M : Type 1} → statement M
 column_spec =

@@ -9,43 +9,43 @@ use lib.Seq.{take-suc, take-suc-set, take_all}
 use Rattle.wav_format.proofs.header.copy.Statement.{statement}
 use Rattle.wav_format.proofs.header.copy.Tie as tie
 
-abbrev invariant-loop : tie.invariant-loop
+abbrev invariant-loop : tie.invariant-loop-k
 invariant-loop bytes out₀ k₀ out k = (k ≤ length bytes) × (length out ≡ length out₀) × (take k out ≡ take k bytes)
 
-abbrev decreases-loop : tie.decreases-loop
+abbrev decreases-loop : tie.decreases-loop-k
 decreases-loop bytes out₀ k₀ out k = length bytes - k
 
-loop-holds : tie.Need-loop-init invariant-loop decreases-loop
+loop-holds : tie.Need-loop-k-init invariant-loop decreases-loop
 loop-holds c = (omega arith, refl, refl)
 
-shared_slice_read_out : tie.Need-shared-slice-read-out invariant-loop decreases-loop
+shared_slice_read_out : tie.Need-bounds-bytes-k invariant-loop decreases-loop
 shared_slice_read_out c = omega arith
 
-slice_write_out : tie.Need-slice-write-out invariant-loop decreases-loop
+slice_write_out : tie.Need-bounds-out-k invariant-loop decreases-loop
 slice_write_out c = omega arith
 
-add_k : tie.Need-overflow-add-k invariant-loop decreases-loop
+add_k : tie.Need-overflow_add-k invariant-loop decreases-loop
 add_k c = omega arith
 
-loop-less : tie.Need-loop-smaller invariant-loop decreases-loop
+loop-less : tie.Need-loop-k-smaller invariant-loop decreases-loop
 loop-less c = omega arith
 
-loop-again : tie.Need-loop-preserved invariant-loop decreases-loop
+loop-again : tie.Need-loop-k-preserved invariant-loop decreases-loop
 loop-again c =
     let l = c.before.before in
-    let s = l.before.args in (
+    let s = l.args in (
       omega arith,
-      simp length-set l.loop.invariant.1,
-      rw add-one (take-suc-set l.loop.out l.loop.k _ (omega arith) ∙ ap (λ (w : List ℕ). w ++ (get_or s.bytes.now l.loop.k 0 ∷ [])) l.loop.invariant.2 ∙ sym (take-suc s.bytes.now l.loop.k 0 (omega arith))),
+      simp length-set l.loop-k.invariant.1,
+      rw add-one (take-suc-set l.loop-k.out l.loop-k.k _ (omega arith) ∙ ap (λ (w : List ℕ). w ++ (get_or s.bytes.now l.loop-k.k 0 ∷ [])) l.loop-k.invariant.2 ∙ sym (take-suc s.bytes.now l.loop-k.k 0 (omega arith))),
     )
 
-same_length : tie.Need-same-length invariant-loop decreases-loop
-same_length c = c.before.loop.invariant.1
+same_length : tie.Need-shape_of-out invariant-loop decreases-loop
+same_length c = c.loop-k.invariant.1
 
 returns : tie.Need-returns invariant-loop decreases-loop
 returns c =
-    let s = c.before.before.args in
-    let l = c.before.loop in
+    let s = c.args in
+    let l = c.loop-k in
     let word = s.bytes.now in
     sym (take_all l.k l.out (omega arith)) ∙ l.invariant.2 ∙ take_all l.k word (omega arith)
 

@@ -10,7 +10,7 @@ use borrow.Author.Rules.{rules}
 use Rattle.wav_format.proofs.header.format.Statement.{statement}
 use Rattle.wav_format.proofs.header.format.Tie as tie
 
-mul_second : tie.Need-overflow-mul-second
+mul_second : tie.Need-overflow_mul-second
 mul_second c =
     let three : 3 * c.args.channels ≤ 6 = omega arith in
     omega (arith, mul-le-mul c.requires.0 three)

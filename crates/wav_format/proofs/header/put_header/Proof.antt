@@ -9,16 +9,16 @@ use Rattle.wav_format.proofs.header.put_header.Tie as tie
 abbrev start : tie.After-hertz → tie.Start
 start c = c.before.before.before
 
-abbrev made : tie.After-copy → tie.After-data-head
+abbrev made : tie.After-copy → tie.After-data_head-third
 made c = c.before.before.before
 
-abbrev first : tie.After-copy2 → tie.After-copy
+abbrev first : tie.After-copy-2 → tie.After-copy
 first c = c.before.before.before.before.before
 
-abbrev second : tie.After-slice-known4 → tie.After-copy2
+abbrev second : tie.After-slice_known-4-1 → tie.After-copy-2
 second c = let d = c.before.before in d.before.before.before.before.before
 
-format_requires : tie.Need-format-requires
+format_requires : tie.Need-format-second-requires
 format_requires c κs = (rw c.hertz.ensures (hertz_small (start c).args.rate), (start c).requires.0)
 
 returns : tie.Need-returns
@@ -26,7 +26,7 @@ returns c =
     let p = second c in
     let m = made (first p) in
     let a = (start m.before.before).args in
-    three_put a.rate a.channels a.n a.out.now m.before.before.before.riff.ensures m.before.before.hertz.ensures m.before.format.ensures m.data_head.ensures (first p).copy.ensures p.copy2.ensures c.before.before.copy3.ensures
+    three_put a.rate a.channels a.n a.out.now m.before.before.before.riff.ensures m.before.before.hertz.ensures m.before.format.ensures m.data_head.ensures (first p).copy.ensures p.copy2.ensures c.copy-3.ensures
 
 pub put_header_spec : {M : Type 1} → statement M
 put_header_spec =
