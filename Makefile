@@ -8,7 +8,7 @@
 VERSION = 0.1.0
 PREFIX = /usr/local
 DESTDIR =
-RT = rt
+
 CC = cc
 CFLAGS = -std=c17 -O2 -Wall -Wextra -Werror
 CPPFLAGS = -Iinclude -Icommand
@@ -24,11 +24,11 @@ target/puigneht: command/puigneht.c command/command.h include/puigneht.h $(LIBRA
 
 # The libraries are made anew only where a source has changed.
 target/staticlib/libpuigneht_command.a: $(SOURCES)
-	$(RT) staticlib puigneht_command
+	tools/staticlib puigneht_command
 	touch $@
 
 target/staticlib/libpuigneht.a: $(SOURCES)
-	$(RT) staticlib puigneht
+	tools/staticlib puigneht
 	touch $@
 
 target/chord: tools/chord.c

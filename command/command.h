@@ -1,4 +1,4 @@
-/* The command's proved library, libpuigneht_command.a (`rt staticlib puigneht_command`): everything that the command decides, and
+/* The command's proved library, libpuigneht_command.a (`tools/staticlib puigneht_command`): everything that the command decides, and
  * no system call. The statistics of steps are joined, and the sheet is made, by include/puigneht.h's puigneht_join_stats and
  * puigneht_level_sheet.
  *

@@ -1,7 +1,7 @@
 /* Converts a file of raw frames into packed 24-bit samples, some frames at a time. Each piece is given the frames next
  * to it, so the pieces joined are what one call for the whole file would write.
  *
- *     rt staticlib puigneht
+ *     tools/staticlib puigneht
  *     cc -O2 -Iinclude examples/convert.c target/staticlib/libpuigneht.a -o target/convert
  *     target/convert RATE CUTOFF CHANNELS DB IN OUT         (target/convert 88200 standard 2 0 album.dsd album.s24)
  *

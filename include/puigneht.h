@@ -1,4 +1,4 @@
-/* One-bit (DSD64) frames to 24-bit PCM: the calls of the static library libpuigneht.a (`rt staticlib puigneht`).
+/* One-bit (DSD64) frames to 24-bit PCM: the calls of the static library libpuigneht.a (`tools/staticlib puigneht`).
  *
  * A list is a pointer and its number of items; NULL with 0 items is an empty list. A list that is written must not
  * overlap another list of the call. A list may start at any address: no alignment is needed, of doubles and 64-bit

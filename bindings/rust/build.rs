@@ -1,4 +1,4 @@
-// Links libpuigneht.a, which `rt staticlib puigneht` makes, from the folder PUIGNEHT_LIB.
+// Links libpuigneht.a, which `tools/staticlib puigneht` makes, from the folder PUIGNEHT_LIB.
 use std::{env, path::PathBuf, process};
 
 fn main() {
@@ -12,7 +12,7 @@ fn main() {
     println!("cargo:rerun-if-changed={}", archive.display());
     if !archive.is_file() {
         eprintln!(
-            "There is no {}: run `rt staticlib puigneht` in the repository's root, or set PUIGNEHT_LIB to the folder that has it.",
+            "There is no {}: run `tools/staticlib puigneht` in the repository's root, or set PUIGNEHT_LIB to the folder that has it.",
             archive.display()
         );
         process::exit(1);
