@@ -1,6 +1,7 @@
 // Module 5: filters over blocks of whole numbers: the sums of every place, then their rounding. Every place of the output is written, nothing
 // else is.
 #![tactic(auto)]
+
 ghost use Rattle.std.specs.Prelude.{◌≡◌, ◌+◌, ◌*◌, ◌-◌, ◌^◌, ◌≤◌, ◌<◌, length};
 ghost use Rattle.reference.specs.Rounding.{R};
 ghost use Rattle.reference.specs.Taps.{HB};

@@ -2,6 +2,7 @@
 // floor stands one sum over the remainder and the lowest kept bit. The filters lift their sums by 2^53, so that the machine divides numbers that
 // are not negative; the lift is taken away last.
 #![tactic(auto)]
+
 ghost use Rattle.std.specs.Prelude.{◌≡◌, ◌^◌, ◌≤◌, pos, nat_abs, ◌-ℤ◌};
 ghost use Rattle.reference.specs.Rounding.{R};
 

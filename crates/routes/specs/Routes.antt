@@ -78,7 +78,7 @@ pub record SomeTaps (rate : PcmRate) (cutoff : Cutoff) (h : List ℤ) : Type 0 w
   pub F : List ℤ
   pub taps : Taps rate cutoff F h
 
--- y of the route with the last filter F. `y` of the reference is so with `last-taps` (`y-of-is`, proofs/Routes)
+-- y of the route with the last filter F. `y` of the reference is so with `last_taps` (`y_of_is`, proofs/Routes)
 unfoldable pub y_of : PcmRate → Cutoff → List ℤ → (ℕ → ℕ) → ℕ → ℤ
 y_of rate Standard F β n = y_narrow rate F β n
 y_of rate Low F β n = y_narrow rate F β n

@@ -1,6 +1,7 @@
 // Tap tables of tables.rs (F40 is `reference::built_in`), and the byte tables that `lut` makes of its first two. A `const` array that is indexed is made anew at each
 // use: a caller binds a table once, by these functions, and lends it.
 #![tactic(auto)]
+
 ghost use Rattle.std.specs.Prelude.{◌≡◌};
 ghost use Rattle.reference.specs.Taps.{S1, S1_WIDE, F30, F80};
 ghost use Rattle.tables.specs.Tables.{ByteTables};

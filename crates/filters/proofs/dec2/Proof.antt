@@ -15,10 +15,10 @@ use Rattle.filters.proofs.dec2.Statement.{statement}
 use Rattle.filters.proofs.dec2.Tie as tie
 
 raise_second_requires : tie.Need-raise_second-requires
-raise_second_requires c κs = let s = c.before in ((omega arith, omega arith, omega arith), (s.requires.1.1.0, low_zeros 200))
+raise_second_requires c κs = ((omega arith, omega arith, omega arith), (c.requires.1.1.0, low_zeros 200))
 
 raise_second_requires_2 : tie.Need-raise_second-requires-2
-raise_second_requires_2 c κs = let s = c.before.before.before.before in ((omega arith, omega arith, omega arith), (s.requires.1.1.0, low_zeros 200))
+raise_second_requires_2 c κs = ((omega arith, omega arith, omega arith), (c.requires.1.1.0, low_zeros 200))
 
 -- places in the code, from where the centre's tap is read back: the copies of the values at odd and at even distances are there
 module _ (c : tie.After-c-1) where
@@ -44,10 +44,10 @@ module _ (c : tie.After-centre) where
   abbrev begun : tie.Start
   begun = start tapped
 
-  centre_small : Small (2 ^ 55) c.centre.new.0
+  centre_small : Small (2 ^ 55) c.centre.new.y
   centre_small =
       let he = begun.args.he.now in
-      filled_small (2 ^ 55) c.centre.ensures (λ j. centre_size (t (at0 he 0)) (got 0 begun.pre.1.0.small_even tapped.c-1.given) (even_copied tapped).raise_second.ensures.low (length he - 1 + j))
+      filled_small (2 ^ 55) c.centre.ensures (λ j. centre_size (t (at0 he 0)) (got 0 begun.requires.1.0.small_even tapped.c-1.given) (even_copied tapped).raise_second.ensures.low (length he - 1 + j))
 
 add_pairs_requires : tie.Need-add_pairs-requires
 add_pairs_requires c κs =
@@ -55,7 +55,7 @@ add_pairs_requires c κs =
     let s = begun p in
     let u = p.centre.ensures.same in (
       (omega arith, omega arith, omega arith, omega arith, omega arith, omega arith),
-      (s.pre.1.0.small_even, ((even_copied (tapped p)).raise_second.ensures.low, record { size = λ j. omega (arith, (centre_small p).size j) })),
+      (s.requires.1.0.small_even, ((even_copied (tapped p)).raise_second.ensures.low, record { size = λ j. omega (arith, (centre_small p).size j) })),
     )
 
 -- the even taps' sums are there
@@ -72,10 +72,10 @@ add_pairs_requires_2 c κs =
     let n = length s.args.ho.now in
     let u = p.centre.ensures.same in
     let v = q.add_pairs.ensures.same in
-    let small = s.pre.1.0.small_even in
+    let small = s.requires.1.0.small_even in
     let low = (even_copied (tapped p)).raise_second.ensures.low in (
       (omega arith, omega arith, omega arith, omega arith, omega arith, omega arith),
-      (s.pre.1.0.small_odd, ((odd_copied (tapped p)).raise_second-2.ensures.low, gained_small _ ((127 - n) * 2 ^ 56) q.add_pairs.ensures (centre_small p) (λ j. arms_size he _ 1 _ _ (length he - 1) small (raised_size low)) (omega arith))),
+      (s.requires.1.0.small_odd, ((odd_copied (tapped p)).raise_second-2.ensures.low, gained_small _ ((127 - n) * 2 ^ 56) q.add_pairs.ensures (centre_small p) (λ j. arms_size he _ 1 _ _ (length he - 1) small (raised_size low)) (omega arith))),
     )
 
 -- the sums, lifted by 2^53, are there
@@ -92,7 +92,7 @@ module _ (c : tie.After-add_pairs-2) where
       let ho = entered.args.ho.now in
       half_rate he ho (seconds (length ho + 1 - length he) entered.args.x.now) (seconds (length he - length ho) entered.args.x.now)
 
-  summed : Filled (λ k. sum k +ℤ pos (2 ^ 53)) entered.args.y.now c.add_pairs-2.new.0
+  summed : Filled (λ k. sum k +ℤ pos (2 ^ 53)) entered.args.y.now c.add_pairs-2.new.y
   summed =
       let p = centred even_summed in
       let he = entered.args.he.now in
@@ -100,8 +100,8 @@ module _ (c : tie.After-add_pairs-2) where
       let x = entered.args.x.now in
       let f = length ho + 1 - length he in
       let g = length he - length ho in
-      let evens = fir_filled he (seconds f x) _ (tapped p).c-1.given (omega (arith, length_seconds f x, entered.pre.0)) (rw (length_seconds f x) (even_copied (tapped p)).raise_second.ensures) p.centre.ensures even_summed.add_pairs.ensures in
-      half_filled he ho (seconds f x) (seconds g x) _ (omega (arith, length_seconds g x, entered.pre.0)) (rw (length_seconds g x) (odd_copied (tapped p)).raise_second-2.ensures) entered.pre.1.0 evens c.add_pairs-2.ensures
+      let evens = fir_filled he (seconds f x) _ (tapped p).c-1.given (omega (arith, length_seconds f x, entered.requires.0)) (rw (length_seconds f x) (even_copied (tapped p)).raise_second.ensures) p.centre.ensures even_summed.add_pairs.ensures in
+      half_filled he ho (seconds f x) (seconds g x) _ (omega (arith, length_seconds g x, entered.requires.0)) (rw (length_seconds g x) (odd_copied (tapped p)).raise_second-2.ensures) entered.requires.1.0 evens c.add_pairs-2.ensures
 
 all24_requires : tie.Need-all24-requires
 all24_requires c κs =

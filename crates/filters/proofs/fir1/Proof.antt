@@ -15,14 +15,11 @@ use Rattle.filters.proofs.fir1.Statement.{statement}
 use Rattle.filters.proofs.fir1.Tie as tie
 
 raise_requires : tie.Need-raise-requires
-raise_requires c κs = let k = c.before in (omega arith, (k.requires.1.1.0, low_zeros 456))
+raise_requires c κs = (omega arith, (c.requires.1.1.0, low_zeros 456))
 
 centre_requires : tie.Need-centre-requires
 centre_requires c κs =
-    let tapped = c.before.before in
-    let raised = tapped.before.before in
-    let s = raised.before.before in
-    ((omega arith, got 0 s.requires.1.0.small tapped.c-1.given), raised.raise.ensures.low)
+    ((omega arith, got 0 c.requires.1.0.small c.c-1.given), c.raise.ensures.low)
 
 -- places in the code, from the centre's products back: the centre's tap is read; the copy is there
 module _ (c : tie.After-centre) where
@@ -54,16 +51,16 @@ module _ (c : tie.After-add_pairs) where
   abbrev sum : ℕ → ℤ
   sum = same_rate (start centred).args.h.now (start centred).args.x.now
 
-  summed : Filled (λ k. sum k +ℤ pos (2 ^ 53)) (start centred).args.y.now c.add_pairs.new.0
+  summed : Filled (λ k. sum k +ℤ pos (2 ^ 53)) (start centred).args.y.now c.add_pairs.new.y
   summed =
       let s = start centred in
-      same_filled s.args.h.now s.args.x.now s.pre.1.0
+      same_filled s.args.h.now s.args.x.now s.requires.1.0
       (fir_filled s.args.h.now s.args.x.now _ (tapped centred).c-1.given (omega arith) (copied centred).raise.ensures centred.centre.ensures c.add_pairs.ensures)
 
 all24_requires : tie.Need-all24-requires
 all24_requires c κs =
     let q = c.before.before in
-    filled_sums (sum q) (summed q) _ (omega (arith, (summed q).same)) (start (centred q)).pre.1.1.1
+    filled_sums (sum q) (summed q) _ (omega (arith, (summed q).same)) (start (centred q)).requires.1.1.1
 
 returns : tie.Need-returns
 returns c =

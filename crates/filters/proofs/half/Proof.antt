@@ -10,7 +10,7 @@ use Rattle.filters.proofs.half.Statement.{statement}
 use Rattle.filters.proofs.half.Tie as tie
 
 raise_requires : tie.Need-raise-requires
-raise_requires c κs = let s = c.before in (omega arith, (s.requires.1.1.0, low_zeros 247))
+raise_requires c κs = (omega arith, (c.requires.1.1.0, low_zeros 247))
 
 -- places in the code, from where the arrays are lent to `places` back: the taps are there, the copy is there
 module _ (c : tie.After-v-3-1) where
@@ -28,7 +28,7 @@ places_requires c κs =
     let s = start c in
     let r = (copied c).raise.ensures in
     let long = length-replicate {A = ℕ} 247 0 in
-    rw (tapped c).half_taps-h.ensures ((odd_eight, omega (arith, long, (copied c).raise.auto.1.0), omega (arith, long, (copied c).raise.auto.1.0)), (between_HB.small, (r.low, (s.pre.1.0, band_whole s.args.y.now s.args.xo.now _ (omega arith) r s.pre.1.1.1))))
+    rw (tapped c).half_taps-h.ensures ((odd_eight, omega (arith, long, (copied c).raise.auto.v), omega (arith, long, (copied c).raise.auto.v)), (between_HB.small, (r.low, (s.requires.1.0, band_whole s.args.y.now s.args.xo.now _ (omega arith) r s.requires.1.1.1))))
 
 returns : tie.Need-returns
 returns c =

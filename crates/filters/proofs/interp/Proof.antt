@@ -8,8 +8,7 @@ use Rattle.filters.proofs.interp.Tie as tie
 
 middle_by_requires : tie.Need-middle_by-requires
 middle_by_requires c κs =
-    let k = c.before.before.before in
-    rw c.half_taps-h.ensures ((omega (arith, odd_eight), omega (arith, odd_eight), omega arith), (between_HB, (k.requires.1.0, k.requires.1.1)))
+    rw c.half_taps-h.ensures ((omega (arith, odd_eight), omega (arith, odd_eight), omega arith), (between_HB, (c.requires.1.0, c.requires.1.1)))
 
 returns : tie.Need-returns
 returns c = rw c.half_taps-h.ensures at c.middle_by.ensures

@@ -10,7 +10,7 @@ use Rattle.filters.proofs.middle_by.Statement.{statement}
 use Rattle.filters.proofs.middle_by.Tie as tie
 
 raise_requires : tie.Need-raise-requires
-raise_requires c κs = let k = c.before in (omega arith, (k.requires.1.1.0, low_zeros 256))
+raise_requires c κs = (omega arith, (c.requires.1.1.0, low_zeros 256))
 
 -- places in the code, from where y is level back: the copy is there
 module _ (c : tie.After-level) where
@@ -36,15 +36,15 @@ module _ (c : tie.After-add_pairs) where
   abbrev sum : ℕ → ℤ
   sum = middle (start levelled).args.ho.now (start levelled).args.x.now
 
-  summed : Filled (λ k. sum k +ℤ pos (2 ^ 53)) (start levelled).args.y.now c.add_pairs.new.0
+  summed : Filled (λ k. sum k +ℤ pos (2 ^ 53)) (start levelled).args.y.now c.add_pairs.new.y
   summed =
       let s = start levelled in
-      middle_filled s.args.ho.now s.args.x.now _ (omega arith) (copied levelled).raise.ensures s.pre.1.0 levelled.level.ensures c.add_pairs.ensures
+      middle_filled s.args.ho.now s.args.x.now _ (omega arith) (copied levelled).raise.ensures s.requires.1.0 levelled.level.ensures c.add_pairs.ensures
 
 all23_requires : tie.Need-all23-requires
 all23_requires c κs =
     let q = c.before.before in
-    filled_sums (sum q) (summed q) _ (omega (arith, (summed q).same)) (start (levelled q)).pre.1.1.1
+    filled_sums (sum q) (summed q) _ (omega (arith, (summed q).same)) (start (levelled q)).requires.1.1.1
 
 returns : tie.Need-returns
 returns c =

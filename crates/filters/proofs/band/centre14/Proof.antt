@@ -23,14 +23,13 @@ loop-holds : tie.Need-loop-l-init invariant-loop decreases-loop
 loop-holds c = (search rules, refl, written_none (omega arith))
 
 halved_requires : tie.Need-halved-r-requires invariant-loop decreases-loop
-halved_requires c κs = let l = c.before.before in let k = l.before in sized (at0 k.args.y.now (k.args.i + l.loop-l.l)) _ (2 ^ 29) c.halved-arg-1.given refl (k.requires.1 (k.args.i + l.loop-l.l) (omega arith))
+halved_requires c κs = sized (at0 c.args.y.now (c.args.i + c.loop-l.l)) _ (2 ^ 29) c.halved-arg-1.given refl (c.requires.1 (c.args.i + c.loop-l.l) (omega arith))
 
 loop-again : tie.Need-loop-l-preserved invariant-loop decreases-loop
 loop-again c =
-    let l = c.before.before.before in
-    let k = l.args in
-    let u = written_more {j = l.loop-l.l + 1} l.loop-l.invariant.2 (omega arith) (omega arith) (halved_lane k.y.now (k.i + l.loop-l.l) (val _ _ c.halved-r.type_inv c.halved-r.ensures) c.halved-arg-1.given) (omega arith) in
-    (omega arith, omega (arith, u.same, l.loop-l.invariant.2.same), u)
+    let k = c.args in
+    let u = written_more {j = c.loop-l.l + 1} c.loop-l.invariant.2 (omega arith) (omega arith) (halved_lane k.y.now (k.i + c.loop-l.l) (val _ _ c.halved-r.type_inv c.halved-r.ensures) c.halved-arg-1.given) (omega arith) in
+    (omega arith, omega (arith, u.same, c.loop-l.invariant.2.same), u)
 
 returns : tie.Need-returns invariant-loop decreases-loop
 returns c = written_hold c.loop-l.invariant.2 (omega arith)

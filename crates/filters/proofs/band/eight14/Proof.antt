@@ -54,7 +54,7 @@ module _ (c : tie.After-two14-a) where
   start = c.before.before.before.before
 
   first : Lanes (3 * 2 ^ 56) c.two14-a.result
-  first = wider (more start.pre.1.0 start.pre.1.1.0 (2 ^ 55) (start.args.i + 5) (start.args.i + 8) 0 2 c.two14-arg-1.given c.two14-arg-2-1.given start.pre.1.1.1 c.two14-a.ensures) (omega arith)
+  first = wider (more start.requires.1.0 start.requires.1.1.0 (2 ^ 55) (start.args.i + 5) (start.args.i + 8) 0 2 c.two14-arg-1.given c.two14-arg-2-1.given start.requires.1.1.1 c.two14-a.ensures) (omega arith)
 
 module _ (c : tie.After-two14-b) where
   abbrev one : tie.After-two14-a
@@ -63,7 +63,7 @@ module _ (c : tie.After-two14-b) where
   second : Lanes (5 * 2 ^ 56) c.two14-b.result
   second =
       let s = start one in
-      wider (more s.pre.1.0 s.pre.1.1.0 (3 * 2 ^ 56) (s.args.i + 4) (s.args.i + 9) 1 3 c.two14-arg-3-1.given c.two14-arg-4-1.given (first one) c.two14-b.ensures) (omega arith)
+      wider (more s.requires.1.0 s.requires.1.1.0 (3 * 2 ^ 56) (s.args.i + 4) (s.args.i + 9) 1 3 c.two14-arg-3-1.given c.two14-arg-4-1.given (first one) c.two14-b.ensures) (omega arith)
 
 module _ (c : tie.After-two14-c) where
   abbrev two : tie.After-two14-b
@@ -72,13 +72,12 @@ module _ (c : tie.After-two14-c) where
   third : Lanes (7 * 2 ^ 56) c.two14-c.result
   third =
       let s = start (one two) in
-      wider (more s.pre.1.0 s.pre.1.1.0 (5 * 2 ^ 56) (s.args.i + 1) (s.args.i + 12) 4 6 c.two14-arg-5-1.given c.two14-arg-6-1.given (second two) c.two14-c.ensures) (omega arith)
+      wider (more s.requires.1.0 s.requires.1.1.0 (5 * 2 ^ 56) (s.args.i + 1) (s.args.i + 12) 4 6 c.two14-arg-5-1.given c.two14-arg-6-1.given (second two) c.two14-c.ensures) (omega arith)
 
 two14_requires : tie.Need-two14-a-requires
 two14_requires c κs =
-    let s = c.before.before.before in
-    let hs = s.requires.1.0 in
-    ((omega arith, omega arith, got 0 hs c.two14-arg-1.given, got 2 hs c.two14-arg-2-1.given), (s.requires.1.1.0, wider s.requires.1.1.1 (omega arith)))
+    let hs = c.requires.1.0 in
+    ((omega arith, omega arith, got 0 hs c.two14-arg-1.given, got 2 hs c.two14-arg-2-1.given), (c.requires.1.1.0, wider c.requires.1.1.1 (omega arith)))
 
 two14_requires_2 : tie.Need-two14-b-requires
 two14_requires_2 c κs =
@@ -90,13 +89,13 @@ two14_requires_3 : tie.Need-two14-c-requires
 two14_requires_3 c κs =
     let b = c.before.before in
     let s = start (one b) in
-    ((omega arith, omega arith, got 4 s.pre.1.0 c.two14-arg-5-1.given, got 6 s.pre.1.0 c.two14-arg-6-1.given), (s.pre.1.1.0, wider (second b) (omega arith)))
+    ((omega arith, omega arith, got 4 s.requires.1.0 c.two14-arg-5-1.given, got 6 s.requires.1.0 c.two14-arg-6-1.given), (s.requires.1.1.0, wider (second b) (omega arith)))
 
 two14_requires_4 : tie.Need-two14-requires
 two14_requires_4 c κs =
     let d = c.before.before in
     let s = start (one (two d)) in
-    ((omega arith, omega arith, got 5 s.pre.1.0 c.two14-arg-7-1.given, got 7 s.pre.1.0 c.two14-arg-8-1.given), (s.pre.1.1.0, wider (third d) (omega arith)))
+    ((omega arith, omega arith, got 5 s.requires.1.0 c.two14-arg-7-1.given, got 7 s.requires.1.0 c.two14-arg-8-1.given), (s.requires.1.1.0, wider (third d) (omega arith)))
 
 returns : tie.Need-returns
 returns c =
@@ -107,10 +106,10 @@ returns c =
     let h = k.h.now in
     let s = raised k.v.now in
     let tap-is : (j : ℕ) → mag (at0 h j) < 2 ^ 63 → t (at0 h j) ≡ tap h j = λ j m. val (at0 h j) (at0 h j) m refl in
-    added_then (added_then (added_then a.two14.ensures b.two142.ensures (λ l. refl)) three.two14-c.ensures (λ l. refl)) c.two14.ensures
+    added_then (added_then (added_then a.two14-a.ensures b.two14-b.ensures (λ l. refl)) three.two14-c.ensures (λ l. refl)) c.two14.ensures
     (λ l. four
-    (two_is h s k.i l 0 (k.i + 5) (k.i + 8) (tap-is 0 a.before.before.two14-arg.given) (tap-is 2 a.before.two14-arg2.given) (omega arith) (omega arith))
-    (two_is h s k.i l 1 (k.i + 4) (k.i + 9) (tap-is 1 b.before.before.two14-arg3.given) (tap-is 3 b.before.two14-arg4.given) (omega arith) (omega arith))
+    (two_is h s k.i l 0 (k.i + 5) (k.i + 8) (tap-is 0 a.two14-arg-1.given) (tap-is 2 a.two14-arg-2-1.given) (omega arith) (omega arith))
+    (two_is h s k.i l 1 (k.i + 4) (k.i + 9) (tap-is 1 b.two14-arg-3-1.given) (tap-is 3 b.two14-arg-4-1.given) (omega arith) (omega arith))
     (two_is h s k.i l 4 (k.i + 1) (k.i + 12) (tap-is 4 three.two14-arg-5-1.given) (tap-is 6 three.two14-arg-6-1.given) (omega arith) (omega arith))
     (two_is h s k.i l 5 k.i (k.i + 13) (tap-is 5 c.two14-arg-7-1.given) (tap-is 7 c.two14-arg-8-1.given) (omega arith) (omega arith))
     ∙ all_eight h s (8 + (k.i + l) - 1) (8 + (k.i + l)))

@@ -23,51 +23,38 @@ loop-holds c = (omega arith, written_none (omega arith))
 
 centre14_requires : tie.Need-centre14-s0-requires invariant-loop decreases-loop
 centre14_requires c κs =
-    let l = c.before.before in
-    let k = l.before.before in
-    (omega (arith, l.loop-i.invariant.1.same), λ m p. rw (l.loop-i.invariant.1.above m p) (k.requires.1.1.1.0.size m))
+    (omega (arith, c.loop-i.invariant.1.same), λ m p. rw (c.loop-i.invariant.1.above m p) (c.requires.1.1.1.0.size m))
 
 eight14_requires : tie.Need-eight14-s1-requires invariant-loop decreases-loop
 eight14_requires c κs =
-    let l = c.before.before.before in
-    let k = l.before.before in
-    let u = l.loop-i.invariant.1 in
-    let i = l.loop-i.i in
-    ((omega arith, omega (arith, u.same)), (k.requires.1.0, (k.requires.1.1.0, hold_lanes (2 ^ 55) c.centre14-s0.ensures (λ m. centre_fits l.loop-i.y (i + m) (rw (u.above (i + m) (omega arith)) (k.requires.1.1.1.0.size (i + m)))))))
+    let u = c.loop-i.invariant.1 in
+    let i = c.loop-i.i in
+    ((omega arith, omega (arith, u.same)), (c.requires.1.0, (c.requires.1.1.0, hold_lanes (2 ^ 55) c.centre14-s0.ensures (λ m. centre_fits c.loop-i.y (i + m) (rw (u.above (i + m) (omega arith)) (c.requires.1.1.1.0.size (i + m)))))))
 
 round14_requires : tie.Need-round14-requires invariant-loop decreases-loop
 round14_requires c κs =
-    let l = c.before.before.before.before.before in
-    let k = l.before.before in
-    let u = l.loop-i.invariant.1 in
-    (omega (arith, u.same), whole_sums k.args.h.now k.args.y.now k.args.v.now l.loop-i.i k.requires.1.1.1.1 (omega (arith, u.same)) (lane_sums k.args.h.now k.args.y.now l.loop-i.y k.args.v.now l.loop-i.i c.centre14-s0.ensures c.eight14-s1.ensures u.above))
+    let u = c.loop-i.invariant.1 in
+    (omega (arith, u.same), whole_sums c.args.h.now c.args.y.now c.args.v.now c.loop-i.i c.requires.1.1.1.1 (omega (arith, u.same)) (lane_sums c.args.h.now c.args.y.now c.loop-i.y c.args.v.now c.loop-i.i c.centre14-s0.ensures c.eight14-s1.ensures u.above))
 
 loop-again : tie.Need-loop-i-preserved invariant-loop decreases-loop
 loop-again c =
-    let p = c.before.before.before in
-    let l = p.before.before.before.before in
-    let k = l.before.before in
-    let u = l.loop-i.invariant.1 in
-    let i = l.loop-i.i in
-    let sums = lane_sums k.args.h.now k.args.y.now l.loop-i.y k.args.v.now i p.centre14-s0.ensures p.eight14-s1.ensures u.above in
-    (omega (arith, u.same), written_then u c.round14.ensures (omega arith) (omega arith) (λ m a b. rounded_is k.args.h.now k.args.y.now k.args.v.now _ i m a (sums (m - i) (omega arith))))
+    let u = c.loop-i.invariant.1 in
+    let i = c.loop-i.i in
+    let sums = lane_sums c.args.h.now c.args.y.now c.loop-i.y c.args.v.now i c.centre14-s0.ensures c.eight14-s1.ensures u.above in
+    (omega (arith, u.same), written_then u c.round14.ensures (omega arith) (omega arith) (λ m a b. rounded_is c.args.h.now c.args.y.now c.args.v.now _ i m a (sums (m - i) (omega arith))))
 
 rest_requires : tie.Need-rest-requires invariant-loop decreases-loop
 rest_requires c κs =
-    let l = c.before.before in
-    let k = l.before.before in
-    let u = l.loop-i.invariant.1 in
-    let w = k.requires.1.1.1.1 in (
+    let u = c.loop-i.invariant.1 in
+    let w = c.requires.1.1.1.1 in (
       (omega arith, omega (arith, u.same), omega (arith, u.same), omega arith),
-      (k.requires.1.0, (k.requires.1.1.0, (λ m p. rw (u.above m p) (k.requires.1.1.1.0.size m), record { is = λ m p q. rw (band_same k.args.h.now k.args.y.now l.loop-i.y k.args.v.now m (u.above m p)) (w.is m (omega arith) (omega (arith, u.same))); size = λ m p q. rw (band_same k.args.h.now k.args.y.now l.loop-i.y k.args.v.now m (u.above m p)) (w.size m (omega arith) (omega (arith, u.same))) }))),
+      (c.requires.1.0, (c.requires.1.1.0, (λ m p. rw (u.above m p) (c.requires.1.1.1.0.size m), record { is = λ m p q. rw (band_same c.args.h.now c.args.y.now c.loop-i.y c.args.v.now m (u.above m p)) (w.is m (omega arith) (omega (arith, u.same))); size = λ m p q. rw (band_same c.args.h.now c.args.y.now c.loop-i.y c.args.v.now m (u.above m p)) (w.size m (omega arith) (omega (arith, u.same))) }))),
     )
 
 returns : tie.Need-returns invariant-loop decreases-loop
 returns c =
-    let l = c.before.before.before.before in
-    let k = l.before.before in
-    let u = l.loop-i.invariant.1 in
-    let w = written_then u c.rest.ensures (omega arith) (omega (arith, u.same)) (λ m p q. ap (λ (z : ℤ). R (z -ℤ pos (2 ^ 53)) 24) (band_same k.args.h.now k.args.y.now l.loop-i.y k.args.v.now m (u.above m p))) in
+    let u = c.loop-i.invariant.1 in
+    let w = written_then u c.rest.ensures (omega arith) (omega (arith, u.same)) (λ m p q. ap (λ (z : ℤ). R (z -ℤ pos (2 ^ 53)) 24) (band_same c.args.h.now c.args.y.now c.loop-i.y c.args.v.now m (u.above m p))) in
     written_filled w (omega (arith, u.same))
 
 pub places_spec : {M : Type 1} → statement M

@@ -25,40 +25,32 @@ loop-holds c = (omega arith, omega arith, written_none (omega arith))
 
 halved_requires : tie.Need-halved-c-requires invariant-loop decreases-loop
 halved_requires c κs =
-    let l = c.before.before in
-    let k = l.before.before in
-    let j = l.loop-k.k in
-    sized _ _ (2 ^ 29) c.halved-arg-1.given (l.loop-k.invariant.2.above j (omega arith)) (k.requires.1.1.1.0 j (omega arith))
+    let j = c.loop-k.k in
+    sized _ _ (2 ^ 29) c.halved-arg-1.given (c.loop-k.invariant.2.above j (omega arith)) (c.requires.1.1.1.0 j (omega arith))
 
 -- the centre's product
 centre_is : (c : tie.After-halved-c invariant-loop decreases-loop) → t c.halved-c.result ≡ pos 8388608 *ℤ lifted c.loop-k.y c.loop-k.k
-centre_is c = let l = c.before.before.before in halved_lane l.loop-k.y l.loop-k.k (val _ _ c.halved-c.type_inv c.halved-c.ensures) c.halved-arg-1.given
+centre_is c = halved_lane c.loop-k.y c.loop-k.k (val _ _ c.halved-c.type_inv c.halved-c.ensures) c.halved-arg-1.given
 
 pairs1_requires : tie.Need-pairs1-s-requires invariant-loop decreases-loop
 pairs1_requires c κs =
-    let l = c.before.before.before in
-    let k = l.before.before in
-    let j = l.loop-k.k in
-    let u = l.loop-k.invariant.2 in
-    ((omega arith, omega arith, omega arith, omega (arith, u.same), omega (arith, u.same)), (k.requires.1.0, (k.requires.1.1.0, rw (centre_is c) (omega (arith, centre_fits l.loop-k.y j (rw (u.above j (omega arith)) (k.requires.1.1.1.0 j (omega arith))))))))
+    let j = c.loop-k.k in
+    let u = c.loop-k.invariant.2 in
+    ((omega arith, omega arith, omega arith, omega (arith, u.same), omega (arith, u.same)), (c.requires.1.0, (c.requires.1.1.0, rw (centre_is c) (omega (arith, centre_fits c.loop-k.y j (rw (u.above j (omega arith)) (c.requires.1.1.1.0 j (omega arith))))))))
 
-sum_is : (c : tie.After-pairs1-s invariant-loop decreases-loop) → let l = c.before.before.before.before in let k = l.before.before.args in t c.pairs1-s.result ≡ band_sum k.h.now k.y.now k.v.now l.loop.k
+sum_is : (c : tie.After-pairs1-s invariant-loop decreases-loop) → let k = c.args in t c.pairs1-s.result ≡ band_sum k.h.now k.y.now k.v.now c.loop-k.k
 sum_is c =
-    let l = c.before.before.before.before in
-    let k = l.before.before in
-    val _ _ c.pairs1-s.type_inv c.pairs1-s.ensures ∙ single k.args.h.now k.args.y.now l.loop-k.y k.args.v.now l.loop-k.k (length k.args.h.now) (centre_is c.before) (l.loop-k.invariant.2.above l.loop-k.k (omega arith)) (omega arith)
+    val _ _ c.pairs1-s.type_inv c.pairs1-s.ensures ∙ single c.args.h.now c.args.y.now c.loop-k.y c.args.v.now c.loop-k.k (length c.args.h.now) (centre_is c.before) (c.loop-k.invariant.2.above c.loop-k.k (omega arith)) (omega arith)
 
 div_round24_requires : tie.Need-div_round24-r-requires invariant-loop decreases-loop
 div_round24_requires c κs =
-    let l = c.before.before.before.before in
-    let w = l.requires.1.1.1.1 in
-    rw (sum_is c) (w.is l.loop-k.k (omega arith) (omega (arith, l.loop-k.invariant.2.same)), w.size l.loop-k.k (omega arith) (omega (arith, l.loop-k.invariant.2.same)))
+    let w = c.requires.1.1.1.1 in
+    rw (sum_is c) (w.is c.loop-k.k (omega arith) (omega (arith, c.loop-k.invariant.2.same)), w.size c.loop-k.k (omega arith) (omega (arith, c.loop-k.invariant.2.same)))
 
 loop-again : tie.Need-loop-k-preserved invariant-loop decreases-loop
 loop-again c =
-    let l = c.before.before.before.before.before in
-    let j = l.loop-k.k in
-    let u = l.loop-k.invariant.2 in
+    let j = c.loop-k.k in
+    let u = c.loop-k.invariant.2 in
     let r = val _ _ c.div_round24-r.type_inv c.div_round24-r.ensures ∙ ap (λ (z : ℤ). R (z -ℤ pos (2 ^ 53)) 24) (sum_is c.before) in
     (omega arith, omega (arith, u.same), written_more {j = j + 1} u (omega arith) (omega (arith, u.same)) r (omega arith))
 

@@ -20,15 +20,14 @@ loop-holds : tie.Need-loop-l-init invariant-loop decreases-loop
 loop-holds c = (search rules, written_none (omega arith))
 
 div_round24_requires : tie.Need-div_round24-r-requires invariant-loop decreases-loop
-div_round24_requires c κs = let l = c.before.before in sums_at l.requires.1 l.loop-l.l (omega arith) c.div_round24-arg-1.given
+div_round24_requires c κs = sums_at c.requires.1 c.loop-l.l (omega arith) c.div_round24-arg-1.given
 
 loop-again : tie.Need-loop-l-preserved invariant-loop decreases-loop
 loop-again c =
-    let l = c.before.before.before in
-    let u = l.loop-l.invariant.1.same in
-    let s = l.args.t3 in
-    let r = stored 24 s l.loop-l.l (val _ _ c.div_round24-r.type_inv c.div_round24-r.ensures) c.div_round24-arg-1.given in
-    (omega arith, written_more l.loop-l.invariant.1 (omega arith) (omega arith) (r ∙ ap (rounded 24 s) (omega arith)) (omega arith))
+    let u = c.loop-l.invariant.1.same in
+    let s = c.args.s in
+    let r = stored 24 s c.loop-l.l (val _ _ c.div_round24-r.type_inv c.div_round24-r.ensures) c.div_round24-arg-1.given in
+    (omega arith, written_more c.loop-l.invariant.1 (omega arith) (omega arith) (r ∙ ap (rounded 24 s) (omega arith)) (omega arith))
 
 returns : tie.Need-returns invariant-loop decreases-loop
 returns c =

@@ -20,13 +20,12 @@ loop-holds : tie.Need-loop-k-init invariant-loop decreases-loop
 loop-holds c = (omega arith, written_none (omega arith))
 
 cast_out : tie.Need-overflow_cast-out invariant-loop decreases-loop
-cast_out c = let l = c.before.before in wide_fits (at0 l.args.h.now (2 * l.loop-k.k + l.args.from)) c.out-1.given
+cast_out c = wide_fits (at0 c.args.h.now (2 * c.loop-k.k + c.args.from)) c.out-1.given
 
 loop-again : tie.Need-loop-k-preserved invariant-loop decreases-loop
 loop-again c =
-    let l = c.before.before in
-    let u = l.loop-k.invariant.1.same in
-    (omega arith, written_more l.loop-k.invariant.1 (omega arith) (omega arith) (wide_is (at0 l.args.h.now (2 * l.loop-k.k + l.args.from)) c.out-1.given) (omega arith))
+    let u = c.loop-k.invariant.1.same in
+    (omega arith, written_more c.loop-k.invariant.1 (omega arith) (omega arith) (wide_is (at0 c.args.h.now (2 * c.loop-k.k + c.args.from)) c.out-1.given) (omega arith))
 
 returns : tie.Need-returns invariant-loop decreases-loop
 returns c = let l = c.loop-k in written_filled l.invariant.1 (omega (arith, l.invariant.1.same))

@@ -23,24 +23,21 @@ loop-holds c = (omega arith, omega arith, written_none (omega arith))
 
 pairs1_requires : tie.Need-pairs1-r-requires invariant-loop decreases-loop
 pairs1_requires c κs =
-    let l = c.before.before in
-    let k = l.before.before in
-    let j = l.loop-k.k in
-    let u = l.loop-k.invariant.2.same in
-    let e = l.loop-k.invariant.2.above j (omega arith) in (
+    let j = c.loop-k.k in
+    let u = c.loop-k.invariant.2.same in
+    let e = c.loop-k.invariant.2.above j (omega arith) in (
       (omega arith, omega arith, omega arith, omega arith, omega arith),
-      (k.requires.1.0, (k.requires.1.1.0, sized _ _ _ c.pairs1-arg-1.given e (k.requires.1.1.1 j (omega arith)))),
+      (c.requires.1.0, (c.requires.1.1.0, sized _ _ _ c.pairs1-arg-1.given e (c.requires.1.1.1 j (omega arith)))),
     )
 
 loop-again : tie.Need-loop-k-preserved invariant-loop decreases-loop
 loop-again c =
-    let l = c.before.before.before in
-    let k = l.args in
-    let j = l.loop-k.k in
-    let u = l.loop-k.invariant.2.same in
-    let e = val _ _ c.pairs1-arg-1.given (l.loop-k.invariant.2.above j (omega arith)) in
+    let k = c.args in
+    let j = c.loop-k.k in
+    let u = c.loop-k.invariant.2.same in
+    let e = val _ _ c.pairs1-arg-1.given (c.loop-k.invariant.2.above j (omega arith)) in
     let r = val _ _ c.pairs1-r.type_inv c.pairs1-r.ensures ∙ ap (λ (z : ℤ). z +ℤ arms k.h.now (raised k.v.now) k.from (k.end + j - 1) (k.up + j) (length k.h.now - k.from)) e in
-    (omega arith, omega arith, written_more {j = j + 1} l.loop-k.invariant.2 (omega arith) (omega arith) r (omega arith))
+    (omega arith, omega arith, written_more {j = j + 1} c.loop-k.invariant.2 (omega arith) (omega arith) r (omega arith))
 
 returns : tie.Need-returns invariant-loop decreases-loop
 returns c =

@@ -22,48 +22,41 @@ loop-holds : tie.Need-loop-i-init invariant-loop decreases-loop
 loop-holds c = (omega arith, written_none (omega arith))
 
 load14_requires : tie.Need-load14-s0-requires invariant-loop decreases-loop
-load14_requires c κs = let l = c.before.before in omega (arith, l.loop-i.invariant.1.same)
+load14_requires c κs = omega (arith, c.loop-i.invariant.1.same)
 
 pairs14_requires : tie.Need-pairs14-s1-requires invariant-loop decreases-loop
 pairs14_requires c κs =
-    let l = c.before.before.before in
-    let k = l.before.before in
-    let i = l.loop-i.i in
-    let u = l.loop-i.invariant.1.same in (
+    let i = c.loop-i.i in
+    let u = c.loop-i.invariant.1.same in (
       (omega arith, omega arith, omega arith, omega arith, omega arith),
-      (k.requires.1.0, (k.requires.1.1.0, hold_lanes _ c.load14-s0.ensures (λ m. rw (l.loop-i.invariant.1.above (i + m) (omega arith)) (k.requires.1.1.1.size (i + m))))),
+      (c.requires.1.0, (c.requires.1.1.0, hold_lanes _ c.load14-s0.ensures (λ m. rw (c.loop-i.invariant.1.above (i + m) (omega arith)) (c.requires.1.1.1.size (i + m))))),
     )
 
 put14_requires : tie.Need-put14-requires invariant-loop decreases-loop
-put14_requires c κs = let l = c.before.before.before.before.before in omega (arith, l.loop-i.invariant.1.same)
+put14_requires c κs = omega (arith, c.loop-i.invariant.1.same)
 
 loop-again : tie.Need-loop-i-preserved invariant-loop decreases-loop
 loop-again c =
-    let p = c.before.before.before in
-    let l = p.before.before.before.before in
-    let k = l.args in
+    let k = c.args in
     let h = k.h.now in
-    let i = l.loop-i.i in
-    let u = l.loop-i.invariant.1.same in
-    let g = lanes_gain h (raised k.v.now) k.from k.end k.up (length h - k.from) i k.y.now l.loop-i.y p.load14-s0.ensures p.pairs14-s1.ensures l.loop-i.invariant.1.above in
-    (omega arith, written_then l.loop-i.invariant.1 c.put14.ensures (omega arith) (omega arith) g)
+    let i = c.loop-i.i in
+    let u = c.loop-i.invariant.1.same in
+    let g = lanes_gain h (raised k.v.now) k.from k.end k.up (length h - k.from) i k.y.now c.loop-i.y c.load14-s0.ensures c.pairs14-s1.ensures c.loop-i.invariant.1.above in
+    (omega arith, written_then c.loop-i.invariant.1 c.put14.ensures (omega arith) (omega arith) g)
 
 add_last_requires : tie.Need-add_last-requires invariant-loop decreases-loop
 add_last_requires c κs =
-    let l = c.before.before in
-    let k = l.before.before in
-    let u = l.loop-i.invariant.1.same in (
+    let u = c.loop-i.invariant.1.same in (
       (omega arith, omega arith, omega arith, omega arith, omega arith, omega arith, omega arith),
-      (k.requires.1.0, (k.requires.1.1.0, λ m p. rw (l.loop-i.invariant.1.above m p) (k.requires.1.1.1.size m))),
+      (c.requires.1.0, (c.requires.1.1.0, λ m p. rw (c.loop-i.invariant.1.above m p) (c.requires.1.1.1.size m))),
     )
 
 returns : tie.Need-returns invariant-loop decreases-loop
 returns c =
-    let l = c.before.before.before.before in
-    let k = l.args in
+    let k = c.args in
     let h = k.h.now in
-    let u = l.loop-i.invariant.1.same in
-    let w = written_then l.loop-i.invariant.1 c.add_last.ensures (omega arith) (omega arith) (λ m p q. ap (λ (z : ℤ). z +ℤ arms h (raised k.v.now) k.from (k.end + m - 1) (k.up + m) (length h - k.from)) (l.loop-i.invariant.1.above m p)) in
+    let u = c.loop-i.invariant.1.same in
+    let w = written_then c.loop-i.invariant.1 c.add_last.ensures (omega arith) (omega arith) (λ m p q. ap (λ (z : ℤ). z +ℤ arms h (raised k.v.now) k.from (k.end + m - 1) (k.up + m) (length h - k.from)) (c.loop-i.invariant.1.above m p)) in
     written_filled w (omega arith)
 
 pub add_pairs_spec : {M : Type 1} → statement M

@@ -24,31 +24,28 @@ loop-holds c = (omega arith, added_none _ (λ l. fourths_none _ _ _ _ _))
 
 two14_requires : tie.Need-two14-r-requires invariant-loop decreases-loop
 two14_requires c κs =
-    let l = c.before.before.before in
-    let k = l.before.before in
-    let h = k.args.h.now in
-    let j = k.args.from + 4 * l.loop-k.k in (
-      (omega arith, omega arith, got j k.requires.1.0 c.two14-arg-1.given, got (j + 2) k.requires.1.0 c.two14-arg-in-loop-k-1.given),
+    let h = c.args.h.now in
+    let j = c.args.from + 4 * c.loop-k.k in (
+      (omega arith, omega arith, got j c.requires.1.0 c.two14-arg-1.given, got (j + 2) c.requires.1.0 c.two14-arg-in-loop-k-1.given),
       (
-        k.requires.1.1.0,
-        lanes_then (2 * l.loop-k.k * 2 ^ 56) (125 * 2 ^ 56) l.loop-k.invariant.1 k.requires.1.1.1
-            (λ i. fourths_size h (raised k.args.v.now) k.args.from (k.args.end + i - 1) (k.args.up + i) l.loop-k.k k.requires.1.0 (raised_size k.requires.1.1.0))
+        c.requires.1.1.0,
+        lanes_then (2 * c.loop-k.k * 2 ^ 56) (125 * 2 ^ 56) c.loop-k.invariant.1 c.requires.1.1.1
+            (λ i. fourths_size h (raised c.args.v.now) c.args.from (c.args.end + i - 1) (c.args.up + i) c.loop-k.k c.requires.1.0 (raised_size c.requires.1.1.0))
             (omega arith),
       ),
     )
 
 loop-again : tie.Need-loop-k-preserved invariant-loop decreases-loop
 loop-again c =
-    let l = c.before.before.before.before in
-    let k = l.args in
+    let k = c.args in
     let s = raised k.v.now in
     let h = k.h.now in
-    let n = l.loop-k.k in
+    let n = c.loop-k.k in
     let j = k.from + 4 * n in
     let a = val (at0 h j) (at0 h j) c.two14-arg-1.given refl in
     let b = val (at0 h (j + 2)) (at0 h (j + 2)) c.two14-arg-in-loop-k-1.given refl in (
       omega arith,
-      added_then l.loop-k.invariant.1 c.two14-r.ensures
+      added_then c.loop-k.invariant.1 c.two14-r.ensures
           (λ i.
           ap₂ (λ (y z : ℤ). fourths h s k.from (k.end + i - 1) (k.up + i) n +ℤ (y *ℤ (s (k.end - 3 - j + 2 + i) +ℤ s (k.up + j + i)) +ℤ z *ℤ (s (k.end - 3 - j + i) +ℤ s (k.up + j + 2 + i)))) a b
           ∙ fourths_more h s k.from k.end k.up n i (omega arith)),

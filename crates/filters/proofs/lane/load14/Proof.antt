@@ -22,9 +22,8 @@ loop-holds c = (search rules, refl, written_none (omega arith))
 
 loop-again : tie.Need-loop-l-preserved invariant-loop decreases-loop
 loop-again c =
-    let l = c.before.before in
-    let u = written_more {j = l.loop-l.l + 1} l.loop-l.invariant.2 (omega arith) (omega arith) (val _ _ c.s-1.given refl) (omega arith) in
-    (omega arith, omega (arith, u.same, l.loop-l.invariant.2.same), u)
+    let u = written_more {j = c.loop-l.l + 1} c.loop-l.invariant.2 (omega arith) (omega arith) (val _ _ c.s-1.given refl) (omega arith) in
+    (omega arith, omega (arith, u.same, c.loop-l.invariant.2.same), u)
 
 returns : tie.Need-returns invariant-loop decreases-loop
 returns c = written_hold c.loop-l.invariant.2 (omega arith)

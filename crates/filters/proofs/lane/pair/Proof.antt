@@ -8,20 +8,17 @@ use Rattle.filters.proofs.lane.pair.Tie as tie
 
 both_requires : tie.Need-both-requires
 both_requires c κs =
-    let k = c.before.before.before in
-    (k.requires.1.size _, k.requires.1.size _)
+    (c.requires.1.size _, c.requires.1.size _)
 
 tap1_requires : tie.Need-tap1-requires
 tap1_requires c κs =
-    let k = c.before.before.before.before in
-    let e = to_z-of_z k.ranges.s in
-    let f = to_z-of_z k.ranges.h in
-    rw (e, f) (pair_room k.args.s (nat_abs k.args.h) _ _ _ k.requires.0.3 k.requires.0.2 c.both.ensures (k.requires.1.size _) (k.requires.1.size _), k.requires.0.2)
+    let e = to_z-of_z c.ranges.s in
+    let f = to_z-of_z c.ranges.h in
+    rw (e, f) (pair_room c.args.s (nat_abs c.args.h) _ _ _ c.requires.0.3 c.requires.0.2 c.both.ensures (c.requires.1.size _) (c.requires.1.size _), c.requires.0.2)
 
 returns : tie.Need-returns
 returns c =
-    let k = c.before.before.before.before.before in
-    pair_is k.ranges.s k.ranges.h k.args.v.now k.args.i k.args.j c.tap1.type_inv c.tap1.ensures c.both.ensures
+    pair_is c.ranges.s c.ranges.h c.args.v.now c.args.i c.args.j c.tap1.type_inv c.tap1.ensures c.both.ensures
 
 pub pair_spec : {M : Type 1} → statement M
 pair_spec =

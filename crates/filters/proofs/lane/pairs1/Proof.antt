@@ -26,47 +26,42 @@ decreases-loop acc h from v end up s₀ j₀ s j = length h - j
 
 loop-holds : tie.Need-loop-j-init invariant-loop decreases-loop
 loop-holds c =
-    let k = c.before in
-    (omega arith, omega arith, sym (ap (λ (z : ℤ). t k.args.acc +ℤ z) (arms_none _ _ _ _ _ _ (omega arith)) ∙ +ℤ_idr (t k.args.acc)))
+    (omega arith, omega arith, sym (ap (λ (z : ℤ). t c.args.acc +ℤ z) (arms_none _ _ _ _ _ _ (omega arith)) ∙ +ℤ_idr (t c.args.acc)))
 
 pair_requires : tie.Need-pair-r-requires invariant-loop decreases-loop
 pair_requires c κs =
-    let l = c.before.before in
-    let k = l.before.before in
-    let h = k.args.h.now in
-    let j = l.loop-j.j in
-    let g = arms_size h (raised k.args.v.now) k.args.from (k.args.end - 1) k.args.up (j - k.args.from) k.requires.1.0 (raised_size k.requires.1.1.0) in (
+    let h = c.args.h.now in
+    let j = c.loop-j.j in
+    let g = arms_size h (raised c.args.v.now) c.args.from (c.args.end - 1) c.args.up (j - c.args.from) c.requires.1.0 (raised_size c.requires.1.1.0) in (
       (
         omega arith,
         omega arith,
-        got j k.requires.1.0 c.pair-arg-1.given,
-        rw l.loop-j.invariant.2 (omega (arith, g, abs_add (t k.args.acc) (arms h (raised k.args.v.now) k.args.from (k.args.end - 1) k.args.up (j - k.args.from)), ap nat_abs (to_z-of_z k.ranges.acc), k.requires.1.1.1)),
+        got j c.requires.1.0 c.pair-arg-1.given,
+        rw c.loop-j.invariant.2 (omega (arith, g, abs_add (t c.args.acc) (arms h (raised c.args.v.now) c.args.from (c.args.end - 1) c.args.up (j - c.args.from)), ap nat_abs (to_z-of_z c.ranges.acc), c.requires.1.1.1)),
       ),
-      k.requires.1.1.0,
+      c.requires.1.1.0,
     )
 
 loop-again : tie.Need-loop-j-preserved invariant-loop decreases-loop
 loop-again c =
-    let l = c.before.before.before in
-    let k = l.args in
+    let k = c.args in
     let h = k.h.now in
     let v = raised k.v.now in
-    let j = l.loop-j.j in
+    let j = c.loop-j.j in
     let s = arms h v k.from (k.end - 1) k.up (j - k.from) in
     let g = val (at0 h j) (at0 h j) c.pair-arg-1.given refl in (
       omega arith,
       omega arith,
       val _ _ c.pair-r.type_inv c.pair-r.ensures
-          ∙ ap₂ (λ (y z : ℤ). y +ℤ z *ℤ (v (k.end - 1 - j) +ℤ v (k.up + j))) l.loop-j.invariant.2 g
+          ∙ ap₂ (λ (y z : ℤ). y +ℤ z *ℤ (v (k.end - 1 - j) +ℤ v (k.up + j))) c.loop-j.invariant.2 g
           ∙ +ℤ_assoc (t k.acc) s (at0 h j *ℤ (v (k.end - 1 - j) +ℤ v (k.up + j)))
           ∙ ap (λ (z : ℤ). t k.acc +ℤ z) (arms_one h v k.from k.end k.up j (omega arith)),
     )
 
 returns : tie.Need-returns invariant-loop decreases-loop
 returns c =
-    let k = c.before.before.before in
-    let e : c.loop-j.j ≡ length k.args.h.now = omega arith in
-    rw (e, to_z-of_z k.ranges.acc) at c.loop-j.invariant.2
+    let e : c.loop-j.j ≡ length c.args.h.now = omega arith in
+    rw (e, to_z-of_z c.ranges.acc) at c.loop-j.invariant.2
 
 pub pairs1_spec : {M : Type 1} → statement M
 pairs1_spec =

@@ -13,26 +13,23 @@ use Rattle.filters.proofs.lane.pairs14.Tie as tie
 
 fourths14_requires : tie.Need-fourths14-a-requires
 fourths14_requires c κs =
-    let k = c.before in
-    ((omega arith, omega arith, omega arith, omega arith, omega arith), (k.requires.1.0, (k.requires.1.1.0, record { size = λ l m. omega (arith, k.requires.1.1.1.size l m) })))
+    ((omega arith, omega arith, omega arith, omega arith, omega arith), (c.requires.1.0, (c.requires.1.1.0, record { size = λ l m. omega (arith, c.requires.1.1.1.size l m) })))
 
 fourths14_requires_2 : tie.Need-fourths14-b-requires
 fourths14_requires_2 c κs =
-    let k = c.before.before in
-    let n = (length k.args.h.now - k.args.from) / 4 in (
+    let n = (length c.args.h.now - c.args.from) / 4 in (
       (omega arith, omega arith, omega arith, omega arith, omega arith),
-      (k.requires.1.0, (k.requires.1.1.0, lanes_then (2 * n * 2 ^ 56) ((127 - 2 * n) * 2 ^ 56) c.fourths14-a.ensures k.requires.1.1.1 (λ i. fourths_size _ _ _ _ _ n k.requires.1.0 (raised_size k.requires.1.1.0)) (omega arith))),
+      (c.requires.1.0, (c.requires.1.1.0, lanes_then (2 * n * 2 ^ 56) ((127 - 2 * n) * 2 ^ 56) c.fourths14-a.ensures c.requires.1.1.1 (λ i. fourths_size _ _ _ _ _ n c.requires.1.0 (raised_size c.requires.1.1.0)) (omega arith))),
     )
 
 singly14_requires : tie.Need-singly14-requires
 singly14_requires c κs =
-    let k = c.before.before.before in
-    let h = k.args.h.now in
-    let n = (length h - k.args.from) / 4 in
-    let low = raised_size k.requires.1.1.0 in
-    let one = lanes_then (2 * n * 2 ^ 56) ((127 - length h + 2 * n) * 2 ^ 56) c.fourths14-a.ensures k.requires.1.1.1 (λ i. fourths_size _ _ _ _ _ n k.requires.1.0 low) (omega arith) in (
+    let h = c.args.h.now in
+    let n = (length h - c.args.from) / 4 in
+    let low = raised_size c.requires.1.1.0 in
+    let one = lanes_then (2 * n * 2 ^ 56) ((127 - length h + 2 * n) * 2 ^ 56) c.fourths14-a.ensures c.requires.1.1.1 (λ i. fourths_size _ _ _ _ _ n c.requires.1.0 low) (omega arith) in (
       (omega arith, omega arith, omega arith, omega arith, omega arith),
-      (k.requires.1.0, (k.requires.1.1.0, lanes_then (2 * n * 2 ^ 56) ((127 - (length h - (k.args.from + 4 * n))) * 2 ^ 56) c.fourths14-b.ensures one (λ i. fourths_size _ _ _ _ _ n k.requires.1.0 low) (omega arith))),
+      (c.requires.1.0, (c.requires.1.1.0, lanes_then (2 * n * 2 ^ 56) ((127 - (length h - (c.args.from + 4 * n))) * 2 ^ 56) c.fourths14-b.ensures one (λ i. fourths_size _ _ _ _ _ n c.requires.1.0 low) (omega arith))),
     )
 
 returns : tie.Need-returns

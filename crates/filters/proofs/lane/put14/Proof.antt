@@ -21,10 +21,9 @@ loop-holds c = (search rules, written_none (omega arith))
 
 loop-again : tie.Need-loop-l-preserved invariant-loop decreases-loop
 loop-again c =
-    let l = c.before.before in
-    let u = l.loop-l.invariant.1.same in
-    let s = l.args.t3 in
-    (omega arith, written_more l.loop-l.invariant.1 (omega arith) (omega arith) (val _ _ c.y-1.given (ap (at0 s) (omega arith))) (omega arith))
+    let u = c.loop-l.invariant.1.same in
+    let s = c.args.s in
+    (omega arith, written_more c.loop-l.invariant.1 (omega arith) (omega arith) (val _ _ c.y-1.given (ap (at0 s) (omega arith))) (omega arith))
 
 returns : tie.Need-returns invariant-loop decreases-loop
 returns c =

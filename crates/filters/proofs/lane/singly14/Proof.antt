@@ -25,29 +25,26 @@ loop-holds c = (omega arith, omega arith, added_none _ (λ l. arms_none _ _ _ _ 
 
 tap14_requires : tie.Need-tap14-r-requires invariant-loop decreases-loop
 tap14_requires c κs =
-    let l = c.before.before in
-    let k = l.before.before in
-    let h = k.args.h.now in
-    let n = l.loop-j.j - k.args.from in (
-      (omega arith, omega arith, got l.loop-j.j k.requires.1.0 c.tap14-arg-1.given),
+    let h = c.args.h.now in
+    let n = c.loop-j.j - c.args.from in (
+      (omega arith, omega arith, got c.loop-j.j c.requires.1.0 c.tap14-arg-1.given),
       (
-        k.requires.1.1.0,
-        lanes_then ((length h - k.args.from - 1) * 2 ^ 56) (126 * 2 ^ 56) l.loop-j.invariant.2 k.requires.1.1.1
-            (λ i. omega (arith, arms_size h (raised k.args.v.now) k.args.from (k.args.end + i - 1) (k.args.up + i) n k.requires.1.0 (raised_size k.requires.1.1.0)))
+        c.requires.1.1.0,
+        lanes_then ((length h - c.args.from - 1) * 2 ^ 56) (126 * 2 ^ 56) c.loop-j.invariant.2 c.requires.1.1.1
+            (λ i. omega (arith, arms_size h (raised c.args.v.now) c.args.from (c.args.end + i - 1) (c.args.up + i) n c.requires.1.0 (raised_size c.requires.1.1.0)))
             (omega arith),
       ),
     )
 
 loop-again : tie.Need-loop-j-preserved invariant-loop decreases-loop
 loop-again c =
-    let l = c.before.before.before in
-    let k = l.args in
+    let k = c.args in
     let s = raised k.v.now in
     let h = k.h.now in
-    let j = l.loop-j.j in (
+    let j = c.loop-j.j in (
       omega arith,
       omega arith,
-      added_then l.loop-j.invariant.2 c.tap14-r.ensures
+      added_then c.loop-j.invariant.2 c.tap14-r.ensures
           (λ i.
           ap (λ (z : ℤ). arms h s k.from (k.end + i - 1) (k.up + i) (j - k.from) +ℤ z *ℤ (s (k.end - 1 - j + i) +ℤ s (k.up + j + i))) (val (at0 h j) (at0 h j) c.tap14-arg-1.given refl)
           ∙ arms_more h s k.from k.end k.up j i (omega arith) (omega arith)),

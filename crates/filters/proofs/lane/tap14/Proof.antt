@@ -25,33 +25,29 @@ loop-holds : tie.Need-loop-l-init invariant-loop decreases-loop
 loop-holds c = (search rules, search rules, written_none (omega arith))
 
 pair_requires : tie.Need-pair-r-requires invariant-loop decreases-loop
-pair_requires c κs =
-    let l = c.before.before in
-    let k = l.before.before in (
-      (
-        omega arith,
-        omega arith,
-        rw (to_z-of_z k.ranges.h) k.requires.0.2,
-        sized _ _ _ c.pair-arg-1.given (l.loop-l.invariant.2.above _ (omega arith)) (k.requires.1.1.size _ (omega arith)),
-      ),
-      k.requires.1.0,
-    )
+pair_requires c κs = (
+  (
+    omega arith,
+    omega arith,
+    rw (to_z-of_z c.ranges.h) c.requires.0.2,
+    sized _ _ _ c.pair-arg-1.given (c.loop-l.invariant.2.above _ (omega arith)) (c.requires.1.1.size _ (omega arith)),
+  ),
+  c.requires.1.0,
+)
 
 loop-again : tie.Need-loop-l-preserved invariant-loop decreases-loop
 loop-again c =
-    let l = c.before.before.before in
-    let k = l.args in
-    let i = l.loop-l.l in
+    let k = c.args in
+    let i = c.loop-l.l in
     let v = raised k.v.now in
-    let old = val _ _ c.pair-arg-1.given (l.loop-l.invariant.2.above i (omega arith)) in
+    let old = val _ _ c.pair-arg-1.given (c.loop-l.invariant.2.above i (omega arith)) in
     let new = val _ _ c.pair-r.type_inv c.pair-r.ensures ∙ ap (λ (z : ℤ). z +ℤ t k.h *ℤ (v (k.down + i) +ℤ v (k.up + i))) old in
-    let u = written_more {j = i + 1} l.loop-l.invariant.2 (omega arith) (omega arith) new (omega arith) in
-    (omega arith, omega (arith, u.same, l.loop-l.invariant.2.same), u)
+    let u = written_more {j = i + 1} c.loop-l.invariant.2 (omega arith) (omega arith) new (omega arith) in
+    (omega arith, omega (arith, u.same, c.loop-l.invariant.2.same), u)
 
 returns : tie.Need-returns invariant-loop decreases-loop
 returns c =
-    let k = c.before.before.before in
-    rw (to_z-of_z k.ranges.h) at (written_added c.loop-l.invariant.2 (omega arith))
+    rw (to_z-of_z c.ranges.h) at (written_added c.loop-l.invariant.2 (omega arith))
 
 pub tap14_spec : {M : Type 1} → statement M
 tap14_spec =

@@ -31,55 +31,49 @@ loop-holds c = (search rules, search rules, written_none (omega arith))
 
 pair_requires : tie.Need-pair-q-requires invariant-loop decreases-loop
 pair_requires c κs =
-    let l = c.before.before in
-    let k = l.before.before in
-    let s = k.requires.1.1.size l.loop-l.l (omega arith) in (
+    let s = c.requires.1.1.size c.loop-l.l (omega arith) in (
       (
         omega arith,
         omega arith,
-        rw (to_z-of_z k.ranges.a) k.requires.0.2,
-        sized _ _ (126 * 2 ^ 56) c.pair-arg-1.given (l.loop-l.invariant.2.above _ (omega arith)) (omega (arith, s)),
+        rw (to_z-of_z c.ranges.a) c.requires.0.2,
+        sized _ _ (126 * 2 ^ 56) c.pair-arg-1.given (c.loop-l.invariant.2.above _ (omega arith)) (omega (arith, s)),
       ),
-      k.requires.1.0,
+      c.requires.1.0,
     )
 
 pair_requires_2 : tie.Need-pair-r-requires invariant-loop decreases-loop
 pair_requires_2 c κs =
-    let l = c.before.before.before in
-    let k = l.before.before in
-    let v = raised k.args.v.now in
-    let i = l.loop-l.l in
-    let old = sized _ _ (125 * 2 ^ 56) c.pair-arg-1.given (l.loop-l.invariant.2.above i (omega arith)) (k.requires.1.1.size i (omega arith)) in
-    let a = to_z-of_z k.ranges.a in
-    let low = raised_size k.requires.1.0 in
-    let gain : nat_abs (t k.args.a *ℤ (v (k.args.down + 2 + i) +ℤ v (k.args.up + i))) ≤ 2 ^ 56 = pair_size (t k.args.a) (v (k.args.down + 2 + i)) (v (k.args.up + i)) (rw a k.requires.0.2) (low _) (low _) in (
+    let v = raised c.args.v.now in
+    let i = c.loop-l.l in
+    let old = sized _ _ (125 * 2 ^ 56) c.pair-arg-1.given (c.loop-l.invariant.2.above i (omega arith)) (c.requires.1.1.size i (omega arith)) in
+    let a = to_z-of_z c.ranges.a in
+    let low = raised_size c.requires.1.0 in
+    let gain : nat_abs (t c.args.a *ℤ (v (c.args.down + 2 + i) +ℤ v (c.args.up + i))) ≤ 2 ^ 56 = pair_size (t c.args.a) (v (c.args.down + 2 + i)) (v (c.args.up + i)) (rw a c.requires.0.2) (low _) (low _) in (
       (
         omega arith,
         omega arith,
-        rw (to_z-of_z k.ranges.b) k.requires.0.3,
-        sized _ _ (126 * 2 ^ 56) c.pair-q.type_inv c.pair-q.ensures (omega (arith, old, gain, abs_add (t (at0 l.loop-l.s i)) (t k.args.a *ℤ (v (k.args.down + 2 + i) +ℤ v (k.args.up + i))))),
+        rw (to_z-of_z c.ranges.b) c.requires.0.3,
+        sized _ _ (126 * 2 ^ 56) c.pair-q.type_inv c.pair-q.ensures (omega (arith, old, gain, abs_add (t (at0 c.loop-l.s i)) (t c.args.a *ℤ (v (c.args.down + 2 + i) +ℤ v (c.args.up + i))))),
       ),
-      k.requires.1.0,
+      c.requires.1.0,
     )
 
 loop-again : tie.Need-loop-l-preserved invariant-loop decreases-loop
 loop-again c =
-    let l = c.before.before.before.before in
-    let k = l.args in
-    let i = l.loop-l.l in
+    let k = c.args in
+    let i = c.loop-l.l in
     let v = raised k.v.now in
     let a = t k.a *ℤ (v (k.down + 2 + i) +ℤ v (k.up + i)) in
     let b = t k.b *ℤ (v (k.down + i) +ℤ v (k.up + 2 + i)) in
-    let old = val _ _ c.pair-arg-1.given (l.loop-l.invariant.2.above i (omega arith)) in
+    let old = val _ _ c.pair-arg-1.given (c.loop-l.invariant.2.above i (omega arith)) in
     let mid = val _ _ c.pair-q.type_inv c.pair-q.ensures ∙ ap (λ (z : ℤ). z +ℤ a) old in
     let new = val _ _ c.pair-r.type_inv c.pair-r.ensures ∙ ap (λ (z : ℤ). z +ℤ b) mid ∙ +ℤ_assoc (at0 k.acc i) a b in
-    let u = written_more {j = i + 1} l.loop-l.invariant.2 (omega arith) (omega arith) new (omega arith) in
-    (omega arith, omega (arith, u.same, l.loop-l.invariant.2.same), u)
+    let u = written_more {j = i + 1} c.loop-l.invariant.2 (omega arith) (omega arith) new (omega arith) in
+    (omega arith, omega (arith, u.same, c.loop-l.invariant.2.same), u)
 
 returns : tie.Need-returns invariant-loop decreases-loop
 returns c =
-    let k = c.before.before.before in
-    rw (to_z-of_z k.ranges.a, to_z-of_z k.ranges.b) at (written_added c.loop-l.invariant.2 (omega arith))
+    rw (to_z-of_z c.ranges.a, to_z-of_z c.ranges.b) at (written_added c.loop-l.invariant.2 (omega arith))
 
 pub two14_spec : {M : Type 1} → statement M
 two14_spec =

@@ -22,16 +22,14 @@ loop-holds c = (omega arith, written_none (omega arith))
 
 div_round23_requires : tie.Need-div_round23-r-requires invariant-loop decreases-loop
 div_round23_requires c κs =
-    let l = c.before.before in
-    let e = l.loop-k.invariant.1.above l.loop-k.k (omega arith) in
-    rw (sym e) at (sums_at l.requires l.loop-k.k (omega arith) (rw e at c.div_round23-arg-1.given))
+    let e = c.loop-k.invariant.1.above c.loop-k.k (omega arith) in
+    rw (sym e) at (sums_at c.requires c.loop-k.k (omega arith) (rw e at c.div_round23-arg-1.given))
 
 loop-again : tie.Need-loop-k-preserved invariant-loop decreases-loop
 loop-again c =
-    let l = c.before.before.before in
-    let u = l.loop-k.invariant.1.same in
-    let e = l.loop-k.invariant.1.above l.loop-k.k (omega arith) in
-    let w = written_more {j = l.loop-k.k + 1} l.loop-k.invariant.1 (omega arith) (omega arith) (stored 23 l.args.y.now l.loop-k.k (rw e at (val _ _ c.div_round23-r.type_inv c.div_round23-r.ensures)) (rw e at c.div_round23-arg-1.given)) (omega arith) in
+    let u = c.loop-k.invariant.1.same in
+    let e = c.loop-k.invariant.1.above c.loop-k.k (omega arith) in
+    let w = written_more {j = c.loop-k.k + 1} c.loop-k.invariant.1 (omega arith) (omega arith) (stored 23 c.args.y.now c.loop-k.k (rw e at (val _ _ c.div_round23-r.type_inv c.div_round23-r.ensures)) (rw e at c.div_round23-arg-1.given)) (omega arith) in
     (omega (arith, w.same), w)
 
 returns : tie.Need-returns invariant-loop decreases-loop

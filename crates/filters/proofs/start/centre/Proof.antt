@@ -26,24 +26,20 @@ loop-holds c = (omega arith, written_none (omega arith))
 
 product_requires : tie.Need-product-r-requires invariant-loop decreases-loop
 product_requires c κs =
-    let l = c.before.before in
-    let k = l.before.before in
-    let f = k.ranges.h in
-    (omega (arith, ap nat_abs (to_z-of_z f), k.requires.0.1), k.requires.1.size _)
+    let f = c.ranges.h in
+    (omega (arith, ap nat_abs (to_z-of_z f), c.requires.0.1), c.requires.1.size _)
 
 loop-again : tie.Need-loop-k-preserved invariant-loop decreases-loop
 loop-again c =
-    let l = c.before.before.before in
-    let k = l.args in
-    let u = l.loop-k.invariant.1.same in
-    let w = written_more {j = l.loop-k.k + 1} l.loop-k.invariant.1 (omega arith) (omega arith) (centre_lane (t k.h) k.v.now (k.at + l.loop-k.k) (val _ _ c.product-r.type_inv c.product-r.ensures)) (omega arith) in
+    let k = c.args in
+    let u = c.loop-k.invariant.1.same in
+    let w = written_more {j = c.loop-k.k + 1} c.loop-k.invariant.1 (omega arith) (omega arith) (centre_lane (t k.h) k.v.now (k.at + c.loop-k.k) (val _ _ c.product-r.type_inv c.product-r.ensures)) (omega arith) in
     (omega (arith, w.same), w)
 
 returns : tie.Need-returns invariant-loop decreases-loop
 returns c =
-    let k = c.before.before.before in
     let l = c.loop-k in
-    filled_as (written_filled l.invariant.1 (omega (arith, l.invariant.1.same))) (λ i m. ap (λ (z : ℤ). z *ℤ raised k.args.v.now (k.args.at + i)) (to_z-of_z k.ranges.h))
+    filled_as (written_filled l.invariant.1 (omega (arith, l.invariant.1.same))) (λ i m. ap (λ (z : ℤ). z *ℤ raised c.args.v.now (c.args.at + i)) (to_z-of_z c.ranges.h))
 
 pub centre_spec : {M : Type 1} → statement M
 centre_spec =

@@ -21,9 +21,8 @@ loop-holds c = (omega arith, written_none (omega arith))
 
 loop-again : tie.Need-loop-k-preserved invariant-loop decreases-loop
 loop-again c =
-    let l = c.before in
-    let u = l.loop-k.invariant.1.same in
-    let w = written_more {j = l.loop-k.k + 1} l.loop-k.invariant.1 (omega arith) (omega arith) refl (omega arith) in
+    let u = c.loop-k.invariant.1.same in
+    let w = written_more {j = c.loop-k.k + 1} c.loop-k.invariant.1 (omega arith) (omega arith) refl (omega arith) in
     (omega (arith, w.same), w)
 
 returns : tie.Need-returns invariant-loop decreases-loop

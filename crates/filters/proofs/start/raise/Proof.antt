@@ -20,14 +20,13 @@ loop-holds : tie.Need-loop-k-init invariant-loop decreases-loop
 loop-holds c = (omega arith, refl, raised_none c.requires.1.1)
 
 lift_requires : tie.Need-lift-r-requires invariant-loop decreases-loop
-lift_requires c κs = let l = c.before.before in got l.loop-k.k l.requires.1.0 c.lift-arg-1.given
+lift_requires c κs = got c.loop-k.k c.requires.1.0 c.lift-arg-1.given
 
 loop-again : tie.Need-loop-k-preserved invariant-loop decreases-loop
 loop-again c =
-    let l = c.before.before.before in
-    let x = l.args.x.now in
+    let x = c.args.x.now in
     let r = c.lift-r.ensures in
-    (omega arith, search rules, raised_more l.loop-k.invariant.2 (omega arith) (read_lifted x l.loop-k.k r.0 c.lift-arg-1.given) r.1 (omega arith))
+    (omega arith, search rules, raised_more c.loop-k.invariant.2 (omega arith) (read_lifted x c.loop-k.k r.0 c.lift-arg-1.given) r.1 (omega arith))
 
 returns : tie.Need-returns invariant-loop decreases-loop
 returns c = let l = c.loop-k in let e : l.k ≡ length c.args.x.now = omega arith in rw e at l.invariant.2

@@ -21,16 +21,15 @@ loop-holds : tie.Need-loop-k-init invariant-loop decreases-loop
 loop-holds c = (omega arith, refl, raised_none c.requires.1.1)
 
 lift_requires : tie.Need-lift-r-requires invariant-loop decreases-loop
-lift_requires c κs = let l = c.before.before in let k = l.before.before in got (2 * l.loop-k.k + k.args.from) k.requires.1.0 c.lift-arg-1.given
+lift_requires c κs = got (2 * c.loop-k.k + c.args.from) c.requires.1.0 c.lift-arg-1.given
 
 loop-again : tie.Need-loop-k-preserved invariant-loop decreases-loop
 loop-again c =
-    let l = c.before.before.before in
-    let a = l.args in
+    let a = c.args in
     let x = a.x.now in
-    let j = l.loop-k.k in
+    let j = c.loop-k.k in
     let r = c.lift-r.ensures in
-    (omega arith, search rules, raised_more l.loop-k.invariant.2 (omega arith) (read_lifted x (2 * j + a.from) r.0 c.lift-arg-1.given ∙ second_lifted a.from x j (omega arith)) r.1 (omega arith))
+    (omega arith, search rules, raised_more c.loop-k.invariant.2 (omega arith) (read_lifted x (2 * j + a.from) r.0 c.lift-arg-1.given ∙ second_lifted a.from x j (omega arith)) r.1 (omega arith))
 
 returns : tie.Need-returns invariant-loop decreases-loop
 returns c = let l = c.loop-k in let a = c.args in let e : l.k ≡ (length a.x.now + 1 - a.from) / 2 = omega arith in rw e at l.invariant.2
