@@ -1,5 +1,6 @@
 // The gain call, and module 6 of document 01: scaling.
 #![tactic(auto)]
+
 ghost use Rattle.std.specs.Prelude.{◌≡◌};
 ghost use Rattle.gain.specs.Tallies.{none, joined, Joins};
 

@@ -16,14 +16,14 @@ add_clipped c = search rules
 low_is : (c : tie.After-lowest_of-lowest) → let s = c.args in
     to_z w64 (of_z w64 c.lowest_of-lowest.result) ≡ pick_unmarked lesser s.a.empty s.a.lowest s.b.empty s.b.lowest
 low_is c =
-    to_z-of_z (record { sfits = c.lowest_of-lowest.type_inv })
-    ∙ rw (to_z-of_z (record { sfits = c.struct_told-1.given.1.0.1 }), to_z-of_z (record { sfits = c.struct_told-2-1.given.1.0.1 })) at c.lowest_of-lowest.ensures
+    to_z-of_z {w = w64} (record { sfits = c.lowest_of-lowest.type_inv })
+    ∙ rw (to_z-of_z {w = w64} (record { sfits = c.struct_told-1.given.1.0.1 }), to_z-of_z {w = w64} (record { sfits = c.struct_told-2-1.given.1.0.1 })) at c.lowest_of-lowest.ensures
 
 high_is : (c : tie.After-highest_of-highest) → let s = c.args in
     to_z w64 (of_z w64 c.highest_of-highest.result) ≡ pick_unmarked greater s.a.empty s.a.highest s.b.empty s.b.highest
 high_is c =
-    to_z-of_z (record { sfits = c.highest_of-highest.type_inv })
-    ∙ rw (to_z-of_z (record { sfits = c.struct_told-3-1.given.1.1.0.1 }), to_z-of_z (record { sfits = c.struct_told-4-1.given.1.1.0.1 })) at c.highest_of-highest.ensures
+    to_z-of_z {w = w64} (record { sfits = c.highest_of-highest.type_inv })
+    ∙ rw (to_z-of_z {w = w64} (record { sfits = c.struct_told-3-1.given.1.1.0.1 }), to_z-of_z {w = w64} (record { sfits = c.struct_told-4-1.given.1.1.0.1 })) at c.highest_of-highest.ensures
 
 returns : tie.Need-returns-then-none_a
 unfolding joined

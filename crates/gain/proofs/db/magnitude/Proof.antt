@@ -36,7 +36,7 @@ plus_is (fin false m e) z h = refl
 
 returns : tie.Need-returns-then-db
 unfolding of_bits
-returns c = zero_is c.args.db (subst T (sym c.before.well-formed.0.1) tt) c.if-db.true
+returns c = zero_is c.args.db (subst T (sym c.before.well_formed.0.1) tt) c.if-db.true
 
 returns-2 : tie.Need-returns-then-db-2
 unfolding of_bits

@@ -2,7 +2,7 @@
 use mathlib.Core.Path.{◌≡◌, sym, ◌∙◌, subst}
 use mathlib.Core.Bool.{true, false, not}
 use borrow.Author.Rules.{rules}
-use borrow.Author.Tests.{ne_eqb, not-true, not-false}
+use borrow.Author.Tests.{ne_eqb}
 use lib.Dec.{T, eqb}
 use lib.Ieee.{Float, nan, binary64, is_nan, ne, to_bits}
 use lib.Ieee.Fits.{nan-fits}
@@ -33,10 +33,10 @@ unfolding right_gain
 by_bits g x a e = rw (a, e)
 
 is_allowed : (c : tie.Else-not-allowed) → allowed c.args.g.db ≡ true
-is_allowed c = sym c.allowed.ensures ∙ not-false _ c.if-not-allowed.false
+is_allowed c = sym c.allowed.ensures ∙ c.if-not-allowed.false
 
 returns : tie.Need-returns-then-not-allowed
-returns c = not_allowed c.args.g (sym c.allowed.ensures ∙ not-true _ c.if-not-allowed.true)
+returns c = not_allowed c.args.g (sym c.allowed.ensures ∙ c.if-not-allowed.true)
 
 returns-2 : tie.Need-returns-then-linear
 returns-2 c = no_number c.args.g (is_allowed c.before) c.if-linear.true

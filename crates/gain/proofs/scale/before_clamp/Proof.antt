@@ -1,5 +1,5 @@
 -- `before_clamp` meets its contract.
-use mathlib.Core.Path.{◌≡◌, ◌∙◌}
+use mathlib.Core.Path.{◌≡◌}
 use Prim.Native.Nat.{◌^◌, ◌<◌}
 use native.Mathlib.Omega.{arith}
 use lib.Dec.{T}
@@ -21,10 +21,10 @@ small c = omega (arith, nat_abs-le c.args.y c.ranges.y.sfits)
 
 -- y, read back from its bits, as it comes and widened
 narrow : (c : tie.Start) → to_z w32 (of_z w32 c.args.y) ≡ c.args.y
-narrow c = to_z-of_z c.ranges.y
+narrow c = to_z-of_z {w = w32} c.ranges.y
 
 widened : (c : tie.Start) → to_z w64 (of_z w64 (to_z w32 (of_z w32 c.args.y))) ≡ c.args.y
-widened c = rw (narrow c) (to_z-of_z (sfits_abs (omega (arith, small c))))
+widened c = rw (narrow c) (to_z-of_z {w = w64} (sfits_abs (omega (arith, small c))))
 
 cast_product : tie.Need-overflow_cast-y
 cast_product c = rw (narrow c) (sfits_abs (omega (arith, small c)))

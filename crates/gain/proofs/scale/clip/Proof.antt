@@ -1,6 +1,5 @@
 -- `clip` meets its contract.
 use mathlib.Core.Path.{◌≡◌, refl, sym, ap, ◌∙◌, subst}
-use mathlib.Core.Logic.{⊎_elim}
 use mathlib.Core.Bool.{Bool, true, false, cond}
 use lib.IntN.{ℤ, pos, negsuc}
 use lib.Signed.{lt_z}
@@ -10,6 +9,7 @@ use lib.Ieee.Back.{Float-back_signed}
 use Rattle.reference.specs.Scaling.{clamp}
 use Rattle.floats.proofs.Wholes.{lt_whole}
 use Rattle.gain.proofs.scale.clip.Statement.{statement}
+use Rattle.gain.proofs.scale.clip.Lts.{then-z, else-z}
 use Rattle.gain.proofs.scale.clip.Tie as tie
 
 -- ---- of whole numbers
@@ -38,7 +38,7 @@ abbrev Z : tie.Start → ℤ
 Z c = to_signed 63 c.args.z
 
 z_back : (c : tie.Start) → T (in_float binary64 (Z c)) × (of_int binary64 (Z c) ≡ c.args.z)
-z_back c = Float-back_signed binary64 63 c.args.z (subst T (sym c.well-formed.0.1) tt) c.requires
+z_back c = Float-back_signed binary64 63 c.args.z (subst T (sym c.well_formed.0.1) tt) c.requires
 
 upper : (c : tie.Start) (b : Bool) → lt (of_int binary64 (pos 8388607)) c.args.z ≡ b → cond b (of_int binary64 (pos 8388607)) c.args.z ≡ of_int binary64 (at_most (Z c))
 unfolding in_float
@@ -48,11 +48,11 @@ upper c b h = go b (sym (lt_whole binary64 (pos 8388607) (Z c) tt (z_back c).0) 
     go true k = rw k
     go false k = rw (k, (z_back c).1)
 
-capped_is : (c : tie.Joined1) → c.if-z.capped ≡ of_int binary64 (at_most (Z c.before))
+capped_is : (c : tie.Joined-z) → c.if-z.capped ≡ of_int binary64 (at_most (Z c.before))
 unfolding of_bits of_int
-capped_is c = ⊎_elim (λ w. w.1 ∙ upper c.before true w.0.taken) (λ w. w.1 ∙ upper c.before false w.0.left) c.if-z.branch
+capped_is c = elim c.if-z.branch [ then-z w ↦ w.capped-is ∙ upper c.before true w.if-z.true | else-z w ↦ w.capped-is ∙ upper c.before false w.if-z.false ]
 
-capped_test : (c : tie.Joined1) → lt c.if-z.capped (of_int binary64 (negsuc 8388607)) ≡ lt_z (at_most (Z c.before)) (negsuc 8388607)
+capped_test : (c : tie.Joined-z) → lt c.if-z.capped (of_int binary64 (negsuc 8388607)) ≡ lt_z (at_most (Z c.before)) (negsuc 8388607)
 unfolding in_float
 capped_test c = rw (capped_is c) (lt_whole binary64 (at_most (Z c.before)) (negsuc 8388607) (at_most_exact (Z c.before) (z_back c.before).0) tt)
 

@@ -1,8 +1,8 @@
 -- `scale` meets its contract.
-use mathlib.Core.Path.{◌≡◌, ◌∙◌}
+use mathlib.Core.Path.{◌≡◌}
 use borrow.Author.Rules.{rules}
 use lib.IntN.{ℤ}
-use lib.Ieee.{binary64, of_int, ne}
+use lib.Ieee.{binary64, of_int}
 use mir.Syntax.{w32, w64}
 use mir.ValLaws.{to_z-of_z}
 use Rattle.reference.specs.Scaling.{scaled, clamp}

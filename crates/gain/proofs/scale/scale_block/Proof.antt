@@ -1,5 +1,5 @@
 -- `scale_block` meets its contract: before turn i the first i samples are written, their clips counted, their least and greatest y known.
-use mathlib.Core.Path.{◌≡◌, refl, sym, ap, ◌∙◌}
+use mathlib.Core.Path.{◌≡◌, refl, ap, ◌∙◌}
 use mathlib.Core.Bool.{Bool, cond}
 use mathlib.Core.List.{List}
 use Prim.Native.Nat.{ℕ, suc, ◌+◌, ◌-◌, ◌^◌, ◌<◌, ◌≤◌}
@@ -56,16 +56,16 @@ picked_more pick s ys i fits e f g = let t : i + 1 ≡ suc i = omega arith in to
 
 -- ---- a turn
 abbrev Y : tie.In-loop-i invariant-loop decreases-loop → ℤ
-Y c = at0 c.before.before.args.ys.now c.before.loop.i
+Y c = at0 c.args.ys.now c.loop-i.i
 
 small : (c : tie.In-loop-i invariant-loop decreases-loop) → nat_abs (Y c) < 2 ^ 31
 small c = c.requires.1.1 c.loop-i.i c.loop-i-test.true
 
 y_back : (c : tie.In-loop-i invariant-loop decreases-loop) → to_z w64 (of_z w64 (Y c)) ≡ Y c
-y_back c = to_z-of_z (sfits_abs (omega (arith, small c)))
+y_back c = to_z-of_z {w = w64} (sfits_abs (omega (arith, small c)))
 
 short_back : (c : tie.In-loop-i invariant-loop decreases-loop) → to_z w32 (of_z w32 (to_z w64 (of_z w64 (Y c)))) ≡ Y c
-short_back c = rw (y_back c) (to_z-of_z (sfits_abs (small c)))
+short_back c = rw (y_back c) (to_z-of_z {w = w32} (sfits_abs (small c)))
 
 within_out : (c : tie.In-loop-i invariant-loop decreases-loop) → c.loop-i.i < length c.loop-i.out
 within_out c = omega (arith, c.loop-i.invariant.same, c.requires.0, c.loop-i-test.true)
@@ -79,7 +79,7 @@ unfolding total picked
 loop-holds c = record { same = refl; reached = omega (arith, c.requires.0.0); done = λ k h. absurd (not-suc-le-zero h); counted = refl; low = refl; high = refl }
 
 mul_y : tie.Need-offset_bounds-ys-i invariant-loop decreases-loop
-mul_y c = scaled_Fits c.loop-i.i (length c.args.ys.now) 8 c.loop-i-test.true c.before.before.well-formed.0.1
+mul_y c = scaled_Fits c.loop-i.i (length c.args.ys.now) 8 c.loop-i-test.true c.before.before.well_formed.0.1
 
 scale_requires : tie.Need-scale-s-requires invariant-loop decreases-loop
 scale_requires c κs = rw (y_back c.before) (omega (arith, small c.before), c.requires.1.0)
@@ -88,7 +88,7 @@ mul_sample : tie.Need-offset_bounds-out-i invariant-loop decreases-loop
 mul_sample c =
     let at = c.before.before.before in
     let start = at.before.before in
-    scaled_Fits at.loop-i.i (length start.args.out.now) 4 (omega (arith, start.requires.0, at.loop-i-test.true)) start.well-formed.1.1.0.1
+    scaled_Fits at.loop-i.i (length start.args.out.now) 4 (omega (arith, start.requires.0, at.loop-i-test.true)) start.well_formed.1.1.0.1
 
 slice_set_from_sample : tie.Need-bounds-out-i invariant-loop decreases-loop
 slice_set_from_sample c = within_out c.before.before.before
@@ -99,7 +99,7 @@ add_clipped c =
     let at = sc.before.before in
     let start = at.before.before in
     let p : ℕ → Bool = λ k. clips (F start.args.factor start.args.ys.now k) in
-    omega (arith, count_few p 0 (at.loop-i.i + 1), few_more p at.loop-i.i at.loop-i.invariant.counted (gave sc).is_clipped, at.loop-i-test.true, start.well-formed.0.1)
+    omega (arith, count_few p 0 (at.loop-i.i + 1), few_more p at.loop-i.i at.loop-i.invariant.counted (gave sc).is_clipped, at.loop-i-test.true, start.well_formed.0.1)
 
 cast_short : tie.Need-overflow_cast-short invariant-loop decreases-loop
 cast_short c = let at = c.before.before.before.before in rw (y_back at) (sfits_abs (small at))
@@ -136,8 +136,8 @@ same_length : tie.Need-shape_of-out invariant-loop decreases-loop
 same_length c = c.loop-i.invariant.same
 
 -- what the two give
-lowest_is : (c : tie.After-before_clamp-lowest invariant-loop decreases-loop) → to_z w64 (of_z w64 c.before-clamp.result) ≡ scaled c.args.factor (least_y c.args.ys.now c.loop-i.i)
-lowest_is c = to_z-of_z (record { sfits = c.before-clamp.type_inv }) ∙ c.before-clamp.ensures ∙ ap (scaled _) c.loop-i.invariant.low
+lowest_is : (c : tie.After-before_clamp-lowest invariant-loop decreases-loop) → to_z w64 (of_z w64 c.before_clamp-lowest.result) ≡ scaled c.args.factor (least_y c.args.ys.now c.loop-i.i)
+lowest_is c = to_z-of_z {w = w64} (record { sfits = c.before_clamp-lowest.type_inv }) ∙ c.before_clamp-lowest.ensures ∙ ap (scaled _) c.loop-i.invariant.low
 
 returns : tie.Need-returns invariant-loop decreases-loop
 returns c =
@@ -145,8 +145,8 @@ returns c =
     let start = c.before.before.before.before in
     let ys = start.args.ys.now in
     let e : l.i ≡ length ys = le_antisymm l.invariant.reached c.loop-i-test.false in
-    let high : to_z w64 (of_z w64 c.before-clamp2.result) ≡ scaled start.args.factor (greatest_y ys l.i)
-    = to_z-of_z (record { sfits = c.before-clamp2.type_inv }) ∙ c.before-clamp2.ensures ∙ ap (scaled _) l.invariant.high in
+    let high : to_z w64 (of_z w64 c.before_clamp-highest.result) ≡ scaled start.args.factor (greatest_y ys l.i)
+    = to_z-of_z {w = w64} (record { sfits = c.before_clamp-highest.type_inv }) ∙ c.before_clamp-highest.ensures ∙ ap (scaled _) l.invariant.high in
     record {
       same_length = l.invariant.same;
       samples = λ k h. l.invariant.done k (rw e h);
