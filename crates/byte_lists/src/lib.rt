@@ -1,5 +1,6 @@
 // Lists of bytes: where one holds a byte, and whether two are the same.
 #![tactic(auto)]
+
 ghost use Rattle.std.specs.Prelude.{◌≡◌, ◌≤◌, length};
 ghost use Rattle.byte_lists.specs.Lists.{EndAt, same};
 

@@ -1,5 +1,6 @@
 // Numbers right-aligned in columns, put into a lent slice.
 #![tactic(auto)]
+
 ghost use Rattle.std.specs.Prelude.{◌≡◌, ◌+◌, ◌≤◌, length, replicate};
 ghost use Rattle.level_lines.specs.Text as texts;
 ghost use Rattle.level_lines.specs.Text.{Printed};

@@ -1,5 +1,6 @@
 // The lines that the level report prints.
 #![tactic(auto)]
+
 ghost use Rattle.std.specs.Prelude.{◌+◌, ◌≤◌, length};
 ghost use Rattle.level_lines.specs.Text.{Printed};
 ghost use Rattle.level_lines.specs.Lines as lines;

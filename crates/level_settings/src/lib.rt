@@ -1,5 +1,6 @@
 // The level report's first line, which it reads.
 #![tactic(auto)]
+
 ghost use Rattle.level_settings.specs.Settings.{LineRead};
 
 use reference::{Cutoff, PcmRate};

@@ -3,7 +3,6 @@ use mathlib.Core.Path.{◌≡◌, ap}
 use Prim.Native.Nat.{◌+◌}
 use native.Mathlib.Omega.{arith}
 use lib.ListN.{length, length-append}
-use borrow.Author.Rules.{rules}
 use Rattle.level_lines.specs.Text.{decimal}
 use Rattle.level_lines.proofs.Numerals.{places, one_digit, last_digit}
 use Rattle.columns.proofs.digits.Statement.{statement}

@@ -1,8 +1,5 @@
 -- `size` meets its contract.
-use mathlib.Core.Path.{◌≡◌, sym, ap, ◌∙◌}
-use Prim.Native.Nat.{◌+◌}
 use native.Mathlib.Omega.{arith}
-use lib.IntN.{nat_abs}
 use borrow.Author.Rules.{rules}
 use Rattle.level_lines.proofs.Signs.{minus_fits, minus_is, minus_size, plain_is, cast, size_fits, below_fits}
 use Rattle.level_lines.proofs.text.size.Statement.{statement}
