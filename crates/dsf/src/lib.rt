@@ -1,5 +1,6 @@
 // A DSF file's header, in Sony's layout: what is refused, and what the file holds. The definition is in specs/.
 #![tactic(auto)]
+
 mod bytes;
 mod fields;
 mod header;

@@ -27,7 +27,7 @@ use Rattle.dsf.proofs.Accepted.{sound_at, head_channels}
 use Rattle.dsf.proofs.Tests.{too_short}
 use Rattle.dsf.proofs.Head.{whole_head, header_right}
 use Rattle.dsf_frames.specs.Reading.{lesser, window_start, window_end, frame_window, asked_places, window_places, window_data, window_frame, Framed, WindowOf}
-use Rattle.dsf_frames.specs.Columns.{WindowArgs, ColumnArgs}
+use Rattle.dsf_frames.specs.Columns.{WindowArgs}
 use Rattle.dsf_frames.specs.declared.FrameWindow.{FrameWindow}
 use Rattle.dsf_frames.proofs.Windows.{place_at, above, within, column_args, turn_at}
 

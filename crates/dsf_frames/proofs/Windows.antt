@@ -1,9 +1,8 @@
 -- A frame out of a window: bytes at a stride, a channel put together from pieces, a frame from its channels.
 use mathlib.Core.Path.{◌≡◌, refl, sym, ap, ap₂, ◌∙◌}
 use mathlib.Core.List.{List}
-use mathlib.Core.Bool.{true, false, cond}
 use mathlib.Core.Logic.{◌≢◌, ⊎_elim}
-use Prim.Native.Nat.{ℕ, suc, ◌+◌, ◌*◌, ◌-◌, ◌/◌, ◌%◌, ◌^◌, ◌≤◌, ◌<◌}
+use Prim.Native.Nat.{ℕ, ◌+◌, ◌*◌, ◌-◌, ◌/◌, ◌%◌, ◌^◌, ◌≤◌, ◌<◌}
 use native.Mathlib.Nat.{add-mul, mul-le-mul, mul-le-mul_right, mul_assoc, mod-lt, div-add-mod', div-lt_iff_lt-mul}
 use native.Mathlib.Omega.{arith}
 use lib.Dec.{leb, ltb, lt→ltb, ltb→lt}
@@ -11,7 +10,7 @@ use lib.ListN.{length, get_or, set, take, drop, length-set, length-drop}
 use lib.Seq.{get_or-set_same, get_or-set_other, get_or-take, get_or-drop, length-take-le}
 use borrow.Author.Tests.{le-leb, lt-leb}
 use Rattle.numbers.proofs.Lists.{below_or, is_tabulate}
-use Rattle.reference.specs.Frames.{frame_length, idle}
+use Rattle.reference.specs.Frames.{idle}
 use Rattle.dsf.specs.Dsf.{blocks, data_place, our_byte, sample_byte, turn_byte, data_frame}
 use Rattle.dsf_frames.specs.Reading.{lesser, window_start, window_end, window_data}
 use Rattle.dsf_frames.specs.Columns.{WindowArgs, Strided, Column, column_byte, Ordering, ColumnArgs}

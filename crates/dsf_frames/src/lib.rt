@@ -1,5 +1,6 @@
 // Frames of a DSF file in our layout. The definition is in dsf's specs, the promises in specs/.
 #![tactic(auto)]
+
 mod bits;
 mod columns;
 mod frames;

@@ -31,7 +31,7 @@ format_is : (c : tie.After-both-lengths) → c.both-format.result ≡ (fits (hea
 unfolding samples
 format_is c =
     let count = (needed_known c).before in
-    c.both-format.ensures ∙ ap₂ (λ (u v : Bool). u && v) count.before.at_frequency.ensures (ap (λ (k : ℕ). eqb (k % 8) 0) count.number.ensures)
+    c.both-format.ensures ∙ ap₂ (λ (u v : Bool). u && v) count.before.at_frequency-a.ensures (ap (λ (k : ℕ). eqb (k % 8) 0) count.number.ensures)
 
 lengths_are : (c : tie.After-both-lengths) → c.both-lengths.result ≡ (eqb (stated_length (head c)) (total c) && (eqb (data_size (head c)) (12 + needed (head c)) && leb (80 + data_size (head c)) (total c)))
 unfolding stated_length data_size

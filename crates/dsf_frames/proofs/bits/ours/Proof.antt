@@ -1,5 +1,4 @@
 -- `ours` meets its contract.
-use mathlib.Core.Path.{sym, ◌∙◌}
 use lib.Dec.{eqb, eqb→eq}
 use Rattle.dsf.specs.Dsf.{our_byte}
 use Rattle.dsf.proofs.Alike.{not_T_is}

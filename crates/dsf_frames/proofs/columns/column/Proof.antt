@@ -1,9 +1,7 @@
 -- `column` meets its contract.
 use mathlib.Core.Path.{◌≡◌, refl, ◌∙◌}
-use Prim.Native.Nat.{ℕ, ◌+◌, ◌*◌, ◌-◌, ◌/◌, ◌≤◌, ◌<◌}
+use Prim.Native.Nat.{◌+◌, ◌-◌, ◌≤◌}
 use native.Mathlib.Omega.{arith}
-use borrow.Author.Rules.{rules}
-use lib.ListN.{length}
 use Rattle.dsf_frames.specs.Columns.{Column, column_byte}
 use Rattle.dsf_frames.proofs.Windows.{column_none, above, small, within, cells, cell_small, lent_small, piece_fits, piece, rest}
 use Rattle.dsf_frames.proofs.columns.column.Statement.{statement}

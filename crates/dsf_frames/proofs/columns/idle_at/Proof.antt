@@ -3,7 +3,6 @@ use mathlib.Core.Path.{◌≡◌, refl}
 use Prim.Native.Nat.{◌+◌, ◌*◌, ◌-◌, ◌≤◌}
 use native.Mathlib.Nat.{mul-le-mul_right, add-mul}
 use native.Mathlib.Omega.{arith}
-use lib.ListN.{length, get_or}
 use Rattle.reference.specs.Frames.{idle}
 use Rattle.dsf_frames.specs.Columns.{Strided}
 use Rattle.dsf_frames.proofs.Windows.{strided_none, strided_more}

@@ -4,7 +4,6 @@ use Prim.Native.Nat.{◌+◌, ◌*◌, ◌-◌, ◌≤◌}
 use native.Mathlib.Nat.{mul-le-mul_right, add-mul}
 use native.Mathlib.Omega.{arith}
 use lib.ListN.{length, get_or}
-use Rattle.reference.specs.Frames.{idle}
 use Rattle.dsf_frames.specs.Columns.{Strided}
 use Rattle.dsf_frames.proofs.Windows.{strided_none, strided_more}
 use Rattle.dsf_frames.proofs.columns.spread.Statement.{statement}

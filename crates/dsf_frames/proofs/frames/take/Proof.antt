@@ -36,9 +36,8 @@ returns c =
 returns-2 : tie.Need-returns-in-Refused
 returns-2 c =
     let asked = c.before in
-    let told = c.in-Refused.given in
-    let e = sym asked.asked-verdict.ensures ∙ ap decision told.1 in
-    record { decided = sym e; written = sym (exit_refused _ _ _ (ap is_accepted e ∙ error_refuses told.0.0)) }
+    let e = sym asked.asked-verdict.ensures ∙ ap decision c.in-Refused.is in
+    record { decided = sym e; written = sym (exit_refused _ _ _ (ap is_accepted e ∙ error_refuses c.in-Refused.e)) }
 
 pub take_spec : {M : Type 1} → statement M
 take_spec =

@@ -38,9 +38,8 @@ returns-2 c =
     let opened = c.before.before in
     let a = opened.args in
     let r = opened.read_header-opened in
-    let told = c.in-Refused.given in
-    let e = sym (ap decision told.1) ∙ r.ensures.decided in
-    window_refused a.head.now a.length a.frame a.start _ e (ap is_accepted (sym e) ∙ error_refuses told.0.0)
+    let e = sym (ap decision c.in-Refused.is) ∙ r.ensures.decided in
+    window_refused a.head.now a.length a.frame a.start _ e (ap is_accepted (sym e) ∙ error_refuses c.in-Refused.e)
 
 pub window_frame_spec : {M : Type 1} → statement M
 window_frame_spec =
