@@ -3,8 +3,9 @@
 mod figure;
 
 use figure::{Figure, to_six_digits};
-use libc::STDOUT_FILENO;
 use reference::FromDb;
+use std::io;
+use std::io::Write;
 
 // The last twelve digits of n.
 fn digits(n: u64) -> [u8; 12] {
@@ -39,70 +40,51 @@ fn ten_to(k: u64) -> u64 {
     TENS[(k % 12) as usize]
 }
 
-fn write(text: &[u8]) -> bool {
-    io::write_all(STDOUT_FILENO, text)
+// What cannot be written down: no factor of a whole number of decibels is that.
+fn untold() -> io::Error {
+    io::Error::other("a factor that cannot be written down")
 }
 
-fn write_figure(f: Figure) -> bool {
+fn write_figure<W: Write>(f: Figure, to: &mut W) -> io::Result<()> {
     let all = f.digits;
     let ten = ten_to(f.decimals);
     let text = digits(all);
     let behind = 12 - (f.decimals % 12) as usize;
     if ten == 0 {
-        return false;
+        return Err(untold());
     }
-    if !io::print_decimal(STDOUT_FILENO, all / ten) {
-        return false;
-    }
-    if !write(b".") {
-        return false;
-    }
-    write(&text[behind..12])
+    let whole = all / ten;
+    write!(to, "{whole}.")?;
+    to.write_all(&text[behind..12])
 }
 
 // -120 to 24 as 0 to 144.
-fn write_decibels(k: u32) -> bool {
+fn write_decibels<W: Write>(k: u32, to: &mut W) -> io::Result<()> {
     if k < 120 {
-        if !write(b"-") {
-            return false;
-        }
-        return io::print_decimal(STDOUT_FILENO, (120 - k) as u64);
+        let below = 120 - k;
+        return write!(to, "-{below}");
     }
-    io::print_decimal(STDOUT_FILENO, (k - 120) as u64)
+    let decibels = k - 120;
+    write!(to, "{decibels}")
 }
 
-fn write_line(k: u32) -> bool {
+fn write_line<W: Write>(k: u32, to: &mut W) -> io::Result<()> {
     let FromDb::Made(gain) = gain::from_db(k as f64 - 120.0) else {
-        return false;
+        return Err(untold());
     };
-    if !write_decibels(k) {
-        return false;
-    }
-    if !write(b" ") {
-        return false;
-    }
+    write_decibels(k, to)?;
+    to.write_all(b" ")?;
     let linear = gain.linear;
-    if !write_figure(to_six_digits(linear)) {
-        return false;
-    }
-    write(b"\n")
+    write_figure(to_six_digits(linear), to)?;
+    to.write_all(b"\n")
 }
 
-// A line, or what went wrong with it.
-fn line_told(k: u32) -> bool {
-    if write_line(k) {
-        return true;
-    }
-    os::fail(b"standard output");
-    false
-}
-
-fn main() {
+fn main(rt: HostRuntime) -> io::Result<()> {
+    let mut to = rt.stdout();
     let mut k = 0u32;
     while k < 145 {
-        if !line_told(k) {
-            return;
-        }
+        write_line(k, &mut to)?;
         k += 1;
     }
+    Ok(())
 }

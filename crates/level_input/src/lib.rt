@@ -1,45 +1,34 @@
-// Reading from a descriptor, which may give its bytes in pieces of any size; and the buffer of three frames moved on.
+// Reading from a reader, which may give its bytes in pieces of any size; and the buffer of three frames moved on.
 #![tactic(auto)]
-ghost use Rattle.std.specs.Prelude.{◌≡◌, ◌+◌, ◌*◌, ◌<◌, ◌≤◌, length};
+
+ghost use Rattle.std.specs.Prelude.{◌≡◌, ◌+◌, ◌*◌, ◌<◌, ◌≤◌, length, IfOk};
 ghost use Rattle.level_input.specs.Moved.{moved_on};
 
-// How many bytes came, and whether a read failed; where none did, fewer bytes than asked for mean that the input has ended.
-#[derive(Clone, Copy)]
-pub struct Filled {
-    pub n: usize,
-    pub failed: bool,
-}
+use std::io;
+use std::io::Read;
 
-// One read into the slice from place n on; at least a byte, or nothing. A read that fails is told on standard error.
-pub fn read_some(from: i32, bytes: &mut [u8], n: usize) -> Filled
+// One read into the slice from place n on: how many bytes came, at least one, or none where the input has ended. An error is that of the read.
+pub fn read_some<R: Read>(from: &mut R, bytes: &mut [u8], n: usize) -> io::Result<usize>
     requires { n < length bytes.old }
-    ensures { n + result.n ≤ length bytes.old }
+    ensures { IfOk result (λ more. n + more ≤ length bytes.old) }
 {
     let part = &mut bytes[n..];
-    let got = libc::read(from, part);
-    if got < 0 {
-        os::fail(b"read");
-    }
-    Filled {
-        n: io::count(got, part),
-        failed: got < 0,
-    }
+    from.read(part)
 }
 
-// Reads until the slice is full, the input ends or a read fails.
-pub fn fill(from: i32, bytes: &mut [u8]) -> Filled
-    ensures { result.n ≤ length bytes.old }
+// Reads until the slice is full, the input ends or a read fails: how many bytes came. Fewer than asked for mean that the input has ended.
+pub fn fill<R: Read>(from: &mut R, bytes: &mut [u8]) -> io::Result<usize>
+    ensures { IfOk result (λ n. n ≤ length bytes.old) }
 {
     let mut n = 0usize;
     while n < bytes.len() {
-        let got = read_some(from, bytes, n);
-        if got.n == 0 {
-            let failed = got.failed;
-            return Filled { n, failed };
+        let more = read_some(from, bytes, n)?;
+        if more == 0 {
+            return Ok(n);
         }
-        n += got.n;
+        n += more;
     }
-    Filled { n, failed: false }
+    Ok(n)
 }
 
 // What came of a line: its bytes without the newline, and whether the newline came.
@@ -47,38 +36,24 @@ pub fn fill(from: i32, bytes: &mut [u8]) -> Filled
 pub struct Line {
     pub n: usize,
     pub whole: bool,
-    pub failed: bool,
 }
 
 // Reads a line byte by byte, and no byte past its newline or past the slice.
-pub fn read_line(from: i32, line: &mut [u8]) -> Line
-    ensures { result.n ≤ length line.old }
+pub fn read_line<R: Read>(from: &mut R, line: &mut [u8]) -> io::Result<Line>
+    ensures { IfOk result (λ came. came.n ≤ length line.old) }
 {
     let mut n = 0usize;
     while n < line.len() {
-        let got = fill(from, &mut line[n..n + 1]);
-        if got.n == 0 {
-            let failed = got.failed;
-            return Line {
-                n,
-                whole: false,
-                failed,
-            };
+        let got = fill(from, &mut line[n..n + 1])?;
+        if got == 0 {
+            return Ok(Line { n, whole: false });
         }
         if line[n] == b'\n' {
-            return Line {
-                n,
-                whole: true,
-                failed: false,
-            };
+            return Ok(Line { n, whole: true });
         }
         n += 1;
     }
-    Line {
-        n,
-        whole: false,
-        failed: false,
-    }
+    Ok(Line { n, whole: false })
 }
 
 // Moves the frames one place to the front.

@@ -1,5 +1,5 @@
 // Frame by frame, the frames read before and after being the neighbours.
-ghost use Rattle.std.specs.Prelude.{◌≡◌, true, false, ◌+◌, ◌*◌, ◌<◌, ◌≤◌, eqb, length};
+ghost use Rattle.std.specs.Prelude.{◌≡◌, ◌+◌, ◌*◌, ◌<◌, ◌≤◌, eqb, length, IfOk};
 ghost use Rattle.reference.specs.Output.{samples_per_frame};
 ghost use Rattle.reference.specs.Refusals.{accepted, decide, held_places, convert_frame_places};
 ghost use Rattle.levels.specs.Levels.{FrameReported};
@@ -11,9 +11,11 @@ use level_input::{fill, move_on};
 use levels::Reported;
 use overs::Progress;
 use reference::Converter;
+use std::io;
+use std::io::{Read, Write};
 
-// Frames that are told, their clips, what is in progress after them in each channel, bytes that have come of the frame at hand, bytes of the
-// text to pass on, and whether every read and write has succeeded.
+// Frames that are told, their clips, what is in progress after them in each channel, bytes that have come of the frame at hand, and bytes of
+// the text to pass on.
 #[derive(Clone, Copy)]
 struct State {
     frames: u64,
@@ -21,7 +23,6 @@ struct State {
     states: [Progress; 6],
     left: usize,
     length: usize,
-    going: bool,
 }
 
 // The frame in the middle of the three.
@@ -55,35 +56,11 @@ fn one_frame<'a>(
     )
 }
 
-// Passes a text on to be written. A write that fails is told on standard error.
-pub fn written(to: i32, text: &[u8]) -> bool {
-    let done = io::write_all(to, text);
-    if !done {
-        os::fail(b"write");
-    }
-    done
-}
-
-// The first n bytes of a text.
-pub fn write_first(to: i32, text: &[u8], n: usize) -> bool
+// Writes the first n bytes of a text.
+pub fn write_first<W: Write>(to: &mut W, text: &[u8], n: usize) -> io::Result<()>
     requires { n ≤ length text.now }
 {
-    written(to, &text[..n])
-}
-
-// What is left to do after a read or a write that failed: nothing.
-fn stopped(s: State) -> State
-    ensures { result ≡ record { frames = s.frames; clipped = s.clipped; states = s.states; left = s.left; length = s.length; going = false } }
-{
-    let states = s.states;
-    State {
-        frames: s.frames,
-        clipped: s.clipped,
-        states,
-        left: s.left,
-        length: s.length,
-        going: false,
-    }
+    to.write_all(&text[..n])
 }
 
 // Tells the frame at hand, now that the one after it is there or is known to be absent, and moves on.
@@ -122,37 +99,31 @@ fn told(
         states: carried,
         left: next,
         length: r.length,
-        going: true,
     }
 }
 
 // Reads the frame after, tells the one at hand and passes its lines on.
-fn turn(
+fn turn<R: Read, W: Write>(
     conv: Converter,
     s: State,
     size: usize,
-    from: i32,
-    to: i32,
+    from: &mut R,
+    to: &mut W,
     three: &mut [u8],
     samples: &mut [i32],
     text: &mut [u8],
-) -> State
+) -> io::Result<State>
     requires three_len { (length three.old ≡ 3 * size) × (864 ≤ length text.old) × (s.left ≡ size) }
     requires frames_bound { (s.frames < 100000000000000) × (s.clipped ≤ 28224 * s.frames) }
     requires conv_value { (decide (held_places conv) ≡ accepted) × (size ≡ 4704 * conv.channels) × (length samples.old ≡ samples_per_frame conv.rate * conv.channels) }
-    ensures frames_bound_2 { (result.frames ≤ s.frames + 1) × (result.clipped ≤ 28224 * result.frames) }
-    ensures turned { result.going ≡ true → Turned conv (moment s.frames s.clipped s.states s.left three.old) text.old (moment result.frames result.clipped result.states result.left three.new) text.new result.length }
+    ensures frames_bound_2 { IfOk result (λ r. (r.frames ≤ s.frames + 1) × (r.clipped ≤ 28224 * r.frames)) }
+    ensures turned { IfOk result (λ r. Turned conv (moment s.frames s.clipped s.states s.left three.old) text.old (moment r.frames r.clipped r.states r.left three.new) text.new r.length) }
 {
     let end = 2 * size;
-    let next = fill(from, &mut three[end..]);
-    if next.failed {
-        return stopped(s);
-    }
-    let r = told(conv, s, next.n, size, three, samples, text);
-    if write_first(to, text, r.length) {
-        return r;
-    }
-    stopped(r)
+    let next = fill(from, &mut three[end..])?;
+    let r = told(conv, s, next, size, three, samples, text);
+    write_first(to, text, r.length)?;
+    Ok(r)
 }
 
 // The last line, or the refusal of bytes that are left over; the answer is its length.
@@ -168,49 +139,48 @@ fn ending(s: State, text: &mut [u8]) -> usize
 }
 
 // All frames, from the first one on.
-fn turns(
+fn turns<R: Read, W: Write>(
     conv: Converter,
     size: usize,
-    from: i32,
-    to: i32,
+    from: &mut R,
+    to: &mut W,
     three: &mut [u8],
     samples: &mut [i32],
     text: &mut [u8],
-) -> State
+) -> io::Result<State>
     requires three_len { (length three.old ≡ 3 * size) × (864 ≤ length text.old) }
     requires conv_value { (decide (held_places conv) ≡ accepted) × (size ≡ 4704 * conv.channels) × (length samples.old ≡ samples_per_frame conv.rate * conv.channels) }
-    ensures { result.going ≡ true → result.left < size → AllTold conv (moment result.frames result.clipped result.states result.left three.new) }
+    ensures { IfOk result (λ r. r.left < size → AllTold conv (moment r.frames r.clipped r.states r.left three.new)) }
 {
     let end = 2 * size;
-    let first = fill(from, &mut three[size..end]);
+    let first = fill(from, &mut three[size..end])?;
     let none = overs::none();
     let states = [none; 6];
     let mut s = State {
         frames: 0,
         clipped: 0,
         states,
-        left: first.n,
+        left: first,
         length: 0,
-        going: !first.failed,
     };
     // A loop has to end, and nothing says that an input does: so it counts down, from a number that no input uses up.
     let mut more = 100_000_000_000_000u64;
-    while more > 0 && s.going && s.left == size {
-        s = turn(conv, s, size, from, to, three, samples, text);
+    while more > 0 && s.left == size {
+        s = turn(conv, s, size, from, to, three, samples, text)?;
         more -= 1;
     }
-    s
+    Ok(s)
 }
 
 // The whole report in buffers for one or two channels: three frames, a frame's samples, and its lines.
-fn in_buffers(
+fn in_buffers<R: Read, W: Write>(
     conv: Converter,
-    from: i32,
-    to: i32,
+    from: &mut R,
+    to: &mut W,
     three: &mut [u8],
     samples: &mut [i32],
     text: &mut [u8],
-)
+) -> io::Result<()>
     requires conv_value { (decide (held_places conv) ≡ accepted) × (conv.channels ≤ 2) }
     requires three_len { (length three.old ≡ 28224) × (length samples.old ≡ 9408) × (length text.old ≡ 864) }
 {
@@ -227,26 +197,31 @@ fn in_buffers(
         &mut three[..bytes],
         &mut samples[..items],
         text,
-    );
-    if s.going && s.left < size {
+    )?;
+    if s.left < size {
         let n = ending(s, text);
-        write_first(to, text, n);
+        return write_first(to, text, n);
     }
+    Ok(())
 }
 
-// The report of the frames that a descriptor gives, one or two channels.
-pub fn report_frames(conv: Converter, from: i32, to: i32)
+// The report of the frames that a reader gives, one or two channels.
+pub fn report_frames<R: Read, W: Write>(
+    conv: Converter,
+    from: &mut R,
+    to: &mut W,
+) -> io::Result<()>
     requires { (decide (held_places conv) ≡ accepted) × (conv.channels ≤ 2) }
 {
     let mut three = [0u8; 28224];
     let mut samples = [0i32; 9408];
     let mut text = [0u8; 864];
-    in_buffers(conv, from, to, &mut three, &mut samples, &mut text);
+    in_buffers(conv, from, to, &mut three, &mut samples, &mut text)
 }
 
 // A refusal by its number.
-pub fn refused(number: u64, to: i32) {
+pub fn refused<W: Write>(number: u64, to: &mut W) -> io::Result<()> {
     let mut text = [0u8; 144];
     let n = level_lines::refused_line(&mut text, 0, number);
-    write_first(to, &text, n);
+    write_first(to, &text, n)
 }

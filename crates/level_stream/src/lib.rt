@@ -1,15 +1,16 @@
-// The level report over descriptors: it reads the line and the frames, and writes the lines.
+// The level report over readers and a writer: it reads the line and the frames, and writes the lines.
 #![tactic(auto)]
-ghost use Rattle.std.specs.Prelude.{◌≡◌, ◌≤◌, length};
+ghost use Rattle.std.specs.Prelude.{◌≡◌, ◌≤◌, length, IfOk};
 ghost use Rattle.reference.specs.Refusals.{accepted, decide, held_places};
 ghost use Rattle.level_stream.specs.Usable.{Opens, Usable};
 
 use level_settings::{FirstLine, LineSettings};
 use reference::{Converter, Verdict};
+use std::io;
+use std::io::{Read, Write};
 
 mod frames;
 
-use frames::written;
 pub use frames::{refused, write_first};
 
 // What the first line leads to: settings that opening accepts, or an end, of which all is written.
@@ -19,13 +20,17 @@ pub enum Begun {
     Ended,
 }
 
-// Reads the line from one descriptor and the frames from another, which may be the same, and writes the report to a third. A read or a write
-// that fails ends the report where it is, with a word on standard error.
-pub fn report(line_from: i32, frames_from: i32, to: i32) {
-    let begun = start(line_from, to);
+// Reads the line from one reader and the frames from another, which may give the rest of the same input, and writes the report to a writer. A
+// read or a write that fails ends the report where it is, and its error is the answer.
+pub fn report<L: Read, F: Read, W: Write>(
+    line_from: &mut L,
+    frames_from: &mut F,
+    to: &mut W,
+) -> io::Result<()> {
+    let begun = start(line_from, to)?;
     match begun {
         Begun::Open(s) => frames::report_frames(converter(s), frames_from, to),
-        Begun::Ended => {}
+        Begun::Ended => Ok(()),
     }
 }
 
@@ -39,31 +44,28 @@ pub fn converter(s: LineSettings) -> Converter
 }
 
 // Reads the line and tries its settings. Where they are not accepted it says why.
-pub fn start(from: i32, to: i32) -> Begun
-    ensures { Usable result }
+pub fn start<R: Read, W: Write>(from: &mut R, to: &mut W) -> io::Result<Begun>
+    ensures { IfOk result Usable }
 {
     let mut line = [0u8; 23];
-    let came = level_input::read_line(from, &mut line);
-    if came.failed {
-        return Begun::Ended;
-    }
+    let came = level_input::read_line(from, &mut line)?;
     if came.whole {
         return settings(&line, came.n, to);
     }
     refused_settings(to)
 }
 
-fn refused_settings(to: i32) -> Begun
-    ensures { Usable result }
+fn refused_settings<W: Write>(to: &mut W) -> io::Result<Begun>
+    ensures { IfOk result Usable }
 {
-    written(to, b"refused settings\n");
-    Begun::Ended
+    to.write_all(b"refused settings\n")?;
+    Ok(Begun::Ended)
 }
 
 // The first n bytes are the line.
-fn settings(line: &[u8], n: usize, to: i32) -> Begun
+fn settings<W: Write>(line: &[u8], n: usize, to: &mut W) -> io::Result<Begun>
     requires { n ≤ length line.now }
-    ensures { Usable result }
+    ensures { IfOk result Usable }
 {
     let first = level_settings::first_line(&line[..n]);
     match first {
@@ -72,17 +74,17 @@ fn settings(line: &[u8], n: usize, to: i32) -> Begun
     }
 }
 
-fn opened(s: LineSettings, to: i32) -> Begun
+fn opened<W: Write>(s: LineSettings, to: &mut W) -> io::Result<Begun>
     requires { s.channels ≤ 2 }
-    ensures { Usable result }
+    ensures { IfOk result Usable }
 {
     let o = levels::opened(s);
     let verdict = o.verdict;
     match verdict {
-        Verdict::Accepted => Begun::Open(s),
+        Verdict::Accepted => Ok(Begun::Open(s)),
         Verdict::Refused(e) => {
-            refused(levels::refusal_number(e), to);
-            Begun::Ended
+            refused(levels::refusal_number(e), to)?;
+            Ok(Begun::Ended)
         }
     }
 }

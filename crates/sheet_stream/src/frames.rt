@@ -1,5 +1,5 @@
 // Frame by frame, the frames read before and after being the neighbours: their statistics are joined one after the other.
-ghost use Rattle.std.specs.Prelude.{◌≡◌, ◌+◌, ◌*◌, ◌<◌, ◌≤◌, length};
+ghost use Rattle.std.specs.Prelude.{◌≡◌, ◌+◌, ◌*◌, ◌<◌, ◌≤◌, length, IfOk};
 ghost use Rattle.reference.specs.Refusals.{accepted, decide, held_places};
 ghost use Rattle.reference.specs.Statistics.{joined_stats};
 ghost use Rattle.level_stream.specs.Buffers.{at_hand};
@@ -8,14 +8,15 @@ ghost use Rattle.sheet_stream.specs.Frames.{frame_stats};
 use level_input::{fill, move_on};
 use level_stream::write_first;
 use reference::{ConvertStats, Converter, Verdict};
+use std::io;
+use std::io::{Read, Write};
 
-// Frames that are told, their statistics, bytes that have come of the frame at hand, and whether every read has succeeded.
+// Frames that are told, their statistics, and bytes that have come of the frame at hand.
 #[derive(Clone, Copy)]
 struct State {
     frames: u64,
     stats: ConvertStats,
     left: usize,
-    going: bool,
 }
 
 // The statistics so far joined with those of the frame in the middle of the three.
@@ -47,77 +48,82 @@ fn one_frame<'a>(
 }
 
 // Reads the frame after, joins the one at hand and moves on.
-fn turn(
+fn turn<R: Read>(
     conv: Converter,
     s: State,
     size: usize,
-    from: i32,
+    from: &mut R,
     three: &mut [u8],
     samples: &mut [i32],
-) -> State
+) -> io::Result<State>
     requires { (length three.old ≡ 3 * size) × (s.frames < 100000000000000) }
-    ensures { result.frames ≤ s.frames + 1 }
+    ensures { IfOk result (λ next. next.frames ≤ s.frames + 1) }
 {
     let end = 2 * size;
     let so_far = s.stats;
     let frames = s.frames;
-    let next = fill(from, &mut three[end..]);
-    if next.failed {
-        return State {
-            frames,
-            stats: so_far,
-            left: s.left,
-            going: false,
-        };
-    }
-    let stats = one_frame(conv, so_far, frames, next.n == size, size, three, samples);
+    let next = fill(from, &mut three[end..])?;
+    let stats = one_frame(conv, so_far, frames, next == size, size, three, samples);
     move_on(three, size);
-    State {
+    Ok(State {
         frames: frames + 1,
         stats,
-        left: next.n,
-        going: true,
-    }
+        left: next,
+    })
 }
 
 // All frames, from the first one on.
-fn turns(conv: Converter, size: usize, from: i32, three: &mut [u8], samples: &mut [i32]) -> State
+fn turns<R: Read>(
+    conv: Converter,
+    size: usize,
+    from: &mut R,
+    three: &mut [u8],
+    samples: &mut [i32],
+) -> io::Result<State>
     requires { length three.old ≡ 3 * size }
 {
     let end = 2 * size;
-    let first = fill(from, &mut three[size..end]);
+    let first = fill(from, &mut three[size..end])?;
     let stats = reference::no_stats();
     let mut s = State {
         frames: 0,
         stats,
-        left: first.n,
-        going: !first.failed,
+        left: first,
     };
     // A loop has to end, and nothing says that an input does: so it counts down, from a number that no input uses up.
     let mut more = 100_000_000_000_000u64;
-    while more > 0 && s.going && s.left == size {
-        s = turn(conv, s, size, from, three, samples);
+    while more > 0 && s.left == size {
+        s = turn(conv, s, size, from, three, samples)?;
         more -= 1;
     }
-    s
+    Ok(s)
 }
 
 // The sheet of one or two channels, or its refusal.
-fn put_sheet(channels: u8, stats: ConvertStats, text: &mut [u8], to: i32)
+fn put_sheet<W: Write>(
+    channels: u8,
+    stats: ConvertStats,
+    text: &mut [u8],
+    to: &mut W,
+) -> io::Result<()>
     requires { (channels ≤ 2) × (length text.old ≡ 129) }
 {
     let n = 43 * (channels as usize + 1);
     let verdict = sheet::level_sheet(channels, stats, &mut text[..n]);
     match verdict {
-        Verdict::Accepted => {
-            write_first(to, text, n);
-        }
+        Verdict::Accepted => write_first(to, text, n),
         Verdict::Refused(e) => level_stream::refused(levels::refusal_number(e), to),
     }
 }
 
 // The whole sheet in buffers for one or two channels: three frames, and a frame's samples.
-fn in_buffers(conv: Converter, from: i32, to: i32, three: &mut [u8], samples: &mut [i32])
+fn in_buffers<R: Read, W: Write>(
+    conv: Converter,
+    from: &mut R,
+    to: &mut W,
+    three: &mut [u8],
+    samples: &mut [i32],
+) -> io::Result<()>
     requires conv_value { (decide (held_places conv) ≡ accepted) × (conv.channels ≤ 2) }
     requires three_len { (length three.old ≡ 28224) × (length samples.old ≡ 9408) }
 {
@@ -127,23 +133,27 @@ fn in_buffers(conv: Converter, from: i32, to: i32, three: &mut [u8], samples: &m
     let size = reference::FRAME_BYTES * ch;
     let bytes = 3 * size;
     let items = scarletbook_pcm::samples_per_frame(rate) * ch;
-    let s = turns(conv, size, from, &mut three[..bytes], &mut samples[..items]);
-    if s.going && s.left < size {
+    let s = turns(conv, size, from, &mut three[..bytes], &mut samples[..items])?;
+    if s.left < size {
         if s.left == 0 {
             let stats = s.stats;
             let mut text = [0u8; 129];
-            put_sheet(channels, stats, &mut text, to);
-            return;
+            return put_sheet(channels, stats, &mut text, to);
         }
-        level_stream::refused(4, to);
+        return level_stream::refused(4, to);
     }
+    Ok(())
 }
 
-// The sheet of the frames that a descriptor gives, one or two channels.
-pub fn sheet_frames(conv: Converter, from: i32, to: i32)
+// The sheet of the frames that a reader gives, one or two channels.
+pub fn sheet_frames<R: Read, W: Write>(
+    conv: Converter,
+    from: &mut R,
+    to: &mut W,
+) -> io::Result<()>
     requires { (decide (held_places conv) ≡ accepted) × (conv.channels ≤ 2) }
 {
     let mut three = [0u8; 28224];
     let mut samples = [0i32; 9408];
-    in_buffers(conv, from, to, &mut three, &mut samples);
+    in_buffers(conv, from, to, &mut three, &mut samples)
 }

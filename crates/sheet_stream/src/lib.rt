@@ -1,15 +1,21 @@
-// The level sheet over descriptors: it reads the line and the frames, and writes the sheet of the whole input.
+// The level sheet over readers and a writer: it reads the line and the frames, and writes the sheet of the whole input.
 #![tactic(auto)]
 use level_stream::Begun;
+use std::io;
+use std::io::{Read, Write};
 
 mod frames;
 
-// Reads the line from one descriptor and the frames from another, which may be the same, and writes the sheet to a third. A read or a write
-// that fails ends it with a word on standard error.
-pub fn sheet(line_from: i32, frames_from: i32, to: i32) {
-    let begun = level_stream::start(line_from, to);
+// Reads the line from one reader and the frames from another, which may give the rest of the same input, and writes the sheet to a writer. A
+// read or a write that fails ends it, and its error is the answer.
+pub fn sheet<L: Read, F: Read, W: Write>(
+    line_from: &mut L,
+    frames_from: &mut F,
+    to: &mut W,
+) -> io::Result<()> {
+    let begun = level_stream::start(line_from, to)?;
     match begun {
         Begun::Open(s) => frames::sheet_frames(level_stream::converter(s), frames_from, to),
-        Begun::Ended => {}
+        Begun::Ended => Ok(()),
     }
 }

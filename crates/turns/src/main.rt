@@ -2,34 +2,29 @@
 #![tactic(auto)]
 ghost use Rattle.std.specs.Prelude.{◌≤◌, length};
 
+use std::io;
+use std::io::Write;
+
 // Input that is no board.
-fn refused() {
-    if !io::write_all(libc::STDOUT_FILENO, b"refused settings\n") {
-        os::fail(b"write");
-    }
+fn refused<W: Write>(to: &mut W) -> io::Result<()> {
+    to.write_all(b"refused settings\n")
 }
 
 // The first n bytes are the input.
-fn answered(input: &[u8], n: usize)
+fn answered<W: Write>(input: &[u8], n: usize, to: &mut W) -> io::Result<()>
     requires { (n ≤ 1024) × (n ≤ length input.now) }
 {
     let mut out = [0u8; 1024];
     let size = turns_lines::answer(&input[..n], &mut out);
-    if !io::write_all(libc::STDOUT_FILENO, &out[..size]) {
-        os::fail(b"write");
-    }
+    to.write_all(&out[..size])
 }
 
-fn main() {
+fn main(rt: HostRuntime) -> io::Result<()> {
     let mut input = [0u8; 1025];
-    let came = level_input::fill(libc::STDIN_FILENO, &mut input);
-    // A read that fails is told by `fill`.
-    if came.failed {
-        return;
+    let came = level_input::fill(&mut rt.stdin(), &mut input)?;
+    let mut to = rt.stdout();
+    if 1024 < came {
+        return refused(&mut to);
     }
-    if 1024 < came.n {
-        refused();
-        return;
-    }
-    answered(&input, came.n);
+    answered(&input, came, &mut to)
 }

@@ -6,6 +6,8 @@ ghost use Rattle.numbers.specs.Lists.{Wrote};
 use dsf_frames::lesser_of;
 use dsf_upload::{Upload, give_up_header};
 use level_input::read_some;
+use std::io;
+use std::io::{Read, Write};
 
 // Bytes that come after `known` ones are kept, as far as there is room; answers how many are kept then.
 fn keep(head: &mut [u8], known: usize, bytes: &[u8]) -> usize
@@ -31,32 +33,21 @@ fn is_hopeless(answer: Upload) -> bool {
     }
 }
 
-fn say_where(n: u64, to: i32) -> bool {
-    if !io::write_all(to, b"give up at ") {
-        return false;
-    }
-    if !io::print_decimal(to, n) {
-        return false;
-    }
-    io::write_all(to, b"\n")
-}
-
-fn said(answer: Upload, to: i32) -> bool {
+fn say<W: Write>(answer: Upload, to: &mut W) -> io::Result<()> {
     match answer {
-        Upload::Accepted => io::write_all(to, b"accepted\n"),
-        Upload::Unfinished => io::write_all(to, b"unfinished\n"),
-        Upload::GiveUp(n) => say_where(n, to),
+        Upload::Accepted => to.write_all(b"accepted\n"),
+        Upload::Unfinished => to.write_all(b"unfinished\n"),
+        Upload::GiveUp(n) => writeln!(to, "give up at {n}"),
     }
 }
 
-fn say(answer: Upload, to: i32) {
-    if !said(answer, to) {
-        os::fail(b"write");
-    }
-}
-
-// Reads on until the upload is hopeless or ends. A read that fails is told by `read_some`.
-fn watch_in(from: i32, to: i32, head: &mut [u8], bytes: &mut [u8])
+// Reads on until the upload is hopeless or ends.
+fn watch_in<R: Read, W: Write>(
+    from: &mut R,
+    to: &mut W,
+    head: &mut [u8],
+    bytes: &mut [u8],
+) -> io::Result<()>
     requires { (length head.old ≡ 92) × (length bytes.old ≡ 4096) }
 {
     let mut known = 0usize;
@@ -64,29 +55,24 @@ fn watch_in(from: i32, to: i32, head: &mut [u8], bytes: &mut [u8])
     // A loop has to end, and nothing says that an input does: so it counts down, from a number that no input uses up.
     let mut more = 2_000_000_000_000_000u64;
     while more > 0 {
-        let got = read_some(from, bytes, 0);
-        if got.failed {
-            return;
+        let n = read_some(from, bytes, 0)?;
+        if n == 0 {
+            return say(give_up_header(&head[..known], total), to);
         }
-        if got.n == 0 {
-            say(give_up_header(&head[..known], total), to);
-            return;
-        }
-        known = keep(head, known, &bytes[..got.n]);
-        total += got.n as u64;
+        known = keep(head, known, &bytes[..n]);
+        total += n as u64;
         let answer = give_up_header(&head[..known], total);
         if is_hopeless(answer) {
-            say(answer, to);
-            return;
+            return say(answer, to);
         }
         more -= 1;
     }
+    Ok(())
 }
 
-// What a descriptor gives, as it arrives; the answer is written to another. A read or a write that fails ends it, with a word on
-// standard error.
-pub fn watch(from: i32, to: i32) {
+// What a reader gives, as it arrives; the answer is written to a writer. A read or a write that fails ends it, and its error is the answer.
+pub fn watch<R: Read, W: Write>(from: &mut R, to: &mut W) -> io::Result<()> {
     let mut head = [0u8; 92];
     let mut bytes = [0u8; 4096];
-    watch_in(from, to, &mut head, &mut bytes);
+    watch_in(from, to, &mut head, &mut bytes)
 }
