@@ -1,6 +1,9 @@
 // Cases: a file and what is wanted of it; how it opens; the WAV file and the sheet that it is to give, or the refusal's sentence.
 use crate::steps::{Done, cuts, jobs, part, wanted};
 use album::Album;
+use std::io;
+use std::io::Read;
+use std::rt::Files;
 use test_files::{Tally, number};
 
 fn same_album(rec: &[u8], a: Album) -> bool {
@@ -138,9 +141,10 @@ struct Both {
 }
 
 // Reads so many bytes, as far as there is room.
-fn stored(fd: i32, n: u64, list: &mut [u8]) {
+fn stored<F: Read>(from: &mut F, n: u64, list: &mut [u8]) -> io::Result<()> {
     let m = test_support::of_bytes(n, list);
-    io::read_full(fd, &mut list[..m]);
+    test_support::read_full(from, &mut list[..m])?;
+    Ok(())
 }
 
 fn tried<'a>(
@@ -166,20 +170,20 @@ fn tried<'a>(
 }
 
 // The sheet and the sentence stand behind the files.
-fn behind<'a>(
-    fd: i32,
+fn behind<'a, F: Read>(
+    from: &mut F,
     rec: &'a [u8],
     file: &'a [u8],
     wav: &'a [u8],
     out: &mut [u8],
     b: Both,
-) -> Both {
+) -> io::Result<Both> {
     let mut sheet = [0u8; 301];
-    stored(fd, number(rec, 128), &mut sheet);
+    stored(from, number(rec, 128), &mut sheet)?;
     let mut text = [0u8; 256];
-    stored(fd, number(rec, 136), &mut text);
+    stored(from, number(rec, 136), &mut text)?;
     let levels = part(&sheet, 0, number(rec, 128));
-    tried(
+    Ok(tried(
         rec,
         file,
         wav,
@@ -187,7 +191,7 @@ fn behind<'a>(
         part(&text, 0, number(rec, 136)),
         out,
         b,
-    )
+    ))
 }
 
 // How long the file at hand is: of a refused one only the first bytes are stored.
@@ -198,14 +202,20 @@ fn length(rec: &[u8]) -> u64 {
     number(rec, 24)
 }
 
-fn one(fd: i32, file: &mut [u8], wav: &mut [u8], out: &mut [u8], b: Both) -> Both {
+fn one<F: Read>(
+    from: &mut F,
+    file: &mut [u8],
+    wav: &mut [u8],
+    out: &mut [u8],
+    b: Both,
+) -> io::Result<Both> {
     let mut rec = [0u8; 144];
-    io::read_full(fd, &mut rec);
-    stored(fd, number(&rec, 24), file);
+    test_support::read_full(from, &mut rec)?;
+    stored(from, number(&rec, 24), file)?;
     let n = number(&rec, 120);
-    stored(fd, n, wav);
+    stored(from, n, wav)?;
     behind(
-        fd,
+        from,
         &rec,
         part(file, 0, length(&rec)),
         part(wav, 0, n),
@@ -214,29 +224,33 @@ fn one(fd: i32, file: &mut [u8], wav: &mut [u8], out: &mut [u8], b: Both) -> Bot
     )
 }
 
-fn each(fd: i32, file: &mut [u8], wav: &mut [u8], out: &mut [u8]) -> Both {
+fn each<F: Read>(
+    from: &mut F,
+    file: &mut [u8],
+    wav: &mut [u8],
+    out: &mut [u8],
+) -> io::Result<Both> {
     let mut b = Both {
         openings: test_files::nothing(),
         made: test_files::nothing(),
     };
-    let n = test_files::cases(fd);
+    let n = test_files::cases(from)?;
     let mut k = 0u64;
     while k < n {
-        b = one(fd, file, wav, out, b);
+        b = one(from, file, wav, out, b)?;
         k += 1;
     }
-    b
+    Ok(b)
 }
 
-pub fn all() {
+pub fn all<R: Files + Print>(rt: &R) -> io::Result<()> {
     let mut file = [0u8; 65536];
     let mut wav = [0u8; 65536];
     let mut out = [0u8; 65536];
-    let fd = test_files::open(b"albums");
-    let b = each(fd, &mut file, &mut wav, &mut out);
-    libc::close(fd);
+    let mut from = test_files::open(rt, b"albums")?;
+    let b = each(&mut from, &mut file, &mut wav, &mut out)?;
     let openings = b.openings;
     let made = b.made;
-    test_files::tell(b"openings ", openings);
-    test_files::tell(b"headers and conversions ", made);
+    test_files::tell(rt, b"openings ", openings)?;
+    test_files::tell(rt, b"headers and conversions ", made)
 }

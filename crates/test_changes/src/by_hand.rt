@@ -4,6 +4,8 @@ ghost use Rattle.std.specs.Prelude.{◌≡◌, length};
 use crate::lists::{bytes_kept, items_kept};
 use crate::records::{cutoff, filter, gain, has, keeps, rate};
 use reference::{Converted, Converter};
+use std::io;
+use std::rt::Files;
 use test_support::{at, one};
 
 const ROWS: usize = 312;
@@ -150,21 +152,21 @@ fn count(question: u64, text: &[u8], frame: &[u8]) -> u64
     yes
 }
 
-fn tell(text: &[u8], frame: &[u8])
+fn tell(rt: &impl Print, text: &[u8], frame: &[u8]) -> io::Result<()>
     requires { length text.now ≡ 143208 }
 {
-    test_support::right(b"records changed ", 312, count(0, text, frame));
-    test_support::right(b"records in convert_run ", 312, count(1, text, frame));
-    test_support::right(b"records in convert_frame ", 312, count(2, text, frame));
-    test_support::right(b"records in convert ", 312, count(3, text, frame));
-    test_support::right(b"records in convert_desk ", 312, count(4, text, frame));
-    test_support::right(b"records in files ", 312, count(5, text, frame));
+    test_support::right(rt, b"records changed ", 312, count(0, text, frame))?;
+    test_support::right(rt, b"records in convert_run ", 312, count(1, text, frame))?;
+    test_support::right(rt, b"records in convert_frame ", 312, count(2, text, frame))?;
+    test_support::right(rt, b"records in convert ", 312, count(3, text, frame))?;
+    test_support::right(rt, b"records in convert_desk ", 312, count(4, text, frame))?;
+    test_support::right(rt, b"records in files ", 312, count(5, text, frame))
 }
 
-pub fn all() {
+pub fn all<R: Files + Print>(rt: &R) -> io::Result<()> {
     let mut text = [0u8; 143208];
-    test_support::read(b"records", ROWS * 27, &mut text);
+    test_support::read(rt, b"records", ROWS * 27, &mut text)?;
     let mut frame = [0u8; 9408];
     test_files::noise(70, 0, &mut frame);
-    tell(&text, &frame);
+    tell(rt, &text, &frame)
 }

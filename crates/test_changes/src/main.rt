@@ -1,11 +1,14 @@
 // Settings changed while a converter is open, beside what compare/changes.py works out (data/): lists of changes, and records made by hand.
 #![tactic(auto)]
+
 mod by_hand;
 mod lists;
 mod records;
 mod steps;
 
-fn main() {
-    steps::all();
-    by_hand::all();
+use std::io;
+
+fn main(rt: HostRuntime) -> io::Result<()> {
+    steps::all(&rt)?;
+    by_hand::all(&rt)
 }

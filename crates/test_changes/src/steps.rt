@@ -4,6 +4,8 @@ ghost use Rattle.std.specs.Prelude.{◌≡◌, ◌≤◌, length};
 use crate::lists::same;
 use crate::records::{cutoff, filter, gain, has, keeps, rate};
 use reference::{Converted, Converter, Opened, Settings};
+use std::io;
+use std::rt::Files;
 use test_support::{at, one};
 
 const ROWS: usize = 150;
@@ -195,13 +197,13 @@ fn count(text: &[u8], frame: &[u8]) -> Right
     }
 }
 
-pub fn all() {
+pub fn all<R: Files + Print>(rt: &R) -> io::Result<()> {
     let mut text = [0u8; 219300];
-    test_support::read(b"changes", ROWS * 86, &mut text);
+    test_support::read(rt, b"changes", ROWS * 86, &mut text)?;
     let mut frame = [0u8; 28224];
     test_files::noise(7, 0, &mut frame);
     let r = count(&text, &frame);
-    test_support::right(b"openings ", 150, r.openings);
-    test_support::right(b"changes ", 900, r.changes);
-    test_support::right(b"conversions after changes ", 150, r.conversions);
+    test_support::right(rt, b"openings ", 150, r.openings)?;
+    test_support::right(rt, b"changes ", 900, r.changes)?;
+    test_support::right(rt, b"conversions after changes ", 150, r.conversions)
 }

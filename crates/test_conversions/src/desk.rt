@@ -1,6 +1,7 @@
 // The listening desk's entry: up to 8 frames what `convert` gives, and its refusals in their order. Standard at 88,200 Hz, mono, 6 dB.
 use crate::{call, input, row};
 use reference::{Converted, Converter};
+use std::io;
 use test_support::{at, one};
 
 fn standard() -> Converter {
@@ -117,11 +118,12 @@ fn in_order() -> u64 {
         + one(refused(false, &[0, 42336, 0, 1, 3], 13, 0, 0))
 }
 
-pub fn desk() {
+pub fn desk(rt: &impl Print) -> io::Result<()> {
     test_support::right(
+        rt,
         b"desk as rack ",
         3,
         one(as_rack(0)) + one(as_rack(1)) + one(as_rack(8)),
-    );
-    test_support::right(b"refused at the desk ", 7, in_order());
+    )?;
+    test_support::right(rt, b"refused at the desk ", 7, in_order())
 }

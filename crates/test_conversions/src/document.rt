@@ -1,6 +1,7 @@
 // Document 01's figures: Standard at 88,200 Hz, mono.
 use crate::{call, row};
 use reference::{Converted, Converter};
+use std::io;
 use test_support::one;
 
 fn standard(db: u64) -> Converter {
@@ -129,23 +130,26 @@ fn two_packed(samples: &[i32], low: &[u8; 7]) -> bool {
     seven_are(&bytes, low)
 }
 
-pub fn figures() {
+pub fn figures(rt: &impl Print) -> io::Result<()> {
     test_support::right(
+        rt,
         b"one byte throughout ",
         4,
         one(constant(0, 0xff, 8388607, 1176))
             + one(constant(0xc034_0000_0000_0000, 0xff, 838861, 0))
             + one(constant(0xc05e_0000_0000_0000, 0xff, 8, 0))
             + one(constant(0x4038_0000_0000_0000, 0, -8388608, 1176)),
-    );
-    test_support::right(b"no frames ", 2, no_frames());
-    test_support::right(b"empty neighbours ", 3, empty_neighbours());
+    )?;
+    test_support::right(rt, b"no frames ", 2, no_frames())?;
+    test_support::right(rt, b"empty neighbours ", 3, empty_neighbours())?;
     test_support::right(
+        rt,
         b"24 dB and past it ",
         2,
         one(taken(0x4038_0000_0000_0000)) + one(refused(0x4038_0000_0000_0001)),
-    );
+    )?;
     test_support::right(
+        rt,
         b"three samples in 7 bytes ",
         2,
         one(two_packed(&[8388607, -2, 3], &[0xff, 0xff, 0x7f, 0xfe, 0xff, 0xff, 9]))
@@ -153,5 +157,5 @@ pub fn figures() {
                 &[-2147483648, 0x7f12_3456, 3],
                 &[0, 0, 0, 0x56, 0x34, 0x12, 9],
             )),
-    );
+    )
 }

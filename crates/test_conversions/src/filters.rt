@@ -3,6 +3,8 @@
 use crate::row::times;
 use crate::{call, input, row};
 use reference::{Converted, Converter, Filter, Gain, Settings, Verdict};
+use std::io;
+use std::rt::Files;
 use test_support::{Told, at, is_signed, one};
 
 // A tap by its code: t, or 2^31 - 1 - t where t is negative.
@@ -291,8 +293,8 @@ fn count(text: &[u8]) -> u64 {
 }
 
 // Every row of the file.
-pub fn own() {
+pub fn own<R: Files + Print>(rt: &R) -> io::Result<()> {
     let mut text = [0u8; 326400];
-    test_support::read(b"filters", 19200, &mut text);
-    test_support::right(b"own filters ", 240, count(&text));
+    test_support::read(rt, b"filters", 19200, &mut text)?;
+    test_support::right(rt, b"own filters ", 240, count(&text))
 }

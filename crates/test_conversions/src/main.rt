@@ -1,6 +1,7 @@
 // The conversions beside what the original gives (data/, written by compare/answers.sh; its headers by compare/wav/headers.py), the figures of document 01, its table of refusals, and
 // labels' own filters (data/filters, by compare/filters.py).
 #![tactic(auto)]
+
 mod call;
 mod desk;
 mod document;
@@ -10,10 +11,12 @@ mod refusals;
 mod replay;
 mod row;
 
-fn main() {
-    replay::beside_rust();
-    document::figures();
-    refusals::refusals();
-    desk::desk();
-    filters::own();
+use std::io;
+
+fn main(rt: HostRuntime) -> io::Result<()> {
+    replay::beside_rust(&rt)?;
+    document::figures(&rt)?;
+    refusals::refusals(&rt)?;
+    desk::desk(&rt)?;
+    filters::own(&rt)
 }

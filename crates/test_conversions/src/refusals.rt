@@ -2,6 +2,8 @@
 // wants 2.5 GB of frames.
 use crate::{call, input, row};
 use reference::{Converted, Converter, Gain, Settings, Verdict};
+use std::io;
+use std::rt::Files;
 use test_support::{Told, at, refusal};
 
 // A record whose factor is not its decibels' (-0 dB with the float after 1), as a row of settings: the original has no such refusal.
@@ -170,29 +172,29 @@ fn count(question: u64, rows: &[u64]) -> u64 {
 }
 
 // A line: route, channels, decibels as bits, three zeros; number and data.
-fn by_settings() {
+fn by_settings<R: Files + Print>(rt: &R) -> io::Result<()> {
     let mut bytes = [0u8; 4096];
     let mut settings = [0u64; 45];
-    test_support::read(b"refused_settings", 45, &mut bytes);
+    test_support::read(rt, b"refused_settings", 45, &mut bytes)?;
     test_support::column(&bytes, 0, 1, &mut settings);
-    test_support::right(b"refused by open ", 5, count(0, &settings));
-    test_support::right(b"refused by convert_run ", 5, count(1, &settings));
-    test_support::right(b"refused by convert_frame ", 5, count(2, &settings));
-    test_support::right(b"refused by convert ", 5, count(3, &settings));
+    test_support::right(rt, b"refused by open ", 5, count(0, &settings))?;
+    test_support::right(rt, b"refused by convert_run ", 5, count(1, &settings))?;
+    test_support::right(rt, b"refused by convert_frame ", 5, count(2, &settings))?;
+    test_support::right(rt, b"refused by convert ", 5, count(3, &settings))
 }
 
 // A line: the call (1 convert_run, 2 convert_frame, 3 convert), before, run, after, output, counts; number and data. Mono at 88,200 Hz.
-fn by_lengths() {
+fn by_lengths<R: Files + Print>(rt: &R) -> io::Result<()> {
     let mut bytes = [0u8; 4096];
     let mut lengths = [0u64; 135];
-    test_support::read(b"refused_lengths", 135, &mut bytes);
+    test_support::read(rt, b"refused_lengths", 135, &mut bytes)?;
     test_support::column(&bytes, 0, 1, &mut lengths);
-    test_support::right(b"refused lengths ", 15, count(4, &lengths));
+    test_support::right(rt, b"refused lengths ", 15, count(4, &lengths))
 }
 
-pub fn refusals() {
-    by_settings();
+pub fn refusals<R: Files + Print>(rt: &R) -> io::Result<()> {
+    by_settings(rt)?;
     let factor = FACTOR;
-    test_support::right(b"another factor refused ", 1, count(3, &factor));
-    by_lengths();
+    test_support::right(rt, b"another factor refused ", 1, count(3, &factor))?;
+    by_lengths(rt)
 }

@@ -6,6 +6,8 @@ use crate::input::Digest;
 use crate::row::times;
 use crate::{call, input, row};
 use reference::{Converted, Converter};
+use std::io;
+use std::rt::Files;
 use test_support::{at, one};
 
 // A row's converter, and whether it has neighbours.
@@ -409,31 +411,35 @@ fn count(question: u8, rows: &[u64], headers: &[u64]) -> Score {
     Score { all, yes }
 }
 
-fn print(name: &[u8], c: Score) {
-    test_support::right(name, c.all, c.yes);
+fn print(rt: &impl Print, name: &[u8], c: Score) -> io::Result<()> {
+    test_support::right(rt, name, c.all, c.yes)
 }
 
 // Every question put to every row.
-fn questions(rows: &[u64], headers: &[u64]) {
-    print(b"samples ", count(0, rows, headers));
-    print(b"samples of one frame ", count(1, rows, headers));
-    print(b"bytes and counts ", count(2, rows, headers));
-    print(b"bytes ", count(3, rows, headers));
-    print(b"bytes and counts at the desk ", count(4, rows, headers));
-    print(b"bytes at the desk ", count(5, rows, headers));
-    print(b"files and counts ", count(6, rows, headers));
-    print(b"files of the run record ", count(7, rows, headers));
-    print(b"no file of more channels ", count(8, rows, headers));
+fn questions(rt: &impl Print, rows: &[u64], headers: &[u64]) -> io::Result<()> {
+    print(rt, b"samples ", count(0, rows, headers))?;
+    print(rt, b"samples of one frame ", count(1, rows, headers))?;
+    print(rt, b"bytes and counts ", count(2, rows, headers))?;
+    print(rt, b"bytes ", count(3, rows, headers))?;
+    print(
+        rt,
+        b"bytes and counts at the desk ",
+        count(4, rows, headers),
+    )?;
+    print(rt, b"bytes at the desk ", count(5, rows, headers))?;
+    print(rt, b"files and counts ", count(6, rows, headers))?;
+    print(rt, b"files of the run record ", count(7, rows, headers))?;
+    print(rt, b"no file of more channels ", count(8, rows, headers))
 }
 
-pub fn beside_rust() {
+pub fn beside_rust<R: Files + Print>(rt: &R) -> io::Result<()> {
     let mut bytes = [0u8; 65536];
     let mut rows = [0u64; 2508];
-    test_support::read(b"conversions", 2508, &mut bytes);
+    test_support::read(rt, b"conversions", 2508, &mut bytes)?;
     test_support::column(&bytes, 0, 1, &mut rows);
     let mut text = [0u8; 17952];
     let mut headers = [0u64; 1056];
-    test_support::read(b"headers", 1056, &mut text);
+    test_support::read(rt, b"headers", 1056, &mut text)?;
     test_support::column(&text, 0, 1, &mut headers);
-    questions(&rows, &headers);
+    questions(rt, &rows, &headers)
 }

@@ -1,5 +1,6 @@
 // One-bit albums cut into pieces of whole frames and converted in turns: every piece beside the whole run.
 #![tactic(auto)]
+
 mod call;
 mod compare;
 mod input;
@@ -11,7 +12,9 @@ mod tally;
 mod turns;
 mod whole;
 
-fn main() {
-    whole::album(b"silence: ", 0);
-    whole::album(b"chord: ", 1);
+use std::io;
+
+fn main(rt: HostRuntime) -> io::Result<()> {
+    whole::album(&rt, b"silence: ", 0)?;
+    whole::album(&rt, b"chord: ", 1)
 }

@@ -1,12 +1,13 @@
 // Rows of an album.
+use std::io;
 
 // How many were compared, and how many were equal.
-pub fn equal<'a>(album: &'a [u8], name: &'a [u8], all: u64, yes: u64) {
-    io::write_all(1, album);
-    test_support::equal(name, all, yes);
+pub fn equal(rt: &impl Print, album: &[u8], name: &[u8], all: u64, yes: u64) -> io::Result<()> {
+    rt.write_all(album)?;
+    test_support::equal(rt, name, all, yes)
 }
 
-pub fn right<'a>(album: &'a [u8], name: &'a [u8], all: u64, yes: u64) {
-    io::write_all(1, album);
-    test_support::right(name, all, yes);
+pub fn right(rt: &impl Print, album: &[u8], name: &[u8], all: u64, yes: u64) -> io::Result<()> {
+    rt.write_all(album)?;
+    test_support::right(rt, name, all, yes)
 }

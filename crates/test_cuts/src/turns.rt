@@ -3,6 +3,7 @@ use crate::piece::{Piece, cut};
 use crate::tally::{Tally, plus};
 use crate::{piece, refused, row, tally};
 use reference::Converted;
+use std::io;
 use test_support::one;
 
 // A piece by each kind of call; the first has no frame before.
@@ -56,6 +57,7 @@ fn last_two<'a>(
 
 // Calls of every kind, and refused ones in between.
 fn mixed<'a>(
+    rt: &impl Print,
     name: &'a [u8],
     album: &'a [u8],
     samples: &[i32],
@@ -66,10 +68,16 @@ fn mixed<'a>(
     out: &mut [i32; 4704],
     raw: &mut [u8; 14112],
     counts: &mut [u64; 2],
-) -> Tally {
+) -> io::Result<Tally> {
     let t = first_two(album, samples, bytes, b, f, a, out, raw, counts);
-    row::right(name, b"refused calls ", 3, refused_calls(b, f, a, out, raw));
-    last_two(t, album, bytes, b, f, a, raw, counts)
+    row::right(
+        rt,
+        name,
+        b"refused calls ",
+        3,
+        refused_calls(b, f, a, out, raw),
+    )?;
+    Ok(last_two(t, album, bytes, b, f, a, raw, counts))
 }
 
 // Two pieces with the counts lent.
@@ -110,14 +118,15 @@ fn lending<'a>(
     two_counted(u, p3, p4, album, bytes, all, b, f, a, raw, counts)
 }
 
-fn rows(name: &[u8], t: Tally, whole: Converted) {
-    row::right(name, b"pieces ", t.calls, t.accepted);
-    row::equal(name, b"samples ", t.samples, t.equal);
-    row::equal(name, b"clips ", 2, tally::clips_equal(t, whole));
+fn rows(rt: &impl Print, name: &[u8], t: Tally, whole: Converted) -> io::Result<()> {
+    row::right(rt, name, b"pieces ", t.calls, t.accepted)?;
+    row::equal(rt, name, b"samples ", t.samples, t.equal)?;
+    row::equal(rt, name, b"clips ", 2, tally::clips_equal(t, whole))
 }
 
 // Both rounds through the same buffers.
 fn both<'a>(
+    rt: &impl Print,
     name: &'a [u8],
     album: &'a [u8],
     samples: &[i32],
@@ -130,23 +139,30 @@ fn both<'a>(
     out: &mut [i32; 4704],
     raw: &mut [u8; 14112],
     counts: &mut [u64; 2],
-) {
-    let first = mixed(name, album, samples, bytes, b, f, a, out, raw, counts);
-    rows(name, first, whole);
+) -> io::Result<()> {
+    let first = mixed(rt, name, album, samples, bytes, b, f, a, out, raw, counts)?;
+    rows(rt, name, first, whole)?;
     let second = lending(album, bytes, all, b, f, a, raw, counts);
-    rows(name, second, whole);
-    row::equal(name, b"frame counts ", second.counts, second.counts_equal);
+    rows(rt, name, second, whole)?;
+    row::equal(
+        rt,
+        name,
+        b"frame counts ",
+        second.counts,
+        second.counts_equal,
+    )
 }
 
 // The buffers have room for two frames.
 pub fn rounds<'a>(
+    rt: &impl Print,
     name: &'a [u8],
     album: &'a [u8],
     samples: &[i32],
     bytes: &'a [u8],
     all: &[u64],
     whole: Converted,
-) {
+) -> io::Result<()> {
     let mut b = [0xa5u8; 9408];
     let mut f = [0xa5u8; 18816];
     let mut a = [0xa5u8; 9408];
@@ -154,6 +170,7 @@ pub fn rounds<'a>(
     let mut raw = [0u8; 14112];
     let mut counts = [7u64; 2];
     both(
+        rt,
         name,
         album,
         samples,
@@ -166,5 +183,5 @@ pub fn rounds<'a>(
         &mut out,
         &mut raw,
         &mut counts,
-    );
+    )
 }

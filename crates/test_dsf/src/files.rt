@@ -1,6 +1,9 @@
 // Whole files. A case has the header's 92 bytes, the file's length, the seed of the bytes behind the header, the number of frames that are
 // asked for, and what the file holds; then each frame asked for.
 use dsf::DsfHeader;
+use std::io;
+use std::io::Read;
+use std::rt::Files;
 use test_files::{Tally, number};
 
 // Whether the numbers from a place of a case on are a header's.
@@ -34,20 +37,26 @@ fn asked<'a>(rec: &'a [u8], file: &'a [u8], out: &mut [u8], t: Tally) -> Tally {
     test_files::with(t, right && same, told.number == 0)
 }
 
-fn frame(fd: i32, file: &[u8], out: &mut [u8], t: Tally) -> Tally {
+fn frame<F: Read>(from: &mut F, file: &[u8], out: &mut [u8], t: Tally) -> io::Result<Tally> {
     let mut rec = [0u8; 48];
-    io::read_full(fd, &mut rec);
-    asked(&rec, file, out, t)
+    test_support::read_full(from, &mut rec)?;
+    Ok(asked(&rec, file, out, t))
 }
 
-fn frames(fd: i32, asked: u64, file: &[u8], out: &mut [u8], t: Tally) -> Tally {
+fn frames<F: Read>(
+    from: &mut F,
+    asked: u64,
+    file: &[u8],
+    out: &mut [u8],
+    t: Tally,
+) -> io::Result<Tally> {
     let mut sum = t;
     let mut k = 0u64;
     while k < asked {
-        sum = frame(fd, file, out, sum);
+        sum = frame(from, file, out, sum)?;
         k += 1;
     }
-    sum
+    Ok(sum)
 }
 
 // The tallies of files and of frames.
@@ -63,45 +72,50 @@ fn fill(rec: &[u8], file: &mut [u8]) {
     test_files::put(file, 0, rec, 0, 92);
 }
 
-fn whole(fd: i32, rec: &[u8], file: &mut [u8], out: &mut [u8], b: Both) -> Both {
+fn whole<F: Read>(
+    from: &mut F,
+    rec: &[u8],
+    file: &mut [u8],
+    out: &mut [u8],
+    b: Both,
+) -> io::Result<Both> {
     let n = test_support::of_bytes(number(rec, 92), file);
     let part = &mut file[..n];
     fill(rec, part);
     let was = b.files;
     let asked = b.frames;
     let files = read(rec, part, was);
-    let frames = frames(fd, number(rec, 108), part, out, asked);
-    Both { files, frames }
+    let frames = frames(from, number(rec, 108), part, out, asked)?;
+    Ok(Both { files, frames })
 }
 
-fn one(fd: i32, file: &mut [u8], out: &mut [u8], b: Both) -> Both {
+fn one<F: Read>(from: &mut F, file: &mut [u8], out: &mut [u8], b: Both) -> io::Result<Both> {
     let mut rec = [0u8; 164];
-    io::read_full(fd, &mut rec);
-    whole(fd, &rec, file, out, b)
+    test_support::read_full(from, &mut rec)?;
+    whole(from, &rec, file, out, b)
 }
 
-fn each(fd: i32, file: &mut [u8], out: &mut [u8]) -> Both {
+fn each<F: Read>(from: &mut F, file: &mut [u8], out: &mut [u8]) -> io::Result<Both> {
     let mut b = Both {
         files: test_files::nothing(),
         frames: test_files::nothing(),
     };
-    let n = test_files::cases(fd);
+    let n = test_files::cases(from)?;
     let mut k = 0u64;
     while k < n {
-        b = one(fd, file, out, b);
+        b = one(from, file, out, b)?;
         k += 1;
     }
-    b
+    Ok(b)
 }
 
-pub fn all() {
+pub fn all<R: Files + Print>(rt: &R) -> io::Result<()> {
     let mut file = [0u8; 131072];
     let mut out = [0u8; 32768];
-    let fd = test_files::open(b"files");
-    let b = each(fd, &mut file, &mut out);
-    libc::close(fd);
+    let mut from = test_files::open(rt, b"files")?;
+    let b = each(&mut from, &mut file, &mut out)?;
     let files = b.files;
     let frames = b.frames;
-    test_files::tell(b"files ", files);
-    test_files::tell(b"frames ", frames);
+    test_files::tell(rt, b"files ", files)?;
+    test_files::tell(rt, b"frames ", frames)
 }

@@ -1,5 +1,8 @@
 // Headers. A case has 92 bytes, how many bytes are lent, the file's length, and what the file holds.
 use crate::files;
+use std::io;
+use std::io::Read;
+use std::rt::Files;
 use test_files::{Tally, number};
 
 fn call(rec: &[u8], t: Tally) -> Tally {
@@ -13,26 +16,25 @@ fn call(rec: &[u8], t: Tally) -> Tally {
     test_files::with(t, right && same, told.number == 0)
 }
 
-fn one(fd: i32, t: Tally) -> Tally {
+fn one<F: Read>(from: &mut F, t: Tally) -> io::Result<Tally> {
     let mut rec = [0u8; 156];
-    io::read_full(fd, &mut rec);
-    call(&rec, t)
+    test_support::read_full(from, &mut rec)?;
+    Ok(call(&rec, t))
 }
 
-fn each(fd: i32) -> Tally {
+fn each<F: Read>(from: &mut F) -> io::Result<Tally> {
     let mut t = test_files::nothing();
-    let n = test_files::cases(fd);
+    let n = test_files::cases(from)?;
     let mut k = 0u64;
     while k < n {
-        t = one(fd, t);
+        t = one(from, t)?;
         k += 1;
     }
-    t
+    Ok(t)
 }
 
-pub fn all() {
-    let fd = test_files::open(b"headers");
-    let t = each(fd);
-    libc::close(fd);
-    test_files::tell(b"headers ", t);
+pub fn all<R: Files + Print>(rt: &R) -> io::Result<()> {
+    let mut from = test_files::open(rt, b"headers")?;
+    let t = each(&mut from)?;
+    test_files::tell(rt, b"headers ", t)
 }

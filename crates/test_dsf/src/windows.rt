@@ -1,5 +1,8 @@
 // Frames out of windows. A case has a header's 92 bytes, how many bytes of it are lent, the file's length, the frame, the window's start, seed
 // and length, the buffer's length; the answer, the digest of the buffer after the call, and the window that is needed.
+use std::io;
+use std::io::Read;
+use std::rt::Files;
 use test_files::{Tally, number};
 
 // Whether the window needed is the one stored.
@@ -34,28 +37,27 @@ fn ask(rec: &[u8], window: &mut [u8], out: &mut [u8], t: Tally) -> Tally {
     call(rec, part, room, t)
 }
 
-fn one(fd: i32, window: &mut [u8], out: &mut [u8], t: Tally) -> Tally {
+fn one<F: Read>(from: &mut F, window: &mut [u8], out: &mut [u8], t: Tally) -> io::Result<Tally> {
     let mut rec = [0u8; 196];
-    io::read_full(fd, &mut rec);
-    ask(&rec, window, out, t)
+    test_support::read_full(from, &mut rec)?;
+    Ok(ask(&rec, window, out, t))
 }
 
-fn each(fd: i32, window: &mut [u8], out: &mut [u8]) -> Tally {
+fn each<F: Read>(from: &mut F, window: &mut [u8], out: &mut [u8]) -> io::Result<Tally> {
     let mut t = test_files::nothing();
-    let n = test_files::cases(fd);
+    let n = test_files::cases(from)?;
     let mut k = 0u64;
     while k < n {
-        t = one(fd, window, out, t);
+        t = one(from, window, out, t)?;
         k += 1;
     }
-    t
+    Ok(t)
 }
 
-pub fn all() {
+pub fn all<R: Files + Print>(rt: &R) -> io::Result<()> {
     let mut window = [0u8; 131072];
     let mut out = [0u8; 32768];
-    let fd = test_files::open(b"windows");
-    let t = each(fd, &mut window, &mut out);
-    libc::close(fd);
-    test_files::tell(b"windows ", t);
+    let mut from = test_files::open(rt, b"windows")?;
+    let t = each(&mut from, &mut window, &mut out)?;
+    test_files::tell(rt, b"windows ", t)
 }

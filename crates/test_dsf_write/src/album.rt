@@ -1,6 +1,7 @@
 // Four stereo frames converted in one run; and frame by frame out of a file that was written of them, each with the frames next to it in the
 // file. The samples are the same.
 use reference::{Converter, Cutoff, Gain, PcmRate, Settings};
+use std::io;
 use test_files::Tally;
 
 // Standard at 88,200 Hz, two channels, 0 dB.
@@ -97,7 +98,7 @@ fn each<'a>(file: &'a [u8], whole: &'a [i32; 9408]) -> Tally {
     t
 }
 
-pub fn all() {
+pub fn all(rt: &impl Print) -> io::Result<()> {
     let none = [0u8; 1];
     let mut frames = [0u8; 37632];
     let mut whole = [0i32; 9408];
@@ -114,5 +115,5 @@ pub fn all() {
     );
     dsf_write::write(2, &frames, &mut file);
     let t = each(&file, &whole);
-    test_files::tell(b"frames converted out of a file ", t);
+    test_files::tell(rt, b"frames converted out of a file ", t)
 }

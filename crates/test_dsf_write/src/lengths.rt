@@ -1,4 +1,7 @@
 // Lengths of files. A case has channels and bytes of frames; the answer, and the length.
+use std::io;
+use std::io::Read;
+use std::rt::Files;
 use test_files::{Tally, number};
 
 fn call(rec: &[u8], t: Tally) -> Tally {
@@ -11,26 +14,25 @@ fn call(rec: &[u8], t: Tally) -> Tally {
     test_files::with(t, right && same, told.number == 0)
 }
 
-fn one(fd: i32, t: Tally) -> Tally {
+fn one<F: Read>(from: &mut F, t: Tally) -> io::Result<Tally> {
     let mut rec = [0u8; 48];
-    io::read_full(fd, &mut rec);
-    call(&rec, t)
+    test_support::read_full(from, &mut rec)?;
+    Ok(call(&rec, t))
 }
 
-fn each(fd: i32) -> Tally {
+fn each<F: Read>(from: &mut F) -> io::Result<Tally> {
     let mut t = test_files::nothing();
-    let n = test_files::cases(fd);
+    let n = test_files::cases(from)?;
     let mut k = 0u64;
     while k < n {
-        t = one(fd, t);
+        t = one(from, t)?;
         k += 1;
     }
-    t
+    Ok(t)
 }
 
-pub fn all() {
-    let fd = test_files::open(b"lengths");
-    let t = each(fd);
-    libc::close(fd);
-    test_files::tell(b"lengths ", t);
+pub fn all<R: Files + Print>(rt: &R) -> io::Result<()> {
+    let mut from = test_files::open(rt, b"lengths")?;
+    let t = each(&mut from)?;
+    test_files::tell(rt, b"lengths ", t)
 }

@@ -1,5 +1,8 @@
 // Files. A case has channels, bytes of frames and their seed, the output's length; the answer, and the digest of the output after the call.
 // What is accepted is read back.
+use std::io;
+use std::io::Read;
+use std::rt::Files;
 use test_files::{Tally, number};
 
 fn channels(rec: &[u8]) -> u8 {
@@ -103,35 +106,45 @@ fn ask(rec: &[u8], frames: &mut [u8], file: &mut [u8], out: &mut [u8], b: Both) 
     call(rec, part, room, out, b)
 }
 
-fn one(fd: i32, frames: &mut [u8], file: &mut [u8], out: &mut [u8], b: Both) -> Both {
+fn one<F: Read>(
+    from: &mut F,
+    frames: &mut [u8],
+    file: &mut [u8],
+    out: &mut [u8],
+    b: Both,
+) -> io::Result<Both> {
     let mut rec = [0u8; 64];
-    io::read_full(fd, &mut rec);
-    ask(&rec, frames, file, out, b)
+    test_support::read_full(from, &mut rec)?;
+    Ok(ask(&rec, frames, file, out, b))
 }
 
-fn each(fd: i32, frames: &mut [u8], file: &mut [u8], out: &mut [u8]) -> Both {
+fn each<F: Read>(
+    from: &mut F,
+    frames: &mut [u8],
+    file: &mut [u8],
+    out: &mut [u8],
+) -> io::Result<Both> {
     let mut b = Both {
         files: test_files::nothing(),
         frames: test_files::nothing(),
     };
-    let n = test_files::cases(fd);
+    let n = test_files::cases(from)?;
     let mut k = 0u64;
     while k < n {
-        b = one(fd, frames, file, out, b);
+        b = one(from, frames, file, out, b)?;
         k += 1;
     }
-    b
+    Ok(b)
 }
 
-pub fn all() {
+pub fn all<R: Files + Print>(rt: &R) -> io::Result<()> {
     let mut frames = [0u8; 262144];
     let mut file = [0u8; 262144];
     let mut out = [0u8; 32768];
-    let fd = test_files::open(b"written");
-    let b = each(fd, &mut frames, &mut file, &mut out);
-    libc::close(fd);
+    let mut from = test_files::open(rt, b"written")?;
+    let b = each(&mut from, &mut frames, &mut file, &mut out)?;
     let files = b.files;
     let read = b.frames;
-    test_files::tell(b"files ", files);
-    test_files::tell(b"frames read back ", read);
+    test_files::tell(rt, b"files ", files)?;
+    test_files::tell(rt, b"frames read back ", read)
 }

@@ -1,9 +1,13 @@
 // What the programs over stored cases share: numbers in bytes, bytes that a seed stands for, digests, counts. compare/files has the same for the
 // cases' own side.
 #![tactic(auto)]
+
 ghost use Rattle.std.specs.Prelude.{◌≡◌, cond, ◌+◌, ◌/◌, ◌%◌, ◌≤◌, get_or};
 ghost use Rattle.test_files.specs.Cases.{with_below, four_at, eight_at, mix, digest_on};
 
+use std::io;
+use std::io::Read;
+use std::rt::Files;
 use test_support::one;
 
 fn wide(b: u8) -> u64
@@ -125,22 +129,18 @@ pub fn digest(bytes: &[u8]) -> u64
     h
 }
 
-// Opens a list of cases; where there is none, standard error says so.
-pub fn open(path: &[u8]) -> i32 {
-    let fd = os::open_read(path);
-    if fd < 0 {
-        os::fail(path);
-    }
-    fd
+// Opens a list of cases; where there is none, that is an error.
+pub fn open<R: Files>(rt: &R, path: &[u8]) -> io::Result<R::File> {
+    test_support::open(rt, path)
 }
 
 // A list's number of cases stands first.
-pub fn cases(fd: i32) -> u64 {
+pub fn cases<F: Read>(from: &mut F) -> io::Result<u64> {
     let mut first = [0u8; 8];
-    if io::read_full(fd, &mut first) < 8 {
-        return 0;
+    if test_support::read_full(from, &mut first)? < 8 {
+        return Ok(0);
     }
-    number(&first, 0)
+    Ok(number(&first, 0))
 }
 
 // Calls, those that answered as stored, and those that were accepted.
@@ -179,12 +179,11 @@ pub fn with(t: Tally, equal: bool, accepted: bool) -> Tally
 }
 
 // Prints a tally.
-pub fn tell(name: &[u8], t: Tally) {
-    io::write_all(1, name);
-    io::print_decimal(1, t.calls);
-    io::write_all(1, b" equal ");
-    io::print_decimal(1, t.equal);
-    io::write_all(1, b" accepted ");
-    io::print_decimal(1, t.accepted);
-    io::write_all(1, b"\n");
+pub fn tell(rt: &impl Print, name: &[u8], t: Tally) -> io::Result<()> {
+    rt.write_all(name)?;
+    rt.print(t.calls)?;
+    rt.print(" equal ")?;
+    rt.print(t.equal)?;
+    rt.print(" accepted ")?;
+    rt.println(t.accepted)
 }

@@ -3,6 +3,8 @@ ghost use Rattle.std.specs.Prelude.{◌≡◌, ◌≤◌, length};
 
 use crate::rows::statistics;
 use reference::{ConvertStats, Verdict};
+use std::io;
+use std::rt::Files;
 
 const CASES: usize = 230;
 
@@ -78,17 +80,12 @@ fn rows(bytes: &[u8], sheets: &[u8]) -> u64
     yes
 }
 
-pub fn all() {
+pub fn all<R: Files + Print>(rt: &R) -> io::Result<()> {
     let mut bytes = [0u8; 113390];
-    test_support::read(b"cases", CASES * 29, &mut bytes);
+    test_support::read(rt, b"cases", CASES * 29, &mut bytes)?;
     let mut sheets = [0u8; 29283];
-    let fd = os::open_read(b"sheets");
-    if fd < 0 {
-        os::fail(b"sheets");
-        return;
-    }
-    io::read_full(fd, &mut sheets);
-    libc::close(fd);
+    let mut from = test_support::open(rt, b"sheets")?;
+    test_support::read_full(&mut from, &mut sheets)?;
     let yes = rows(&bytes, &sheets);
-    test_support::equal(b"sheets ", CASES as u64, yes);
+    test_support::equal(rt, b"sheets ", CASES as u64, yes)
 }

@@ -2,6 +2,8 @@
 ghost use Rattle.std.specs.Prelude.{◌≡◌, length};
 
 use crate::rows::{are, statistics};
+use std::io;
+use std::rt::Files;
 
 const JOINS: usize = 30;
 
@@ -13,9 +15,9 @@ fn right(row: &[u64]) -> bool
     are(both, &row[48..72])
 }
 
-pub fn all() {
+pub fn all<R: Files + Print>(rt: &R) -> io::Result<()> {
     let mut bytes = [0u8; 36720];
-    test_support::read(b"joins", JOINS * 72, &mut bytes);
+    test_support::read(rt, b"joins", JOINS * 72, &mut bytes)?;
     let mut k = 0usize;
     let mut yes = 0u64;
     while k < JOINS {
@@ -24,5 +26,5 @@ pub fn all() {
         yes += test_support::one(right(&row));
         k += 1;
     }
-    test_support::equal(b"joined statistics ", JOINS as u64, yes);
+    test_support::equal(rt, b"joined statistics ", JOINS as u64, yes)
 }

@@ -1,10 +1,14 @@
 // Stored answers: files of numbers, sixteen hexadecimal digits each, with a space or the line's end after them.
-ghost use Rattle.std.specs.Prelude.{◌≡◌, ◌+◌, ◌*◌, ◌≤◌, ◌<◌, length, get_or};
+ghost use Rattle.std.specs.Prelude.{◌≡◌, IfOk, ◌+◌, ◌*◌, ◌≤◌, ◌<◌, length, get_or};
 ghost use Rattle.numbers.specs.Lists.{Held};
 ghost use Rattle.test_support.specs.Answers as answers;
 ghost use Rattle.test_support.specs.Answers.{number_at, header_place, begins_as};
 
 use crate::{at, both};
+use std::fs::File;
+use std::io;
+use std::io::{ErrorKind, Read};
+use std::rt::Files;
 
 fn digit(b: u8) -> u64
     ensures { (result ≡ answers.digit b) × (result < 16) }
@@ -87,25 +91,53 @@ pub fn begins_as_python(headers: &[u64], rate: u64, channels: u64, frames: u64, 
     begins(headers, place(rate, channels, frames), file)
 }
 
-fn say<'a>(name: &'a [u8], word: &'a [u8]) {
-    io::write_all(1, name);
-    io::write_all(1, word);
+fn say(rt: &impl Print, name: &[u8], word: &[u8]) -> io::Result<()> {
+    rt.write_all(name)?;
+    rt.write_all(word)
 }
 
-// The bytes of a file of so many numbers. A file that is missing, or has another length, is said.
-pub fn read(name: &[u8], numbers: usize, bytes: &mut [u8]) {
-    let fd = os::open_read(name);
-    if fd < 0 {
-        say(name, b" is missing\n");
-        return;
+// Opens a file for reading. std's paths are UTF-8: a name that isn't is an error, as a file that is missing.
+pub fn open<R: Files>(rt: &R, name: &[u8]) -> io::Result<R::File> {
+    match str::from_utf8(name) {
+        Ok(path) => File::open(rt, path),
+        Err(_) => Err(io::Error::from(ErrorKind::InvalidInput)),
     }
-    let got = io::read_full(fd, bytes);
-    libc::close(fd);
-    if got % 17 != 0 {
-        say(name, b" has half a number\n");
-        return;
+}
+
+// Reads until the slice is full or the input ends; the answer is how many bytes came.
+pub fn read_full<F: Read>(from: &mut F, bytes: &mut [u8]) -> io::Result<usize>
+    ensures { IfOk result (λ n. n ≤ length bytes.old) }
+{
+    let mut n = 0usize;
+    while n < bytes.len() {
+        let got = from.read(&mut bytes[n..])?;
+        if got == 0 {
+            return Ok(n);
+        }
+        n += got;
     }
-    if got / 17 != numbers {
-        say(name, b" has another number of numbers\n");
+    Ok(n)
+}
+
+// The bytes of a file of so many numbers. A file that is missing, or has another length, is said; a read that fails is an error.
+pub fn read<R: Files + Print>(
+    rt: &R,
+    name: &[u8],
+    numbers: usize,
+    bytes: &mut [u8],
+) -> io::Result<()> {
+    match open(rt, name) {
+        Ok(from) => {
+            let mut from = from;
+            let got = read_full(&mut from, bytes)?;
+            if got % 17 != 0 {
+                return say(rt, name, b" has half a number\n");
+            }
+            if got / 17 != numbers {
+                return say(rt, name, b" has another number of numbers\n");
+            }
+            Ok(())
+        }
+        Err(_) => say(rt, name, b" is missing\n"),
     }
 }

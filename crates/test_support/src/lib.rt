@@ -1,5 +1,6 @@
 // What the programs that compare share: floats by their bits, refusals as numbers, parts of lists, stored answers, lines.
 #![tactic(auto)]
+
 ghost use Rattle.std.specs.Prelude.{◌≡◌, cond, ◌&&◌, ◌+◌, ◌*◌, ◌%◌, ◌≤◌, eqb, ltb, pos, ◌+ℤ◌, length, take, get_or};
 ghost use Rattle.std.specs.Float.{binary64};
 ghost use Rattle.std.specs.Float.Ieee.{of_bits, to_bits};
@@ -8,10 +9,11 @@ ghost use Rattle.interface.specs.Codes as codes;
 ghost use Rattle.test_support.specs.Answers.{told};
 
 use reference::{Converted, Cutoff, PcmError, PcmRate, Verdict};
+use std::io;
 
 mod answers;
 
-pub use answers::{begins_as_python, column, read};
+pub use answers::{begins_as_python, column, open, read, read_full};
 
 // A float by its bits, and its bits. Every NaN is one.
 pub fn float(n: u64) -> f64
@@ -212,21 +214,20 @@ pub fn lifted(s: i32) -> u64
     (s as i64 + 0x8000_0000) as u64
 }
 
-fn line<'a>(name: &'a [u8], all: u64, word: &'a [u8], yes: u64) {
-    io::write_all(1, name);
-    io::print_decimal(1, all);
-    io::write_all(1, word);
-    io::print_decimal(1, yes);
-    io::write_all(1, b"\n");
+fn line(rt: &impl Print, name: &[u8], all: u64, word: &[u8], yes: u64) -> io::Result<()> {
+    rt.write_all(name)?;
+    rt.print(all)?;
+    rt.write_all(word)?;
+    rt.println(yes)
 }
 
 // How many were tried, and how many were right or equal.
-pub fn right(name: &[u8], all: u64, yes: u64) {
-    line(name, all, b" right ", yes);
+pub fn right(rt: &impl Print, name: &[u8], all: u64, yes: u64) -> io::Result<()> {
+    line(rt, name, all, b" right ", yes)
 }
 
-pub fn equal(name: &[u8], all: u64, yes: u64) {
-    line(name, all, b" equal ", yes);
+pub fn equal(rt: &impl Print, name: &[u8], all: u64, yes: u64) -> io::Result<()> {
+    line(rt, name, all, b" equal ", yes)
 }
 
 // A number of 64 bits, with its sign.

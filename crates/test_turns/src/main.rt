@@ -1,6 +1,7 @@
 // Boards in data/ beside their answers, which compare/turns.py works out turn by turn. A file has what the program `turns` is given, a byte
 // '=' and what it is to print.
 #![tactic(auto)]
+
 ghost use Rattle.std.specs.Prelude.{◌≤◌, length};
 
 fn digit(n: u64) -> u8 {

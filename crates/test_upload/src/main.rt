@@ -1,7 +1,10 @@
 // Uploads given up early, beside the answers of compare/files. A case has the number of a header, what is changed in it (place, number of bytes,
 // bytes), the upload's length, and the answer. Short uploads are also given whole.
 #![tactic(auto)]
+
 use dsf_upload::Upload;
+use std::io;
+use std::io::Read;
 use test_files::{Tally, number};
 
 fn byte(s: &[u8], i: usize) -> usize {
@@ -70,38 +73,36 @@ fn calls(rec: &[u8], file: &[u8], b: Both) -> Both {
     Both { heads, files }
 }
 
-fn one(fd: i32, heads: &[u8], file: &mut [u8], b: Both) -> Both {
+fn one<F: Read>(from: &mut F, heads: &[u8], file: &mut [u8], b: Both) -> io::Result<Both> {
     let mut rec = [0u8; 28];
-    io::read_full(fd, &mut rec);
+    test_support::read_full(from, &mut rec)?;
     head(heads, &rec, file);
-    calls(&rec, file, b)
+    Ok(calls(&rec, file, b))
 }
 
-fn each(fd: i32, heads: &[u8], file: &mut [u8]) -> Both {
+fn each<F: Read>(from: &mut F, heads: &[u8], file: &mut [u8]) -> io::Result<Both> {
     let mut b = Both {
         heads: test_files::nothing(),
         files: test_files::nothing(),
     };
-    let n = test_files::cases(fd);
+    let n = test_files::cases(from)?;
     let mut k = 0u64;
     while k < n {
-        b = one(fd, heads, file, b);
+        b = one(from, heads, file, b)?;
         k += 1;
     }
-    b
+    Ok(b)
 }
 
-fn main() {
+fn main(rt: HostRuntime) -> io::Result<()> {
     let mut heads = [0u8; 736];
     let mut file = [0x69u8; 65536];
-    let from = test_files::open(b"heads");
-    io::read_full(from, &mut heads);
-    libc::close(from);
-    let fd = test_files::open(b"uploads");
-    let b = each(fd, &heads, &mut file);
-    libc::close(fd);
+    let mut from = test_files::open(&rt, b"heads")?;
+    test_support::read_full(&mut from, &mut heads)?;
+    let mut uploads = test_files::open(&rt, b"uploads")?;
+    let b = each(&mut uploads, &heads, &mut file)?;
     let short = b.heads;
     let whole = b.files;
-    test_files::tell(b"headers ", short);
-    test_files::tell(b"files ", whole);
+    test_files::tell(&rt, b"headers ", short)?;
+    test_files::tell(&rt, b"files ", whole)
 }

@@ -3,6 +3,7 @@ ghost use Rattle.std.specs.Prelude.{◌≤◌};
 
 use crate::case;
 use crate::case::Case;
+use std::io;
 use test_support::one;
 use wav_format::WavRead;
 
@@ -107,8 +108,8 @@ fn count(question: u8) -> u64 {
     yes
 }
 
-pub fn damaged() {
-    test_support::right(b"changed header bytes refused ", 269280, count(0));
-    test_support::right(b"a byte short ", 24, count(1));
-    test_support::right(b"a byte long ", 24, count(2));
+pub fn damaged(rt: &impl Print) -> io::Result<()> {
+    test_support::right(rt, b"changed header bytes refused ", 269280, count(0))?;
+    test_support::right(rt, b"a byte short ", 24, count(1))?;
+    test_support::right(rt, b"a byte long ", 24, count(2))
 }

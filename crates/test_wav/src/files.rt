@@ -2,6 +2,8 @@
 use crate::case;
 use crate::case::Case;
 use reference::{PcmRate, Verdict};
+use std::io;
+use std::rt::Files;
 use test_support::one;
 use wav_format::WavRead;
 
@@ -101,12 +103,12 @@ fn count(question: u8, headers: &[u64]) -> u64 {
     yes
 }
 
-pub fn files() {
+pub fn files<R: Files + Print>(rt: &R) -> io::Result<()> {
     let mut text = [0u8; 17952];
     let mut headers = [0u64; 1056];
-    test_support::read(b"headers", 1056, &mut text);
+    test_support::read(rt, b"headers", 1056, &mut text)?;
     test_support::column(&text, 0, 1, &mut headers);
-    test_support::equal(b"files written ", 24, count(0, &headers));
-    test_support::right(b"files read ", 24, count(1, &headers));
-    test_support::equal(b"files written back ", 24, count(2, &headers));
+    test_support::equal(rt, b"files written ", 24, count(0, &headers))?;
+    test_support::right(rt, b"files read ", 24, count(1, &headers))?;
+    test_support::equal(rt, b"files written back ", 24, count(2, &headers))
 }

@@ -1,12 +1,15 @@
 // WAV files beside what Python's `wave` writes (data/headers, made by compare/wav/headers.py): written, read, written back, damaged, refused.
 #![tactic(auto)]
+
 mod case;
 mod damaged;
 mod files;
 mod refusals;
 
-fn main() {
-    files::files();
-    damaged::damaged();
-    refusals::refusals();
+use std::io;
+
+fn main(rt: HostRuntime) -> io::Result<()> {
+    files::files(&rt)?;
+    damaged::damaged(&rt)?;
+    refusals::refusals(&rt)
 }

@@ -2,6 +2,7 @@
 ghost use Rattle.std.specs.Prelude.{◌≤◌};
 
 use reference::PcmRate;
+use std::io;
 use test_support::one;
 
 fn kept(out: &[u8]) -> bool {
@@ -39,20 +40,20 @@ fn tried(channels: u8, n: u64, room: u64, number: u64, first: u64, second: u64) 
     one(refused(channels, &bytes[..b], &mut out[..o], number, first, second))
 }
 
-pub fn refusals() {
+pub fn refusals(rt: &impl Print) -> io::Result<()> {
     let channels = tried(0, 3528, 3572, 12, 0, 0)
         + tried(3, 3528, 3572, 12, 0, 0)
         + tried(255, 3528, 3572, 12, 0, 0);
-    test_support::right(b"other channels ", 3, channels);
+    test_support::right(rt, b"other channels ", 3, channels)?;
     let frames = tried(1, 3527, 3571, 12, 0, 0)
         + tried(1, 3529, 3573, 12, 0, 0)
         + tried(2, 3528, 3572, 12, 0, 0)
         + tried(2, 7057, 7101, 12, 0, 0);
-    test_support::right(b"not whole frames ", 4, frames);
+    test_support::right(rt, b"not whole frames ", 4, frames)?;
     let lengths = tried(1, 3528, 3571, 7, 3571, 3572)
         + tried(1, 3528, 3573, 7, 3573, 3572)
         + tried(2, 7056, 0, 7, 0, 7100)
         + tried(1, 0, 43, 7, 43, 44);
-    test_support::right(b"output of another length ", 4, lengths);
-    test_support::right(b"12 before 7 ", 1, tried(3, 3528, 0, 12, 0, 0));
+    test_support::right(rt, b"output of another length ", 4, lengths)?;
+    test_support::right(rt, b"12 before 7 ", 1, tried(3, 3528, 0, 12, 0, 0))
 }
