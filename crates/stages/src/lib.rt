@@ -1,5 +1,6 @@
 // Steps that the routes share: v from bytes, half the rate, and arrays moved and woven.
 #![tactic(auto)]
+
 ghost use Rattle.std.specs.Prelude.{◌≡◌, ℕ, ◌+◌, ◌-◌, ◌*◌, ◌^◌, ◌≤◌, ◌<◌, List, ℤ, pos, length, get_or};
 ghost use Rattle.numbers.specs.Lists.{Held};
 ghost use Rattle.numbers.specs.Parts.{woven};

@@ -16,9 +16,9 @@ use Rattle.stages.proofs.half_band.Statement.{statement}
 use Rattle.stages.proofs.half_band.Tie as tie
 
 -- places in the code: u is there; the bytes are known to be bytes
-module _ (c : tie.After-half-arg2) where
+module _ (c : tie.After-half-arg-1) where
   abbrev odd_made : tie.After-first_stage-2
-  odd_made = c.before.before.before
+  odd_made = c.before.before
 
   abbrev even_made : tie.After-first_stage
   even_made = odd_made.before.before.before
@@ -31,13 +31,13 @@ module _ (c : tie.After-half-arg2) where
 
   -- u around the block
   around : (β : ℕ → ℕ) (i : ℕ) → 10 ≤ i → Held 0 β (2 * i - 19) (length start.args.bytes.now) start.args.bytes.now
-      → Around β i (length start.args.out.now) even_made.first_stage.last.1.1.1.1.1.0 odd_made.first_stage-2.last.1.1.1.1.1.0
+      → Around β i (length start.args.out.now) even_made.first_stage.new.out odd_made.first_stage-2.new.out
   around β i l bytes =
-      let stage = first_held 4 S1_length (lit< tt) start.pre.0 (λ j. omega (arith, known.shared_slice_known-1.given j)) bytes in
+      let stage = first_held 4 S1_length (lit< tt) start.requires.0 (λ j. omega (arith, known.shared_slice_known-1.given j)) bytes in
       record {
         low = omega arith;
-        long_even = even_made.first_stage.kept.1.1.1.1.1.0;
-        long_odd = omega (arith, odd_made.first_stage-2.kept.1.1.1.1.1.0);
+        long_even = even_made.first_stage.auto.out;
+        long_odd = omega (arith, odd_made.first_stage-2.auto.out);
         at_even = held_moved (stage 15 2 _ _ (omega arith) even_made.first_stage.ensures) (λ k m. ap (u S1 β) (omega arith));
         at_odd = held_some _ (omega arith) (held_moved (stage 0 2 _ _ (omega arith) odd_made.first_stage-2.ensures) (λ k m. ap (u S1 β) (omega arith)));
       }
@@ -46,7 +46,7 @@ module _ (c : tie.After-half-arg2) where
   abbrev some : ℕ → ℕ
   some k = get_or start.args.bytes.now (k - 1) 0
 
-  around_some : Around some 10 (length start.args.out.now) even_made.first_stage.last.1.1.1.1.1.0 odd_made.first_stage-2.last.1.1.1.1.1.0
+  around_some : Around some 10 (length start.args.out.now) even_made.first_stage.new.out odd_made.first_stage-2.new.out
   around_some = around some 10 (lit≤ tt) (any_bytes _ 1 _)
 
 half_requires : tie.Need-half-requires
@@ -59,7 +59,7 @@ returns c =
     let made = c.before.before in
     let f = c.half in
     let a = around_some made in
-    (v_small (some made) 10 (omega (arith, f.auto.0, a.long_even)) (v_held a f.ensures), λ β i l bytes. v_held (around made β i l bytes) f.ensures)
+    (v_small (some made) 10 (omega (arith, f.auto.y, a.long_even)) (v_held a f.ensures), λ β i l bytes. v_held (around made β i l bytes) f.ensures)
 
 pub half_band_spec : {M : Type 1} → statement M
 half_band_spec =

@@ -26,30 +26,28 @@ sum_is F x even odd i some room = rw (even, odd) (decimated F x some i room)
 
 dec2_requires : tie.Need-dec2-requires
 dec2_requires c κs =
-    let s = c.before.before.before in
-    let f = s.requires.0 in
+    let f = c.requires.0 in
     let even = even_half f.F f.halved in
     let odd = odd_half f.F f.halved in
     let long = halves_length f.F f.halved in
     let evens = ap length even ∙ length_even f.F in
     let odds = ap length odd ∙ length_odd f.F in
-    let fit = small_fit f.F (2 * length s.args.y.now) f.small s.requires.1.1 in (
-      (omega (arith, long, evens), omega (arith, long, evens, odds), omega (arith, evens, odds), omega (arith, evens, odds), omega (arith, long, evens, odds), s.requires.1.0.1),
+    let fit = small_fit f.F (2 * length c.args.y.now) f.small c.requires.1.1 in (
+      (omega (arith, long, evens), omega (arith, long, evens, odds), omega (arith, evens, odds), omega (arith, evens, odds), omega (arith, long, evens, odds), c.requires.1.0.1),
       (
         rw (even, odd) (halves_phases (split_halves f.F) f.keeps),
         (
-          wider s.requires.1.1 (lit≤ tt),
-          record { fits = λ i m. rw (sum_is f.F s.args.x.now even odd i (omega (arith, long)) (omega (arith, long))) (fit.fits (2 * i) (omega arith)) },
+          wider c.requires.1.1 (lit≤ tt),
+          record { fits = λ i m. rw (sum_is f.F c.args.x.now even odd i (omega (arith, long)) (omega (arith, long))) (fit.fits (2 * i) (omega arith)) },
         ),
       ),
     )
 
 returns : tie.Need-returns
 returns c =
-    let s = c.before.before.before.before.before in
     λ F halved.
     let long = halves_length F halved in
-    filled_as c.dec2.ensures (λ i m. ap (λ (z : ℤ). R z 24) (sum_is F s.args.x.now (even_half F halved) (odd_half F halved) i (omega (arith, s.requires, long)) (omega (arith, s.requires, long))))
+    filled_as c.dec2.ensures (λ i m. ap (λ (z : ℤ). R z 24) (sum_is F c.args.x.now (even_half F halved) (odd_half F halved) i (omega (arith, c.requires, long)) (omega (arith, c.requires, long))))
 
 pub halved_spec : {M : Type 1} → statement M
 halved_spec =

@@ -24,9 +24,8 @@ loop-holds c = (omega arith, refl, λ j l. absurd (omega arith), λ j l. refl)
 loop-again : tie.Need-loop-k-preserved invariant-loop decreases-loop
 loop-again c =
     let l = c.loop-k in
-    let s = c.before.before.before in
-    let x = s.args.x.now in
-    let by = s.args.by in
+    let x = c.args.x.now in
+    let by = c.args.by in
     let v = val _ _ c.v-1.given refl ∙ l.invariant.3 (l.k + by) (omega arith) in (
       omega arith,
       length-set l.x _ _ ∙ l.invariant.1,
