@@ -1,9 +1,9 @@
 -- What is asked of a list of calls can be met: for every accepted converter and any two frames, a `convert` of the first with the second as
 -- its neighbour, a refused call, and a `convert_run` of the second with the first as its neighbour join to the run of both.
-use mathlib.Core.Path.{◌≡◌, refl, ap, sym, ◌∙◌}
+use mathlib.Core.Path.{◌≡◌, ap, sym, ◌∙◌}
 use mathlib.Core.List.{List, [], ◌∷◌, ◌++◌, flat_map, append_assoc, append-nil}
 use mathlib.Core.Bool.{true, false, not}
-use Prim.Native.Nat.{ℕ, ◌+◌, ◌-◌, ◌*◌, ◌%◌, ◌<◌}
+use Prim.Native.Nat.{ℕ, ◌+◌, ◌*◌, ◌%◌, ◌<◌}
 use native.Mathlib.Nat.{div-eq_of_eq-mul_left, mod_self, mul-le-mul}
 use native.Mathlib.Omega.{arith}
 use borrow.Author.Tests.{eq-eqb, ne_eqb}

@@ -2,14 +2,13 @@
 use mathlib.Core.Path.{◌≡◌, refl, ap, sym, ◌∙◌}
 use mathlib.Core.List.{List}
 use mathlib.Core.Bool.{Bool, true, false, cond, ◌&&◌}
-use Prim.Native.Nat.{ℕ, ◌+◌, ◌-◌, ◌*◌, ◌^◌, ◌≤◌, ◌<◌, min}
+use Prim.Native.Nat.{ℕ, ◌+◌, ◌*◌, ◌^◌, ◌<◌}
 use native.Mathlib.Nat.{min-eq_left}
 use native.Mathlib.Omega.{arith}
 use borrow.Author.Tests.{ltb-true}
 use lib.Dec.{eqb, ltb}
 use lib.IntN.{ℤ, pos}
 use lib.ListN.{get_or}
-use Rattle.numbers.specs.Sums.{at0}
 use Rattle.numbers.specs.Extremes.{lesser, greater, extreme0, pick_unmarked}
 use Rattle.numbers.specs.Lists.{tabulate, total, count}
 use Rattle.numbers.proofs.Extremes.{Best, least_best, greatest_best, none_of_both, extreme0_join, extreme0_same}

@@ -11,7 +11,7 @@ use lib.Dec.{eqb, ltb}
 use lib.IntN.{ℤ, pos, negsuc}
 use lib.ListN.{length}
 use lib.Signed.{lt_z}
-use Rattle.numbers.specs.Lists.{tabulate, total, count}
+use Rattle.numbers.specs.Lists.{tabulate, total}
 use Rattle.numbers.proofs.Extremes.{Under}
 use Rattle.numbers.proofs.Lists.{tabulate_join, below_or}
 use Rattle.overs.specs.declared.End.{End}
@@ -208,9 +208,14 @@ module _ (s : ℕ → ℤ) where
   held_other e zero h = refl
   held_other e (suc n) h = rw (stands_is e (s n), same_turned (end_of (s n)) e, h)
 
+  one_before : (n : ℕ) (e : End) → end_of (s n) ≡ e → same_end e e ≡ true → just_before s e (suc n) 3 ≡ suc (just_before s e n 2)
+  unfolding just_before
+  one_before n e h r = rw (stands_is e (s n), h, r)
+
   next_is : (n : ℕ) (e : End) → end_of (s n) ≡ e → same_end e e ≡ true → in_progress s (suc n) ≡ record { end = e; length = suc (just_before s e n 2) }
-  unfolding in_progress just_before
-  next_is n e h r = rw (h, stands_is e (s n), h, r)
+  unfolding in_progress
+  next_is n e h r =
+      ap (λ d. record { end = d; length = just_before s d (suc n) 3 }) h ∙ ap (λ (k : ℕ). record { end = e; length = k }) (one_before n e h r)
 
   -- the two sides of `step` at an end, by whether the sample goes on with what is in progress
   counted : (n : ℕ) (e : End) (b : Bool) → same_end e (in_progress s n).end ≡ b → same_end e e ≡ true → end_of (s n) ≡ e

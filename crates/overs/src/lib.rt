@@ -1,5 +1,6 @@
 // Overs by the studio rule: three samples in a row at one end of full scale, counted at the third.
 #![tactic(auto)]
+
 ghost use Rattle.std.specs.Prelude.{◌≡◌, ◌+◌, ◌*◌, ◌≤◌, pos, length, get_or};
 ghost use Rattle.overs.specs.Overs as overs;
 ghost use Rattle.overs.specs.Overs.{Passed};
@@ -39,7 +40,7 @@ fn end_of(s: i32) -> End
 }
 
 fn same_end(a: End, b: End) -> bool
-    ensures { «r» ≡ overs.same_end a b }
+    ensures { result ≡ overs.same_end a b }
 {
     match a {
         End::Neither => false,

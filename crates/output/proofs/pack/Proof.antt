@@ -8,6 +8,7 @@ use lib.IntN.{ℤ, pos}
 use lib.ListN.{length, get_or, take, drop, length-append, length-drop}
 use lib.Seq.{length-take-le, get_or-take, sets-eq, take_at, drop-append-add, drop-drop}
 use mir.Facts.{to_z-of_z}
+use mir.Syntax.{w32}
 use Rattle.numbers.proofs.Lists.{tabulate_same, tabulate_join, length_tabulate}
 use Rattle.numbers.specs.Lists.{tabulate}
 use Rattle.reference.specs.Output.{s24le}
@@ -35,7 +36,7 @@ module _ (zs : List ℤ) (k : ℕ) where
       let n : length (take (k + 1) zs) ≡ k + 1 = length-take-le (k + 1) zs (omega arith) in
       let m : length (take k zs) ≡ k = length-take-le k zs (omega arith) in
       let e : 3 * (k + 1) ≡ 3 * k + 3 = omega arith in
-      rw (n, m, e) (tabulate_join _ 0 (3 * k) 3 ∙ ap₂ (λ (x y : List ℕ). x ++ y) (tabulate_same _ _ 0 0 (3 * k) (λ i l. rw (get_or-take (k + 1) zs ((0 + i) / 3) (pos 0) (omega arith), get_or-take k zs ((0 + i) / 3) (pos 0) (omega arith)))) last)
+      rw (n, m, e) (tabulate_join (λ i. third (get_or (take (k + 1) zs) (i / 3) (pos 0)) (i % 3)) 0 (3 * k) 3 ∙ ap₂ (λ (x y : List ℕ). x ++ y) (tabulate_same (λ i. third (get_or (take (k + 1) zs) (i / 3) (pos 0)) (i % 3)) (λ i. third (get_or (take k zs) (i / 3) (pos 0)) (i % 3)) 0 0 (3 * k) (λ i l. rw (get_or-take (k + 1) zs ((0 + i) / 3) (pos 0) (omega arith), get_or-take k zs ((0 + i) / 3) (pos 0) (omega arith)))) last)
     where
       last : tabulate (λ i. third (get_or (take (k + 1) zs) (i / 3) (pos 0)) (i % 3)) (0 + 3 * k) 3 ≡ three (get_or zs k (pos 0))
       last =
@@ -78,7 +79,7 @@ loop-again c =
     let a = w.args in
     let p = c.put in
     let z = at-put-arg2.put-arg-in-loop-k-1.given in
-    (omega arith, p.auto.0 ∙ l.invariant.1, p.ensures ∙ rw l.invariant.2 (one_more a.samples.now l.k a.bytes.now (to_z-of_z (record { sfits = z })) (omega arith) (omega arith)))
+    (omega arith, p.auto.raw ∙ l.invariant.1, p.ensures ∙ rw l.invariant.2 (one_more a.samples.now l.k a.bytes.now (to_z-of_z {w = w32} (record { sfits = z })) (omega arith) (omega arith)))
 
 returns : tie.Need-returns invariant-loop decreases-loop
 unfolding packed so_far

@@ -8,6 +8,7 @@ use lib.ListN.{length, length-set}
 use lib.IntN.{ℤ, pos}
 use lib.Arith.{digits_lt}
 use mir.Facts.{to_z-of_z}
+use mir.Syntax.{w32}
 use Rattle.numbers.specs.Lists.{Held}
 use Rattle.output.specs.Fills.{FillsItems}
 use Rattle.output.proofs.Boxes.{no_rows, rows, one_item}
@@ -63,7 +64,7 @@ loop-again c = let l = c.loop-k in
     let e : a.n + l.k + 1 ≡ a.n + (l.k + 1) = omega arith in (
       omega arith,
       length-set l.out _ _ ∙ l.invariant.1,
-      λ S h. rw (← e) (rows (l.invariant.2 S h) (one_item S (omega arith) (omega (arith, i)) (to_z-of_z (record { sfits = c.out-1.given }) ∙ h.is l.k (omega arith)))),
+      λ S h. rw (← e) (rows (l.invariant.2 S h) (one_item S (omega arith) (omega (arith, i)) (to_z-of_z {w = w32} (record { sfits = c.out-1.given }) ∙ h.is l.k (omega arith)))),
     )
 
 same_length : tie.Need-shape_of-out invariant-loop decreases-loop

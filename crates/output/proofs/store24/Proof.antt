@@ -8,6 +8,7 @@ use lib.ListN.{length}
 use lib.IntN.{ℤ, pos}
 use lib.Arith.{digits_lt}
 use mir.Facts.{to_z-of_z}
+use mir.Syntax.{w32}
 use Rattle.numbers.specs.Lists.{Held}
 use Rattle.output.specs.Fills.{FillsBytes}
 use Rattle.output.proofs.Boxes.{no_rows, rows, one_sample}
@@ -67,8 +68,8 @@ loop-again c =
     let v = c.put-arg-in-loop-k-1.given in
     let e : a.n + l.k + 1 ≡ a.n + (l.k + 1) = omega arith in (
       omega (arith, at-loop-test.loop-k-test.true),
-      p.auto.0 ∙ l.invariant.1,
-      λ S h. rw (← e, p.ensures) (rows (l.invariant.2 S h) (one_sample S (a.n + l.k) a.c s.requires.0 (omega (arith, inside (at-loop-test))) (to_z-of_z (record { sfits = v }) ∙ h.is l.k at-loop-test.loop-k-test.true))),
+      p.auto.raw ∙ l.invariant.1,
+      λ S h. rw (← e, p.ensures) (rows (l.invariant.2 S h) (one_sample S (a.n + l.k) a.c s.requires.0 (omega (arith, inside (at-loop-test))) (to_z-of_z {w = w32} (record { sfits = v }) ∙ h.is l.k at-loop-test.loop-k-test.true))),
     )
 
 same_length : tie.Need-shape_of-raw invariant-loop decreases-loop

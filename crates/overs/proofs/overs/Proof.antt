@@ -14,7 +14,7 @@ use Rattle.numbers.specs.Lists.{tabulate}
 use Rattle.numbers.proofs.Lists.{length_tabulate, tabulate_join}
 use Rattle.overs.specs.declared.Progress.{Progress}
 use Rattle.overs.specs.declared.OverCount.{OverCount}
-use Rattle.overs.specs.Overs.{none, step, overs_from, after, Passed, channel_size, channel, normal, overs_of}
+use Rattle.overs.specs.Overs.{none, step, overs_from, after, Passed, channel_size, channel, overs_of}
 use Rattle.overs.proofs.Laws.{overs_append, after_append, overs_more, after_more, overs_few, place_inside}
 use Rattle.overs.proofs.overs.Statement.{statement}
 use Rattle.overs.proofs.overs.Tie as tie
@@ -69,7 +69,7 @@ loop-again c = let test = c.before.before in
 -- the place that is read
 inside : (c : tie.Else-k-past invariant-loop decreases-loop) → let l = c.before.before.before in
     let a = l.before.before.before.args in
-    l.loop.k * a.n + a.c < length a.items.now
+    l.loop-k.k * a.n + a.c < length a.items.now
 inside c = let l = c.before.before.before in
     let s = l.before.before in
     let a = s.args in
@@ -111,9 +111,9 @@ module _ {items : List ℤ} {n c k : ℕ} {p q : Progress} {count : ℕ} (r : Ov
 stepped : (c : tie.After-struct_known-1 invariant-loop decreases-loop) → let made = c.before.before in
     let at-loop = made.before.before.before.before.before in
     let a = at-loop.before.before.before.args in
-    let o = made.step.result in
-    SoFar a.items.now a.n a.c (at-loop.loop.k + 1) at-loop.before.normal.result o.next (at-loop.loop.count + o.count)
-    × (at-loop.loop.count + o.count ≤ at-loop.loop.k + 1)
+    let o = made.step-o.result in
+    SoFar a.items.now a.n a.c (at-loop.loop-k.k + 1) at-loop.before.normal-state.result o.next (at-loop.loop-k.count + o.count)
+    × (at-loop.loop-k.count + o.count ≤ at-loop.loop-k.k + 1)
 stepped c = let made = c.before.before in
     let at-loop = made.before.before.before.before.before in
     let l = at-loop.loop-k in
