@@ -9,7 +9,7 @@ use lib.IntN.{ℤ, pos}
 use lib.ListN.{length, get_or}
 use Rattle.numbers.specs.Lists.{tabulate}
 use Rattle.numbers.proofs.Lists.{get_d_tabulate, length_tabulate}
-use Rattle.reference.specs.Refusals.{Decision, accepted, refused, is_accepted, decide}
+use Rattle.reference.specs.Refusals.{accepted, refused, is_accepted, decide}
 use Rattle.reference.proofs.Promises.{exit_accepted}
 use Rattle.schedule.specs.Turns.{board, simulated, lateness_in, greatest, greatest_lateness}
 use Rattle.schedule.specs.Promise.{fitting, simulate_places, ReturnsTheBest}

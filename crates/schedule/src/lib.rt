@@ -1,5 +1,6 @@
 // Request 11: turns on one board. Each list has a place for each album, in the order of their numbers.
 #![tactic(auto)]
+
 ghost use Rattle.std.specs.Prelude.{◌≡◌, true, cond, ◌&&◌, ◌+◌, ◌*◌, ◌-◌, ◌/◌, ◌<◌, ◌≤◌, pos, ◌-ℤ◌, length, get_or};
 ghost use Rattle.std.specs.Int.Signed.{lt_z};
 ghost use Rattle.schedule.specs.Turns as turns;

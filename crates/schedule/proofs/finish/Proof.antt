@@ -1,6 +1,5 @@
 -- `finish` meets its contract.
 use mathlib.Core.Path.{◌≡◌, refl, sym, ◌∙◌, ap}
-use mathlib.Core.Logic.{⊎_elim}
 use Prim.Native.Nat.{◌+◌, ◌*◌, ◌-◌, ◌≤◌}
 use native.Mathlib.Omega.{arith}
 use lib.ListN.{length}
@@ -11,6 +10,7 @@ use Rattle.schedule.proofs.DueFirst.{ahead, counted, passed}
 use Rattle.schedule.proofs.Best.{simulated_finish}
 use Rattle.schedule.proofs.Ranges.{Ranges, ranges}
 use Rattle.schedule.proofs.finish.Statement.{statement}
+use Rattle.schedule.proofs.finish.Lts.{then-place, else-place}
 use Rattle.schedule.proofs.finish.Tie as tie
 
 abbrev invariant-loop : tie.invariant-loop-b
@@ -60,8 +60,10 @@ loop-again c =
     let other = p.place.ensures in
     let own = c.place-in-loop-b.ensures in
     let more = (l.invariant.3.album l.b (omega arith)).framed in
-    ⊎_elim (λ w. (omega arith, w.3 ∙ ap (λ k. l.sum + k) w.2.ensures.0 ∙ counted s a.a l.b l.sum l.invariant.1 (omega (arith, own, other, w.0.taken)) more, omega (arith, w.2.ensures.1, w.3), l.invariant.3))
-    (λ w. (omega arith, w.1 ∙ passed s a.a l.b l.sum l.invariant.1 (omega (arith, own, other, w.0.left)), omega (arith, w.1), l.invariant.3)) c.if-place.branch
+    elim c.if-place.branch [
+      | then-place w ↦ (omega arith, w.sum-is ∙ ap (λ k. l.sum + k) w.turns-sum.ensures.0 ∙ counted s a.a l.b l.sum l.invariant.1 (omega (arith, own, other, w.if-place.true)) more, omega (arith, w.turns-sum.ensures.1, w.sum-is), l.invariant.3)
+      | else-place w ↦ (omega arith, w.sum-is ∙ passed s a.a l.b l.sum l.invariant.1 (omega (arith, own, other, w.if-place.false)), omega (arith, w.sum-is), l.invariant.3)
+    ]
 
 returns : tie.Need-returns invariant-loop decreases-loop
 returns c =

@@ -4,7 +4,6 @@ use mathlib.Core.Bool.{true, false, ◌&&◌}
 use Prim.Native.Nat.{◌-◌, ◌≤◌}
 use native.Mathlib.Omega.{arith}
 use lib.ListN.{length}
-use borrow.Author.Tests.{not-true, not-false}
 use borrow.Author.Rules.{rules}
 use Rattle.numbers.proofs.Tests.{each_below}
 use Rattle.schedule.specs.Turns.{board, within, in_range}
@@ -21,12 +20,12 @@ decreases-loop frames dues turn albums ok₀ a₀ ok a = length frames - a
 returns : tie.Need-returns-then-not-within invariant-loop decreases-loop
 unfolding in_range
 returns c =
-    let e : within 1 8 (length c.args.frames.now) ≡ false = sym c.within.ensures ∙ not-true _ c.if-not-within.true in
+    let e : within 1 8 (length c.args.frames.now) ≡ false = sym c.within.ensures ∙ c.if-not-within.true in
     rw e
 
 loop-holds : tie.Need-loop-a-init invariant-loop decreases-loop
 unfolding each_below
-loop-holds c = (omega arith, sym c.within.ensures ∙ not-false _ c.if-not-within.false, c.within-ok.ensures)
+loop-holds c = (omega arith, sym c.within.ensures ∙ c.if-not-within.false, c.within-ok.ensures)
 
 loop-again : tie.Need-loop-a-preserved invariant-loop decreases-loop
 loop-again c =

@@ -47,7 +47,7 @@ shared_slice_copy_out_most c = pos_of_ne-zero c.if-albums-eq0.false
 
 loop-holds : tie.Need-loop-a-init invariant-loop decreases-loop
 unfolding greatest
-loop-holds c = (omega arith, pos_of_ne-zero c.if-albums-eq0.false, to_z-of_z (record { sfits = c.most-1.given }))
+loop-holds c = (omega arith, pos_of_ne-zero c.if-albums-eq0.false, to_z-of_z {w = w32} (record { sfits = c.most-1.given }))
 
 loop-again : tie.Need-loop-a-preserved invariant-loop decreases-loop
 loop-again c =

@@ -5,6 +5,7 @@ use mathlib.Core.Bool.{true}
 use Prim.Native.Nat.{ℕ, ◌+◌, ◌-◌, ◌≤◌}
 use native.Mathlib.Nat.{zero-add}
 use native.Mathlib.Omega.{arith}
+use mir.Syntax.{w32}
 use mir.Facts.{to_z-of_z}
 use lib.IntN.{ℤ, pos, ◌-ℤ◌}
 use lib.ListN.{length, length-set}
@@ -63,7 +64,7 @@ loop-again c =
       simp length-set l.invariant.3,
       simp length-set l.invariant.4,
       held_more l.invariant.5 (omega (arith, f)) (rw z finished),
-      held_more l.invariant.6 (omega (arith, f)) (rw z (to_z-of_z (record { sfits = c.lateness.type_inv }) ∙ measured _ _ _ _ _ c.lateness.ensures finished)),
+      held_more l.invariant.6 (omega (arith, f)) (rw z (to_z-of_z {w = w32} (record { sfits = c.lateness.type_inv }) ∙ measured _ _ _ _ _ c.lateness.ensures finished)),
     )
 
 returns : tie.Need-returns-then-fitting invariant-loop decreases-loop
@@ -78,7 +79,7 @@ returns c =
     record {
       decided = rw l.invariant.1;
       finished = rw l.invariant.1 (is_tabulate _ 0 _ 0 l.finishes (l.invariant.3 ∙ f.finished) (λ i m. l.invariant.5.is i (omega arith)));
-      measured = rw l.invariant.1 (is_tabulate _ 0 _ (pos 0) l.late (l.invariant.4 ∙ f.decreases) (λ i m. l.invariant.6.is i (omega arith)));
+      measured = rw l.invariant.1 (is_tabulate _ 0 _ (pos 0) l.late (l.invariant.4 ∙ f.measured) (λ i m. l.invariant.6.is i (omega arith)));
     }
 
 returns-2 : tie.Need-returns invariant-loop decreases-loop

@@ -6,30 +6,30 @@ use Rattle.turns_lines.proofs.Answers.{no_turn, with_turn}
 use Rattle.turns_lines.proofs.answer.Statement.{statement}
 use Rattle.turns_lines.proofs.answer.Tie as tie
 
-field_requires : tie.Need-field-requires
+field_requires : tie.Need-field-turn-requires
 field_requires c κs = (omega arith, omega arith)
 
-returns : tie.Need-returns
+returns : tie.Need-returns-then-turn-gt1000001
 returns c =
     let p = c.before.before in
     let t = p.before.before in
-    (p.refused.ensures.1, no_turn t.before.before.field.ensures t.if1.true p.refused.ensures.0)
+    (p.refused.ensures.1, no_turn t.field-turn.ensures t.if-turn-gt1000001.true p.refused.ensures.0)
 
-in_lists_requires : tie.Need-in-lists-requires
+in_lists_requires : tie.Need-in_lists-requires
 in_lists_requires c κs =
     let e = c.before.before.before.before.before in
     let f = e.before.before in
     let s = f.before.before.before in
-    ((f.field.ensures.within, s.requires.0, s.requires.1), (refl, refl, refl, refl))
+    ((f.field-turn.ensures.within, s.requires.0, s.requires.1), (refl, refl, refl, refl))
 
-returns-2 : tie.Need-returns-2
+returns-2 : tie.Need-returns
 returns-2 c =
     let p = c.before.before.before.before.before in
     let i = p.before in
     let e = i.before.before.before.before.before in
     let t = e.before in
-    let x = i.in-lists.ensures in
-    (x.short, with_turn t.before.before.field.ensures t.if1.false x)
+    let x = i.in_lists.ensures in
+    (x.short, with_turn t.field-turn.ensures t.if-turn-gt1000001.false x)
 
 pub answer_spec : {M : Type 1} → statement M
 answer_spec =

@@ -10,4 +10,7 @@ unfolding text
 returns c = let p = c.before.before in (p.put.ensures, omega (arith, p.put.ensures.after))
 
 pub refused_spec : {M : Type 1} → statement M
-refused_spec = tie.close (tie.spec (λ c. search rules) (λ c κs. search rules) (λ c. search rules) returns)
+refused_spec = tie.close (tie.spec
+    (λ c κs. search rules)
+    (λ c. search rules)
+    returns)

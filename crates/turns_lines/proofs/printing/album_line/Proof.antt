@@ -16,22 +16,18 @@ returns c =
     let b = l.before.before.before.before.before in
     let a = b.before.before.before.before.before in
     let s = a.before.before.before.before in
-    let late = rw (to_z-of_z s.ranges.late) at l.labelled-signed.ensures.0 in (
-      line _ (then a.labelled.ensures.0 (then b.labelled2.ensures.0 (then late p.put.ensures))),
-      omega (arith, a.labelled.ensures.1, b.labelled2.ensures.1, l.labelled-signed.ensures.1, p.put.ensures.after),
+    let late = rw (to_z-of_z s.ranges.late) at l.labelled_signed-n.ensures.0 in (
+      line _ (then a.labelled-n.ensures.0 (then b.labelled-n-2.ensures.0 (then late p.put.ensures))),
+      omega (arith, a.labelled-n.ensures.1, b.labelled-n-2.ensures.1, l.labelled_signed-n.ensures.1, p.put.ensures.after),
     )
 
 pub album_line_spec : {M : Type 1} → statement M
 album_line_spec =
     tie.close
     (tie.spec
-    (λ c. search rules)
     (λ c κs. search rules)
-    (λ c. search rules)
     (λ c κs. search rules)
-    (λ c. search rules)
     (λ c κs. search rules)
-    (λ c. search rules)
     (λ c κs. search rules)
     (λ c. search rules)
     returns)

@@ -14,16 +14,14 @@ returns c =
     let p = c.before.before in
     let l = p.before.before.before.before.before in
     let s = l.before.before.before.before in
-    let late = rw (to_z-of_z s.ranges.late) at l.labelled-signed.ensures.0 in
-    (line _ (then late p.put.ensures), omega (arith, l.labelled-signed.ensures.1, p.put.ensures.after))
+    let late = rw (to_z-of_z s.ranges.late) at l.labelled_signed-n.ensures.0 in
+    (line _ (then late p.put.ensures), omega (arith, l.labelled_signed-n.ensures.1, p.put.ensures.after))
 
 pub latest_line_spec : {M : Type 1} → statement M
 latest_line_spec =
     tie.close
     (tie.spec
-    (λ c. search rules)
     (λ c κs. search rules)
-    (λ c. search rules)
     (λ c κs. search rules)
     (λ c. search rules)
     returns)

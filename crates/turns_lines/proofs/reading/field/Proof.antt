@@ -5,23 +5,23 @@ use Rattle.turns_lines.proofs.Fields.{no_end, ended}
 use Rattle.turns_lines.proofs.reading.field.Statement.{statement}
 use Rattle.turns_lines.proofs.reading.field.Tie as tie
 
-sub_number : tie.Need-overflow-sub-number
-sub_number c = omega (arith, c.before.end-at.ensures.from)
+sub_number : tie.Need-slice_bounds-number-count
+sub_number c = omega (arith, c.end_at-k.ensures.from)
 
-part_number_start : tie.Need-slice-bounds-number-start
-part_number_start c = omega (arith, c.before.end-at.ensures.from)
+part_number_start : tie.Need-slice_bounds-number-start
+part_number_start c = omega (arith, c.end_at-k.ensures.from)
 
-part_number_end : tie.Need-slice-bounds-number-end
-part_number_end c = omega (arith, c.before.end-at.ensures.within)
+part_number_end : tie.Need-slice_bounds-number-end
+part_number_end c = omega (arith, c.end_at-k.ensures.within)
 
-returns : tie.Need-returns
+returns : tie.Need-returns-then-k-text
 returns c =
     let t = c.before.before in
     let s = t.before.before.before in
-    ended t.before.end-at.ensures s.requires.0 s.requires.1 t.if1.true c.number.ensures
+    ended t.end_at-k.ensures s.requires.0 s.requires.1 t.if-k-text.true c.number-value.ensures
 
-returns-2 : tie.Need-returns-2
-returns-2 c = no_end c.before.end-at.ensures c.before.before.before.requires.0 c.if1.false
+returns-2 : tie.Need-returns
+returns-2 c = no_end c.end_at-k.ensures c.requires.0 c.if-k-text.false
 
 pub field_spec : {M : Type 1} → statement M
 field_spec =
