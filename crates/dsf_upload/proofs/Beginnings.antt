@@ -1,7 +1,7 @@
 -- The first 92 bytes and the length decide whether a file is hopeful, and where it turns hopeless.
 use mathlib.Core.Path.{◌≡◌, refl, sym, ap, ◌∙◌}
 use mathlib.Core.List.{List, [], ◌∷◌}
-use mathlib.Core.Bool.{Bool, true, false, not, ◌&&◌, ◌||◌}
+use mathlib.Core.Bool.{true, false, ◌&&◌, ◌||◌}
 use mathlib.Core.Logic.{⊎_elim}
 use Prim.Native.Nat.{ℕ, ◌+◌, ◌%◌, ◌≤◌, ◌<◌}
 use native.Mathlib.Omega.{arith}
@@ -10,8 +10,8 @@ use borrow.Author.Tests.{lt-ltb}
 use lib.ListN.{length, take}
 use lib.Seq.{take-take, take_all, length-take-le}
 use Rattle.numbers.proofs.Lists.{below_or}
-use Rattle.reference.specs.Refusals.{Decision, decide, is_accepted}
-use Rattle.dsf.specs.Dsf.{bytes, fixed, layout, frequency, all, fits, stated_length, samples, needed, accepts, file_places}
+use Rattle.reference.specs.Refusals.{decide, is_accepted}
+use Rattle.dsf.specs.Dsf.{bytes, fixed, layout, frequency, all, fits, stated_length, samples, needed, accepts}
 use Rattle.dsf.specs.Reading.{HeadOf, header_places}
 use Rattle.dsf.proofs.Alike.{T_of, F_of, left, right, both, or_elim, or_right, ends_by}
 use Rattle.dsf.proofs.Head.{header_right, fits_same, layout_same, frequency_same, samples_same, needed_same, stated_same}

@@ -1,5 +1,6 @@
 // How early an upload can be given up. The definition is in specs/Uploads.
 #![tactic(auto)]
+
 ghost use Rattle.std.specs.Prelude.{◌≡◌, true, ◌<◌, length};
 ghost use Rattle.reference.specs.Refusals.{decide, is_accepted};
 ghost use Rattle.dsf.specs.Dsf.{layout, all, fits};

@@ -11,7 +11,7 @@ use lib.Seq.{get_or-take, get_or-drop, length-take-le}
 use Rattle.numbers.specs.Lists.{tabulate}
 use Rattle.numbers.proofs.Lists.{part_end, below_or, length_tabulate, get_d_tabulate, is_tabulate}
 use Rattle.reference.specs.Frames.{frame, frame_count}
-use Rattle.dsf.specs.Dsf.{Bytes, number_of, number_at, bytes, pair, alike, blocks, data_bytes, data_place, layout, all, fits, stated_length, channel_type, channels, bits_per_sample, samples, data_size, needed, frames, turned, our_byte, sample_byte, turn_byte, data_frame, file_data, file_byte, file_frame}
+use Rattle.dsf.specs.Dsf.{Bytes, number_of, number_at, bytes, pair, alike, blocks, data_bytes, data_place, stated_length, channel_type, channels, bits_per_sample, samples, data_size, needed, frames, turned, our_byte, sample_byte, turn_byte, data_frame, file_data, file_byte, file_frame}
 use Rattle.dsf.specs.Headers.{header}
 use Rattle.dsf.proofs.Alike.{Alike, seg, join, pick, skip, T_is}
 use Rattle.dsf.proofs.Numbers.{padded, number_padded, alike_padded, bytes_number, each_padded, each_drop, field_alike}

@@ -12,7 +12,7 @@ use lib.Seq.{ext_get_or, get_or-take, get_or-drop, length-take-le}
 use borrow.Author.Tests.{le-leb, lt-leb, lt-ltb, le-ltb, eq-eqb, ne_eqb, eqb-true, leb-true, ltb-false, not-false}
 use Rattle.numbers.specs.Lists.{tabulate, Wrote}
 use Rattle.numbers.proofs.Lists.{below_or, is_tabulate}
-use Rattle.reference.specs.Frames.{frame_count, frame_length}
+use Rattle.reference.specs.Frames.{frame_count}
 use Rattle.reference.specs.Refusals.{Decision, accepted, refused, place, decide, is_accepted, number, rack, run_length, lent_length}
 use Rattle.reference.proofs.Refusals.{at_first, at_next, at_end, pass, decide_skip, decide_stop}
 use Rattle.level_lines.specs.Text.{text}

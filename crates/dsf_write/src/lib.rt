@@ -1,5 +1,6 @@
 // Frames written back as a DSF file. The definition is in specs/Written.
 #![tactic(auto)]
+
 ghost use Rattle.std.specs.Prelude.{◌≡◌, ◌/◌, ◌*◌, ◌≤◌, length};
 ghost use Rattle.reference.specs.Refusals.{decide, decision};
 ghost use Rattle.dsf_write.specs.Written.{file_length, length_places, written, LengthPromise, WritePromise, Writable};

@@ -1,6 +1,5 @@
 -- `answer` meets its contract.
 use mathlib.Core.Path.{◌≡◌, sym, ap, ◌∙◌}
-use mathlib.Core.List.{List}
 use mathlib.Core.Bool.{true, false}
 use Prim.Native.Nat.{◌+◌, ◌-◌, ◌≤◌}
 use native.Mathlib.Numerals.{add-one}
@@ -40,39 +39,31 @@ add_next c = omega arith
 
 slice_aggregate_may_go_on : tie.Need-slice_bounds-may_go_on-end invariant-loop decreases-loop
 slice_aggregate_may_go_on c =
-    let at-else1 = c.before.before.before.before.before in
-    let s = at-else1.before.before.before in
-    let head = s.args.head.now in
-    let no : head_hopeful head s.args.total ≡ false = sym c.may_go_on.ensures ∙ c.if-may_go_on.false in
+    let head = c.args.head.now in
+    let no : head_hopeful head c.args.total ≡ false = sym c.may_go_on.ensures ∙ c.if-may_go_on.false in
     let l = c.loop-k in
-    sym (length-take-le (l.k + 1) head (omega (arith, inside_head head s.args.total s.requires no l.k (omega arith) l.invariant.1)))
+    sym (length-take-le (l.k + 1) head (omega (arith, inside_head head c.args.total c.requires no l.k (omega arith) l.invariant.1)))
 
 loop-less : tie.Need-loop-k-smaller invariant-loop decreases-loop
 loop-less c = omega arith
 
 loop-again : tie.Need-loop-k-preserved invariant-loop decreases-loop
 loop-again c =
-    let at-else2 = c.before.before.before.before.before in
-    let at_start = at-else2.before.before.before.before.before in
-    let s = at_start in
-    let head = s.args.head.now in
-    let no : head_hopeful head s.args.total ≡ false = sym at-else2.may_go_on.ensures ∙ c.if-may_go_on.false in
+    let head = c.args.head.now in
+    let no : head_hopeful head c.args.total ≡ false = sym c.may_go_on.ensures ∙ c.if-may_go_on.false in
     let l = c.loop-k in
-    let i = inside_head head s.args.total s.requires no l.k (omega arith) l.invariant.1 in
+    let i = inside_head head c.args.total c.requires no l.k (omega arith) l.invariant.1 in
     (omega arith, sym (prefix_hopeful head (l.k + 1) (omega arith)) ∙ sym c.may_go_on-in-loop-k.ensures ∙ c.if-may_go_on-2.true)
 
 returns-3 : tie.Need-returns-else-may_go_on-2 invariant-loop decreases-loop
 returns-3 c =
-    let at-else2 = c.before.before.before.before.before in
-    let at_start = at-else2.before.before.before.before.before in
-    let s = at_start in
-    let head = s.args.head.now in
-    let no : head_hopeful head s.args.total ≡ false = sym at-else2.may_go_on.ensures ∙ c.if-may_go_on.false in
+    let head = c.args.head.now in
+    let no : head_hopeful head c.args.total ≡ false = sym c.may_go_on.ensures ∙ c.if-may_go_on.false in
     let l = c.loop-k in
-    let i = inside_head head s.args.total s.requires no l.k (omega arith) l.invariant.1 in
+    let i = inside_head head c.args.total c.requires no l.k (omega arith) l.invariant.1 in
     let t : hopeful (take (l.k + 1) head) ≡ false = sym (prefix_hopeful head (l.k + 1) (omega arith)) ∙ sym c.may_go_on-in-loop-k.ensures ∙ c.if-may_go_on-2.false in
     λ file b h.
-    let n = F_of (sym (accepts_same h) ∙ sym at-else2.is_accepted.ensures ∙ at-else2.if-is_accepted.false) in
+    let n = F_of (sym (accepts_same h) ∙ sym c.is_accepted.ensures ∙ c.if-is_accepted.false) in
     let k = F_of (sym (file_hopeful_same h) ∙ no) in
     let here = T_of (ap hopeful (take_same file head h.begins l.k (omega arith)) ∙ l.invariant.1) in
     let past = ap hopeful (take_same file head h.begins (l.k + 1) (omega arith)) ∙ t in
@@ -81,25 +72,21 @@ returns-3 c =
 add_end : tie.Need-overflow_add-end invariant-loop decreases-loop
 unfolding stated_length
 add_end c =
-    let at-else1 = c.before.before.before.before.before in
-    let s = at-else1.before.before.before in
-    let head = s.args.head.now in
-    let no : head_hopeful head s.args.total ≡ false = sym c.may_go_on.ensures ∙ c.if-may_go_on.false in
+    let head = c.args.head.now in
+    let no : head_hopeful head c.args.total ≡ false = sym c.may_go_on.ensures ∙ c.if-may_go_on.false in
     let l = c.loop-k in
     let e : l.k ≡ 92 = omega arith in
-    omega (arith, stated_past head s.args.total s.requires no (rw e at l.invariant.1), c.number-stated.ensures)
+    omega (arith, stated_past head c.args.total c.requires no (rw e at l.invariant.1), c.number-stated.ensures)
 
 returns-4 : tie.Need-returns invariant-loop decreases-loop
 unfolding stated_length
 returns-4 c =
-    let at-else1 = c.before.before.before.before.before in
-    let s = at-else1.before.before.before in
-    let head = s.args.head.now in
-    let no : head_hopeful head s.args.total ≡ false = sym c.may_go_on.ensures ∙ c.if-may_go_on.false in
+    let head = c.args.head.now in
+    let no : head_hopeful head c.args.total ≡ false = sym c.may_go_on.ensures ∙ c.if-may_go_on.false in
     let l = c.loop-k in
     let e : l.k ≡ 92 = omega arith in
     λ file b h.
-    let n = F_of (sym (accepts_same h) ∙ sym at-else1.is_accepted.ensures ∙ c.if-is_accepted.false) in
+    let n = F_of (sym (accepts_same h) ∙ sym c.is_accepted.ensures ∙ c.if-is_accepted.false) in
     let k = F_of (sym (file_hopeful_same h) ∙ no) in
     let past = T_of (ap hopeful (take_same file head h.begins 92 (omega arith)) ∙ (rw e at l.invariant.1)) in
     (n, rw (add-one, c.number-stated.ensures ∙ sym (stated_same file head h.begins)) (past_gives_up file b k past))

@@ -26,26 +26,26 @@ known_within : (c : tie.After-lesser_of-known) → c.lesser_of-known.result ≤ 
 known_within c = omega (arith, c.lesser_of-known.ensures)
 
 slice_aggregate_answer : tie.Need-slice_bounds-answer-end
-slice_aggregate_answer c = let k = c.before.before in sym (length-take-le k.lesser_of-known.result (head k) (known_within k))
+slice_aggregate_answer c = let k = c.before in sym (length-take-le k.lesser_of-known.result (head k) (known_within k))
 
 answer_requires : tie.Need-answer-requires
-answer_requires c κs = λ l. let k = c.before.before in sym (length-take-le k.lesser_of-known.result (head k) (known_within k))
+answer_requires c κs = λ l. let k = c.before in sym (length-take-le k.lesser_of-known.result (head k) (known_within k))
 
 returns : tie.Need-returns-then-known-lt92
 returns c =
-    let test = c.before.before in
+    let test = c.before in
     let k = test.before in
     short_known (head k) (start k).args.length k.lesser_of-known.result (known_is k) c.answer.result test.if-known-lt92.true c.answer.ensures
 
 slice_aggregate_answer_2 : tie.Need-slice_bounds-answer-end-2
-slice_aggregate_answer_2 c = let k = c.before.before in sym (length-take-le 92 (head k) (omega (arith, known_within k, c.if-known-lt92.false)))
+slice_aggregate_answer_2 c = let k = c.before in sym (length-take-le 92 (head k) (omega (arith, known_within k, c.if-known-lt92.false)))
 
 answer_requires_2 : tie.Need-answer-requires-2
-answer_requires_2 c κs = λ l. let k = c.before.before in absurd (omega (arith, length-take-le 92 (head k) (omega (arith, known_within k, c.if-known-lt92.false))))
+answer_requires_2 c κs = λ l. let k = c.before in absurd (omega (arith, length-take-le 92 (head k) (omega (arith, known_within k, c.if-known-lt92.false))))
 
 returns-2 : tie.Need-returns
 returns-2 c =
-    let test = c.before.before in
+    let test = c.before in
     let k = test.before in
     long_known (head k) (start k).args.length k.lesser_of-known.result (known_is k) c.answer-2.result test.if-known-lt92.false c.answer-2.ensures
 

@@ -21,8 +21,7 @@ returns c = sym (ap is_accepted (sym c.read_header-opened.ensures.decided ∙ ap
 
 returns-2 : tie.Need-returns-in-Refused
 returns-2 c =
-    let told = c.in-Refused.given in
-    sym (ap is_accepted (sym c.read_header-opened.ensures.decided ∙ ap decision told.1) ∙ error_refuses told.0.0)
+    sym (ap is_accepted (sym c.read_header-opened.ensures.decided ∙ ap decision c.in-Refused.is) ∙ error_refuses c.in-Refused.field-0)
 
 pub is_accepted_spec : {M : Type 1} → statement M
 is_accepted_spec = tie.close (tie.spec read_header_requires enum_told enum_told_2 returns returns-2)

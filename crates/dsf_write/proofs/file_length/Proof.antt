@@ -32,8 +32,7 @@ returns c =
 returns-2 : tie.Need-returns-in-Refused
 returns-2 c =
     let v = c.verdict-verdict in
-    let told = c.in-Refused.given in
-    let e = ap is_accepted (sym v.ensures ∙ ap decision told.1) ∙ error_refuses told.0.0 in
+    let e = ap is_accepted (sym v.ensures ∙ ap decision c.in-Refused.is) ∙ error_refuses c.in-Refused.field-0 in
     record { decided = v.ensures; sized = sym (exit_refused _ _ _ e) }
 
 pub file_length_spec : {M : Type 1} → statement M

@@ -1,5 +1,5 @@
 -- `write` meets its contract.
-use mathlib.Core.Path.{◌≡◌, refl, sym, ap, ◌∙◌}
+use mathlib.Core.Path.{sym, ap, ◌∙◌}
 use mathlib.Core.List.{[], ◌∷◌}
 use Prim.Native.Nat.{ℕ}
 use lib.ListN.{length}
@@ -53,9 +53,8 @@ returns-3 : tie.Need-returns-in-Refused
 returns-3 c =
     let found = c.before in
     let a = found.args in
-    let told = c.in-Refused.given in
-    let f = sym found.file_length-answer.ensures.decided ∙ ap decision told.1 in
-    let r = ap is_accepted f ∙ error_refuses told.0.0 in
+    let f = sym found.file_length-answer.ensures.decided ∙ ap decision c.in-Refused.is in
+    let r = ap is_accepted f ∙ error_refuses c.in-Refused.e in
     let d = turned_down a.channels a.frames.now a.out.now r in
     record { decided = sym f ∙ sym d; written_out = sym (exit_refused _ _ _ (ap is_accepted d ∙ r)) }
 

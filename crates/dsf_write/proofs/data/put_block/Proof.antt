@@ -1,7 +1,5 @@
 -- `put_block` meets its contract.
-use Prim.Native.Nat.{◌-◌, ◌*◌, ◌/◌}
 use native.Mathlib.Omega.{arith}
-use native.Mathlib.Nat.{mod-lt}
 use Rattle.dsf_write.proofs.Writing.{in_frames, start_small, block_wrote}
 use borrow.Author.Rules.{rules}
 use Rattle.dsf_write.proofs.data.put_block.Statement.{statement}

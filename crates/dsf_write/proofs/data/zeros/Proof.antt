@@ -1,8 +1,7 @@
 -- `zeros` meets its contract.
 use mathlib.Core.Path.{◌≡◌, refl}
-use Prim.Native.Nat.{◌+◌, ◌*◌, ◌-◌, ◌≤◌}
+use Prim.Native.Nat.{◌-◌, ◌≤◌}
 use native.Mathlib.Omega.{arith}
-use lib.ListN.{get_or}
 use Rattle.numbers.specs.Lists.{Wrote}
 use Rattle.numbers.proofs.Lists.{wrote_none, wrote_more}
 use Rattle.dsf_write.proofs.data.zeros.Statement.{statement}
