@@ -1,5 +1,6 @@
 // The factors of whole decibels, to six digits: a table to hold beside a console's.
 #![tactic(auto)]
+
 mod figure;
 
 use figure::{Figure, to_six_digits};

@@ -1,5 +1,6 @@
 // Clips and levels of the frames on standard input, frame by frame. The first line says how to convert: RATE CUTOFF CHANNELS DB.
 #![tactic(auto)]
+
 use std::io;
 
 fn main(rt: HostRuntime) -> io::Result<()> {

@@ -206,11 +206,7 @@ fn in_buffers<R: Read, W: Write>(
 }
 
 // The report of the frames that a reader gives, one or two channels.
-pub fn report_frames<R: Read, W: Write>(
-    conv: Converter,
-    from: &mut R,
-    to: &mut W,
-) -> io::Result<()>
+pub fn report_frames<R: Read, W: Write>(conv: Converter, from: &mut R, to: &mut W) -> io::Result<()>
     requires { (decide (held_places conv) ≡ accepted) × (conv.channels ≤ 2) }
 {
     let mut three = [0u8; 28224];

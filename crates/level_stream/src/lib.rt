@@ -1,5 +1,6 @@
 // The level report over readers and a writer: it reads the line and the frames, and writes the lines.
 #![tactic(auto)]
+
 ghost use Rattle.std.specs.Prelude.{◌≡◌, ◌≤◌, length, IfOk};
 ghost use Rattle.reference.specs.Refusals.{accepted, decide, held_places};
 ghost use Rattle.level_stream.specs.Usable.{Opens, Usable};

@@ -1,5 +1,6 @@
 // The level sheet over readers and a writer: it reads the line and the frames, and writes the sheet of the whole input.
 #![tactic(auto)]
+
 use level_stream::Begun;
 use std::io;
 use std::io::{Read, Write};

@@ -1,5 +1,6 @@
 // Turns on one board. Standard input has a line with the turn length, and a line FRAMES DUE for each album.
 #![tactic(auto)]
+
 ghost use Rattle.std.specs.Prelude.{◌≤◌, length};
 
 use std::io;

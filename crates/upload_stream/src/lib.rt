@@ -1,5 +1,6 @@
 // An upload watched as it arrives: it is given up at the earliest byte, or its end is told.
 #![tactic(auto)]
+
 ghost use Rattle.std.specs.Prelude.{◌≡◌, ◌-◌, ◌≤◌, length, get_or};
 ghost use Rattle.numbers.specs.Lists.{Wrote};
 
