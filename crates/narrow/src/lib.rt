@@ -1,6 +1,7 @@
 // Standard and Low: a block of y from its bytes, a flat function a rate. x holds v, `kept` the values of w that `between` reads at 352,800; both
 // keep their margin, the values before a block that its filters read, from block to block. `odd` is scratch.
 #![tactic(auto)]
+
 ghost use Rattle.std.specs.Prelude.{◌≡◌, ℕ, ◌+◌, ◌-◌, ◌*◌, ◌/◌, ◌%◌, ◌^◌, ◌≤◌, List, ℤ, pos, length};
 ghost use Rattle.numbers.specs.Lists.{Held};
 ghost use Rattle.reference.specs.Taps.{S1};

@@ -1,6 +1,7 @@
 // Wide: a block of y from its bytes, a flat function a rate. x holds u, and keeps its margin, the values before a block that its filter reads, from
 // block to block.
 #![tactic(auto)]
+
 ghost use Rattle.std.specs.Prelude.{◌≡◌, ℕ, ◌+◌, ◌-◌, ◌*◌, ◌^◌, ◌≤◌, pos, length};
 ghost use Rattle.numbers.specs.Lists.{Held};
 ghost use Rattle.reference.specs.Taps.{S1_WIDE, F40, F80};

@@ -12,9 +12,8 @@ use Rattle.narrow.proofs.between.Tie as tie
 
 interp_requires : tie.Need-interp-requires
 interp_requires c κs =
-    let s = c.before.before in
-    let long = part_length 1 184 s.args.kept.now (omega arith) in
-    let small = small_part 1 183 s.requires.1 in
+    let long = part_length 1 184 c.args.kept.now (omega arith) in
+    let small = small_part 1 183 c.requires.1 in
     ((omega (arith, long), omega (arith, long)), (small, middle_fit_small _ 168 small))
 
 -- places in the code: the values between are there
@@ -28,7 +27,7 @@ weave_requires : tie.Need-weave-requires
 weave_requires c κs =
     let i = interpolated c in
     let p = part_length 8 176 (start i).args.kept.now (omega arith) in
-    (omega (arith, p, i.interp.kept.0), omega (arith, p), omega arith)
+    (omega (arith, p, i.interp.auto.y), omega (arith, p), omega arith)
 
 returns : tie.Need-returns
 returns c =

@@ -23,23 +23,23 @@ module _ (c : tie.After-half_band) where
   abbrev m : ℕ
   m = 2 * (length start.args.h.now - 1)
 
-  x_small : Small (2 ^ 27) (put_mid m (m + start.args.k - m) start.args.x.now c.half_band.new.1.1.1.0)
-  x_small = joined_small m (m + start.args.k) start.args.x.now _ (omega arith) (omega (arith, start)) c.half_band.auto.1.1.1.0 start.pre.1.1.1.0 c.half_band.ensures.0
+  x_small : Small (2 ^ 27) (put_mid m (m + start.args.k - m) start.args.x.now c.half_band.new.out)
+  x_small = joined_small m (m + start.args.k) start.args.x.now _ (omega arith) (omega (arith, start)) c.half_band.auto.out start.requires.1.1.1.0 c.half_band.ensures.0
 
 fir1_requires : tie.Need-fir1-requires
 fir1_requires c κs =
-    let made = c.before.before.before.before.before in
+    let made = c.before.before.before.before in
     let s = start made in
-    let f = s.pre.1.0 in
+    let f = s.requires.1.0 in
     let k = s.args.k in
     let part = part_length (184 - k) 184 s.args.kept.now (omega (arith, s)) in
-    fir1_asks (m made) (m made + k) s.args.x.now made.half_band.new.1.1.1.0 (omega arith) (omega (arith, s)) made.half_band.auto.1.1.1.0 s.pre.1.1.1.0 made.half_band.ensures.0
+    fir1_asks (m made) (m made + k) s.args.x.now made.half_band.new.out (omega arith) (omega (arith, s)) made.half_band.auto.out s.requires.1.1.1.0 made.half_band.ensures.0
     s.args.h.now (take (184 - (184 - k)) (drop (184 - k) s.args.kept.now)) f.some f.few f.keeps (omega (arith, f)) (omega (arith, part, s)) (omega (arith, s))
 
 -- the new values of w are there
 module _ (c : tie.After-fir1) where
   abbrev lent : tie.After-fir1-arg-1
-  lent = c.before.before.before
+  lent = c.before.before
 
   abbrev made : tie.After-half_band
   made = lent.before.before.before
@@ -50,14 +50,14 @@ module _ (c : tie.After-fir1) where
   abbrev a : ℕ
   a = 184 - begun.args.k
 
-  kept_small : Small (2 ^ 29) (put_mid a (184 - a) begun.args.kept.now c.fir1.new.0)
-  kept_small = small_put a (184 - a) begun.pre.1.1.1.1 (fir1_small begun.args.h.now (omega (arith, begun)) (small_front (m made + begun.args.k - 0) (x_small made)) c.fir1.ensures)
+  kept_small : Small (2 ^ 29) (put_mid a (184 - a) begun.args.kept.now c.fir1.new.y)
+  kept_small = small_put a (184 - a) begun.requires.1.1.1.1 (fir1_small begun.args.h.now (omega (arith, begun)) (small_front (m made + begun.args.k - 0) (x_small made)) c.fir1.ensures)
 
 between_requires : tie.Need-between-requires
 between_requires c κs =
-    let w-made = c.before.before.before in
+    let w-made = c.before.before in
     let s = begun w-made in
-    let long = joined_length (a w-made) 184 s.args.kept.now w-made.fir1.new.0 (omega arith) (omega (arith, s)) w-made.fir1.auto.0 in
+    let long = joined_length (a w-made) 184 s.args.kept.now w-made.fir1.new.y (omega arith) (omega (arith, s)) w-made.fir1.auto.y in
     ((omega (arith, long, s), omega (arith, s)), kept_small w-made)
 
 -- places in the code: x is moved; y is there; w is there
@@ -68,7 +68,7 @@ abbrev woven : tie.After-shift → tie.After-between
 woven c = c.before.before.before
 
 abbrev filtered : tie.After-between → tie.After-fir1
-filtered c = c.before.before.before.before
+filtered c = c.before.before.before
 
 -- from the margin of this block to the next one's
 k_later : (j k p : ℕ) → k ≤ 184 → p ≤ 116 → 500 ≤ j → j + 176 - k - p + k ≡ j + 176 - p
@@ -82,7 +82,7 @@ returns c =
     let w-made = filtered y in
     let v-made = made w-made in
     let s = begun w-made in
-    let f = s.pre.1.0 in
+    let f = s.requires.1.0 in
     let h = s.args.h.now in
     let x = s.args.x.now in
     let k = s.args.k in
@@ -96,12 +96,12 @@ returns c =
         λ β n l even bytes margin w-margin.
             let part = part_length m (m + k) x (omega (arith, s)) in
             let part-w = part_length a 184 s.args.kept.now (omega (arith, s)) in
-            let v-new = v-made.half-band.ensures.1 β (n / 2 + 176 - k + M h) (omega (arith, s)) (held_some _ (omega (arith, s)) bytes) in
-            let v-whole = joined_held m (m + k) x v-made.half-band.last.1.1.1.0 (omega arith) (omega (arith, s)) v-made.half-band.kept.1.1.1.0 margin v-new (omega (arith, s)) (omega (arith, part)) in
+            let v-new = v-made.half_band.ensures.1 β (n / 2 + 176 - k + M h) (omega (arith, s)) (held_some _ (omega (arith, s)) bytes) in
+            let v-whole = joined_held m (m + k) x v-made.half_band.new.out (omega arith) (omega (arith, s)) v-made.half_band.auto.out margin v-new (omega (arith, s)) (omega (arith, part)) in
             let w-new = fir1_gives v-whole (m + k) (omega arith) h (n / 2 + 176 - k) (omega (arith, s)) w-made.fir1.ensures (omega (arith, part-w, s)) in
-            let w-whole = joined_held a 184 s.args.kept.now w-made.fir1.last.0 (omega arith) (omega (arith, s)) w-made.fir1.kept.0 w-margin w-new (omega (arith, s)) (omega (arith, part-w)) in (
+            let w-whole = joined_held a 184 s.args.kept.now w-made.fir1.new.y (omega arith) (omega (arith, s)) w-made.fir1.auto.y w-margin w-new (omega (arith, s)) (omega (arith, part-w)) in (
               y.between.ensures h β n (omega arith) even w-whole,
-              held_at _ (k_later (n / 2) k (M h) s.pre.1.1.0.1 (omega (arith, f)) (omega arith)) (shifted k m (omega arith) moved-x.0 v-whole),
+              held_at _ (k_later (n / 2) k (M h) s.requires.1.1.0.1 (omega (arith, f)) (omega arith)) (shifted k m (omega arith) moved-x.0 v-whole),
               held_at _ (omega arith) (shifted 168 16 (omega arith) moved-w.0 w-whole),
             ),
       ),

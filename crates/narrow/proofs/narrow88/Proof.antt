@@ -21,39 +21,39 @@ module _ (c : tie.After-half_band) where
 
 halved_requires : tie.Need-halved-requires
 halved_requires c κs =
-    let made = c.before.before.before.before.before in
+    let made = c.before.before.before.before in
     let s = start made in
     let x = s.args.x.now in
-    let f = s.pre.1.0 in
-    let new = made.half_band.new.1.1.1.0 in
-    let long = made.half_band.auto.1.1.1.0 in
+    let f = s.requires.1.0 in
+    let new = made.half_band.new.out in
+    let long = made.half_band.auto.out in
     let front = joined_front (m made) (m made + 168) x new (omega arith) (omega (arith, f)) long in
-    (f, ((omega (arith, f, front), omega (arith, f, front)), small_front (m made + 168 - 0) (joined_small (m made) (m made + 168) x new (omega arith) (omega (arith, f)) long s.pre.1.1.1 made.half_band.ensures.0)))
+    (f, ((omega (arith, f, front), omega (arith, f, front)), small_front (m made + 168 - 0) (joined_small (m made) (m made + 168) x new (omega arith) (omega (arith, f)) long s.requires.1.1.1 made.half_band.ensures.0)))
 
 -- places in the code: y is there; x is lent to `halved`
-abbrev filtered : tie.After-x3 → tie.After-halved
+abbrev filtered : tie.After-x-2-1 → tie.After-halved
 filtered c = c.before.before.before.before
 
-abbrev lent : tie.After-halved → tie.After-x-2-1
+abbrev lent : tie.After-halved → tie.After-x-1
 lent c = c.before.before.before
 
 returns : tie.Need-returns
 unfolding y_narrow w
 returns c =
     let y = filtered c in
-    let made = (lent y).before.before.before in
+    let made = (lent y).before.before in
     let s = start made in
-    let f = s.pre.1.0 in
+    let f = s.requires.1.0 in
     let x = s.args.x.now in
-    let new = made.half-band.last.1.1.1.0 in
-    let long = made.half-band.kept.1.1.1.0 in
+    let new = made.half_band.new.out in
+    let long = made.half_band.auto.out in
     let m = m made in
     let moved = c.shift.ensures in (
-      small_shift 168 m (joined_small m (m + 168) x new (omega arith) (omega (arith, f)) long s.pre.1.1.1 made.half-band.ensures.0) moved.0 moved.1,
+      small_shift 168 m (joined_small m (m + 168) x new (omega arith) (omega (arith, f)) long s.requires.1.1.1 made.half_band.ensures.0) moved.0 moved.1,
       λ F β n low e l bytes margin.
           let taps = halves_length F e in
           let part = part_length m (m + 168) x (omega (arith, f)) in
-          let v-new = made.half-band.ensures.1 β (2 * n + M F) (omega (arith, low)) (held_some _ (omega arith) bytes) in
+          let v-new = made.half_band.ensures.1 β (2 * n + M F) (omega (arith, low)) (held_some _ (omega arith) bytes) in
           let whole = joined_held m (m + 168) x new (omega arith) (omega (arith, f)) long (held_some m (omega (arith, taps)) margin) v-new (omega (arith, low, taps)) (omega (arith, part)) in (
             held_some 84 (omega arith) (halved_gives whole (m + 168) (omega arith) F n (omega (arith, low)) (y.halved.ensures F e) (omega (arith, taps, low))),
             held_at _ (omega (arith, low)) (held_some (2 * M F) (omega (arith, taps)) (shifted 168 m (omega arith) moved.0 whole)),

@@ -31,35 +31,35 @@ module _ (c : tie.After-first_stage) where
   abbrev start : tie.Start
   start = known.before
 
-  new_small : Small (2 ^ 27) c.first_stage.new.1.1.1.1.1.0
-  new_small = wide_small start.args.bytes.now start.pre.0 (λ i. (known.shared_slice_known-1.given i).fits) (omega arith) c.first_stage.ensures (omega (arith, c.first_stage.auto.1.1.1.1.1.0))
+  new_small : Small (2 ^ 27) c.first_stage.new.out
+  new_small = wide_small start.args.bytes.now start.requires.0 (λ i. (known.shared_slice_known-1.given i).fits) (omega arith) c.first_stage.ensures (omega (arith, c.first_stage.auto.out))
 
 fir1_requires : tie.Need-fir1-requires
 fir1_requires c κs =
-    let made = c.before.before.before.before in
+    let made = c.before.before.before in
     let s = start made in
-    let e = s.pre.1.0 in
-    fir1_asks 120 456 s.args.x.now made.first_stage.new.1.1.1.1.1.0 (lit≤ tt) (omega arith) made.first_stage.auto.1.1.1.1.1.0 s.pre.1.1.1 (new_small made)
+    let e = s.requires.1.0 in
+    fir1_asks 120 456 s.args.x.now made.first_stage.new.out (lit≤ tt) (omega arith) made.first_stage.auto.out s.requires.1.1.1 (new_small made)
     s.args.h.now s.args.y.now (omega (arith, ap length e, F40_last)) (omega (arith, ap length e, F40_last)) (rw e filter_F40) (rw e (omega (arith, F40_sum))) (omega (arith, ap length e, F40_last)) (lit≤ tt)
 
 -- places in the code: y is there
-abbrev filtered : tie.After-x3 → tie.After-fir1
+abbrev filtered : tie.After-x-2-1 → tie.After-fir1
 filtered c = c.before.before.before.before
 
 returns : tie.Need-returns
 unfolding y_wide
 returns c =
     let fir1 = filtered c in
-    let made = fir1.before.before.before.before.before in
+    let made = fir1.before.before.before.before in
     let s = start made in
-    let e = s.pre.1.0 in
+    let e = s.requires.1.0 in
     let x = s.args.x.now in
-    let new = made.first-stage.last.1.1.1.1.1.0 in
-    let long = made.first-stage.kept.1.1.1.1.1.0 in
+    let new = made.first_stage.new.out in
+    let long = made.first_stage.auto.out in
     let moved = c.shift.ensures in (
-      small_shift 336 120 (joined_small 120 456 x new (lit≤ tt) (omega arith) long s.pre.1.1.1 (new_small made)) moved.0 moved.1,
+      small_shift 336 120 (joined_small 120 456 x new (lit≤ tt) (omega arith) long s.requires.1.1.1 (new_small made)) moved.0 moved.1,
       λ β n l bytes margin.
-          let u-new = wide_held s.args.bytes.now s.pre.0 (λ i. ((known made).shared_slice_known-1.given i).fits) (omega arith) made.first-stage.ensures β (n + 54) (n + 60) (omega arith) (held_some _ (omega arith) bytes) in
+          let u-new = wide_held s.args.bytes.now s.requires.0 (λ i. ((known made).shared_slice_known-1.given i).fits) (omega arith) made.first_stage.ensures β (n + 54) (n + 60) (omega arith) (held_some _ (omega arith) bytes) in
           let whole = joined_held 120 456 x new (lit≤ tt) (omega arith) long margin u-new (omega arith) (omega arith) in (
             held_as (held_some 336 (omega arith) (fir1_gives whole 456 (omega arith) s.args.h.now n (omega (arith, ap length e, F40_last)) fir1.fir1.ensures (omega (arith, ap length e, F40_last)))) (λ k. ap (λ (F : List ℤ). R (fir F (u S1_WIDE β) k) 24) e),
             held_at _ (omega arith) (shifted 336 120 (omega arith) moved.0 whole),
