@@ -1,5 +1,6 @@
 // Whether a label's low-pass is taken.
 #![tactic(auto)]
+
 ghost use Rattle.std.specs.Prelude.{◌≡◌, ◌^◌, ◌<◌, ◌≤◌, ◌&&◌, leb, nat_abs, length, take};
 ghost use Rattle.reference.specs.Stages as stages;
 ghost use Rattle.reference.specs.Refusals as table;
