@@ -1,5 +1,6 @@
 // The statistics of two stretches as those of one.
 #![tactic(auto)]
+
 ghost use Rattle.std.specs.Prelude.{◌≡◌, true, cond, ◌&&◌, get_or};
 ghost use Rattle.numbers.specs.Extremes.{lesser, greater, pick_unmarked};
 ghost use Rattle.numbers.specs.Sums.{at0};

@@ -1,5 +1,4 @@
 -- `join_stats` meets its contract.
-use mathlib.Core.Path.{◌≡◌}
 use borrow.Author.Rules.{rules}
 use Rattle.reference.specs.Statistics.{of_both, joined_stats}
 use Rattle.stretches.proofs.join_stats.Statement.{statement}

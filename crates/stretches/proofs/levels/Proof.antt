@@ -38,10 +38,10 @@ loop-again c =
     let a = at_test.args in
     let z : 0 + l.c ≡ l.c = omega arith in
     let h : l.c < 6 = at_test.loop-c-test.true in
-    let x : SFits w64 (get_or a.t3 l.c (pos 0)) = record { sfits = c.of_those-arg-1.given } in
-    let y : SFits w64 (get_or a.t5 l.c (pos 0)) = record { sfits = c.of_those-arg-in-loop-c-1.given } in
+    let x : SFits w64 (get_or a.a l.c (pos 0)) = record { sfits = c.of_those-arg-1.given } in
+    let y : SFits w64 (get_or a.b l.c (pos 0)) = record { sfits = c.of_those-arg-in-loop-c-1.given } in
     let e =
-    rw (to_z-of_z x, to_z-of_z y, get_d_any a.t2 l.c false true (omega arith), get_d_any a.t4 l.c false true (omega arith)) at c.of_those.ensures in
+    rw (to_z-of_z x, to_z-of_z y, get_d_any a.no_a l.c false true (omega arith), get_d_any a.no_b l.c false true (omega arith)) at c.of_those.ensures in
     (omega arith, length-set l.found _ _ ∙ l.invariant.1, held_more l.invariant.2 (omega arith) (rw z (val _ _ c.of_those.type_inv e)))
 
 returns : tie.Need-returns invariant-loop decreases-loop

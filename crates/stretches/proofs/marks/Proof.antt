@@ -25,7 +25,7 @@ loop-again c =
     let z : 0 + l.c ≡ l.c = omega arith in
     let a = c.args in
     let h : l.c < 6 = c.loop-c-test.true in
-    let e = c.both.ensures ∙ ap₂ (λ p q. p && q) (get_d_any a.t1 l.c _ true (omega arith)) (get_d_any a.t2 l.c _ true (omega arith)) in
+    let e = c.both.ensures ∙ ap₂ (λ p q. p && q) (get_d_any a.a l.c _ true (omega arith)) (get_d_any a.b l.c _ true (omega arith)) in
     (omega arith, length-set l.empty _ _ ∙ l.invariant.1, held_more l.invariant.2 (omega arith) (rw z e))
 
 returns : tie.Need-returns invariant-loop decreases-loop
