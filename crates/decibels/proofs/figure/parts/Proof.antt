@@ -1,5 +1,5 @@
 -- `parts` is safe: no NaN's pattern is read, and 53 digits times at most 2,047 fit.
-use Prim.Native.Nat.{◌≤◌, ◌^◌}
+use Prim.Native.Nat.{◌^◌}
 use native.Mathlib.Nat.{mul-le-mul, lt_of_le_of_lt}
 use native.Mathlib.Omega.{arith}
 use lib.Dec.{lit<}
