@@ -1,6 +1,7 @@
 // Modules 4 and 5: from a block of a channel's bytes to y. x is what the last filter reads, v of Standard and Low, u of Wide; `kept` has the values
 // of w that are woven at 352,800. Both keep their margin, the values before a block that its filters read, from block to block. `odd` is scratch.
 #![tactic(auto)]
+
 ghost use Rattle.std.specs.Prelude.{◌≡◌, ℕ, ◌+◌, ◌*◌, ◌%◌, ◌^◌, ◌≤◌, ◌<◌, List, true, false, ℤ, pos, length, get_or};
 ghost use Rattle.numbers.specs.Lists.{Held};
 ghost use Rattle.filters.specs.Filters.{Small};

@@ -13,8 +13,7 @@ returns c = rw c.in-Hz88200.is (refl, lit< tt, lit≤ tt)
 
 returns-2 : tie.Need-returns-in-Standard
 unfolding block_length
-returns-2 c = let t = c.before in
-    rw t.in-Hz176400.is (in_narrow t.args.cutoff c.in-Standard.keys1 (λ e. rw e (refl, lit< tt, lit≤ tt)) (λ e. rw e (refl, lit< tt, lit≤ tt)))
+returns-2 c = rw c.in-Hz176400.is (in_narrow c.args.cutoff c.in-Standard.in-Standard-own.keys1 (λ e. rw e (refl, lit< tt, lit≤ tt)) (λ e. rw e (refl, lit< tt, lit≤ tt)))
 
 returns-3 : tie.Need-returns-in-Wide
 unfolding block_length

@@ -11,22 +11,18 @@ use Rattle.kernel.proofs.fresh.Tie as tie
 returns : tie.Need-returns-then-first
 unfolding fresh
 returns c =
-    let m = c.before in
-    let s = m.before.before in
-    rw (m.in-Hz352800.is, c.if-first.true) (in_narrow s.args.cutoff m.in-Standard.keys1 (λ e. rw e (refl, lit≤ tt)) (λ e. rw e (refl, lit≤ tt)))
+    rw (c.in-Hz352800.is, c.if-first.true) (in_narrow c.args.cutoff c.in-Standard.in-Standard-own.keys1 (λ e. rw e (refl, lit≤ tt)) (λ e. rw e (refl, lit≤ tt)))
 
 -- the lower rates
 returns-2 : tie.Need-returns-in-Hz88200
 unfolding fresh
-returns-2 c = in_lower c.args.rate c.in-Hz88200.keys1 (λ e. rw e (refl, lit≤ tt)) (λ e. rw e (refl, lit≤ tt))
+returns-2 c = in_lower c.args.rate c.in-Hz88200.in-Hz88200-own.keys1 (λ e. rw e (refl, lit≤ tt)) (λ e. rw e (refl, lit≤ tt))
 
 -- another block of Standard or Low
 returns-3 : tie.Need-returns-else-first
 unfolding fresh
 returns-3 c =
-    let m = c.before in
-    let s = m.before.before in
-    rw (m.in-Hz352800.is, c.if-first.false) (in_narrow s.args.cutoff m.in-Standard.keys1 (λ e. rw e (refl, lit≤ tt)) (λ e. rw e (refl, lit≤ tt)))
+    rw (c.in-Hz352800.is, c.if-first.false) (in_narrow c.args.cutoff c.in-Standard.in-Standard-own.keys1 (λ e. rw e (refl, lit≤ tt)) (λ e. rw e (refl, lit≤ tt)))
 
 -- Wide
 returns-4 : tie.Need-returns-in-Wide

@@ -10,8 +10,7 @@ use Rattle.kernel.proofs.start.Tie as tie
 returns : tie.Need-returns-in-Standard
 unfolding first_byte margin_from
 returns c =
-    let t = c.before in
-    rw t.in-Hz88200.is (in_narrow t.args.cutoff c.in-Standard.keys1 (λ e. rw e (omega arith, omega arith)) (λ e. rw e (omega arith, omega arith)))
+    rw c.in-Hz88200.is (in_narrow c.args.cutoff c.in-Standard.in-Standard-own.keys1 (λ e. rw e (omega arith, omega arith)) (λ e. rw e (omega arith, omega arith)))
 
 returns-2 : tie.Need-returns-in-Wide
 unfolding first_byte margin_from
@@ -21,8 +20,7 @@ returns-2 c = rw (c.in-Hz88200.is, c.in-Wide.is) (omega arith, omega arith)
 returns-3 : tie.Need-returns-in-Standard-cutoff
 unfolding first_byte margin_from
 returns-3 c =
-    let t = c.before in
-    rw t.in-Hz176400.is (in_narrow t.args.cutoff c.in-Standard-cutoff.keys1 (λ e. rw e (omega arith, omega arith)) (λ e. rw e (omega arith, omega arith)))
+    rw c.in-Hz176400.is (in_narrow c.args.cutoff c.in-Standard-cutoff.in-Standard-cutoff-own.keys1 (λ e. rw e (omega arith, omega arith)) (λ e. rw e (omega arith, omega arith)))
 
 returns-4 : tie.Need-returns-in-Wide-cutoff
 unfolding first_byte margin_from
@@ -32,8 +30,7 @@ returns-4 c = rw (c.in-Hz176400.is, c.in-Wide-cutoff.is) (omega arith, omega ari
 returns-5 : tie.Need-returns-in-Standard-cutoff-2
 unfolding first_byte margin_from
 returns-5 c =
-    let t = c.before in
-    rw t.in-Hz352800.is (in_narrow t.args.cutoff c.in-Standard-cutoff-2.keys1 (λ e. rw e (omega arith, omega arith)) (λ e. rw e (omega arith, omega arith)))
+    rw c.in-Hz352800.is (in_narrow c.args.cutoff c.in-Standard-cutoff-2.in-Standard-cutoff-2-own.keys1 (λ e. rw e (omega arith, omega arith)) (λ e. rw e (omega arith, omega arith)))
 
 returns-6 : tie.Need-returns-in-Wide-cutoff-2
 unfolding first_byte margin_from

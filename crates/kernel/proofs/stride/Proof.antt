@@ -9,7 +9,7 @@ use Rattle.kernel.proofs.stride.Tie as tie
 
 returns : tie.Need-returns-in-Standard
 unfolding stride
-returns c = in_narrow c.args.cutoff c.in-Standard.keys1 (λ e. rw e (refl, lit≤ tt)) (λ e. rw e (refl, lit≤ tt))
+returns c = in_narrow c.args.cutoff c.in-Standard.in-Standard-own.keys1 (λ e. rw e (refl, lit≤ tt)) (λ e. rw e (refl, lit≤ tt))
 
 returns-2 : tie.Need-returns-in-Wide
 unfolding stride
