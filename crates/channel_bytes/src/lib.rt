@@ -1,5 +1,6 @@
 // Module 3: the bytes of one channel, gathered from the frames that hold them.
 #![tactic(auto)]
+
 ghost use Rattle.std.specs.Prelude.{◌≡◌, [], ◌+◌, ◌*◌, ◌/◌, ◌≤◌, ◌<◌, length, get_or};
 ghost use Rattle.numbers.specs.Lists.{Held, Wrote};
 ghost use Rattle.reference.specs.Frames.{frame_length};

@@ -13,11 +13,10 @@ returns-2 : tie.Need-returns
 returns-2 c =
     let at-if1 = c.before.before.before.before in
     let w = c.fill_idle.ensures in
-    let s = at-if1.before.before.before in
     record {
       same = w.same;
       kept = w.kept;
-      done = λ k l. w.done k l ∙ sym (get_or-eq_default s.args.part.now 0x69 (omega (arith, at-if1.if-part-gt0.false)));
+      done = λ k l. w.done k l ∙ sym (get_or-eq_default at-if1.args.part.now 0x69 (omega (arith, at-if1.if-part-gt0.false)));
     }
 
 pub copy_spec : {M : Type 1} → statement M

@@ -32,8 +32,7 @@ returns-2 : tie.Need-returns-then-q-count
 unfolding frame_part frame
 returns-2 c =
     let at-if1 = c.before.before in
-    let entry = at-if1.before.before.before.before in
-    let s = entry.args in
+    let s = at-if1.args in
     let e : (s.p / 4704 - 1) * (4704 * s.ch) + 4704 * s.ch - (s.p / 4704 - 1) * (4704 * s.ch) ≡ 4704 * s.ch = omega arith in
     rw (e, ne_eqb _ _ at-if1.if-q-eq0.false, le-leb _ _ c.if-q-count.true)
 

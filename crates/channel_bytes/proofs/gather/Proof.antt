@@ -33,9 +33,7 @@ sub_least_2 c = omega arith
 
 copy_requires : tie.Need-copy-requires invariant-loop decreases-loop
 copy_requires c κs =
-    let l = c.before.before.before.before in
-    let s = l.before.before.before.before.before in
-    (omega arith, omega arith, omega arith, omega arith, part_length s.requires.0 ((s.args.p + l.loop-k.k) / 4704) c.frame_at-part.ensures)
+    (omega arith, omega arith, omega arith, omega arith, part_length c.requires.0 ((c.args.p + c.loop-k.k) / 4704) c.frame_at-part.ensures)
 
 add_k : tie.Need-overflow_add-k invariant-loop decreases-loop
 add_k c = omega arith
@@ -45,13 +43,11 @@ loop-less c = omega (arith, c.least-m.ensures.2 (omega arith) (omega arith))
 
 loop-again : tie.Need-loop-k-preserved invariant-loop decreases-loop
 loop-again c =
-    let at-frame-at = c.before.before.before.before.before in
-    let l = at-frame-at.before.before in
-    let s = l.before.before.before.before.before in (
+    let at-frame-at = c.before.before.before.before.before in (
       omega arith,
-      c.copy.ensures.same ∙ l.loop-k.invariant.1,
-      gathered s.requires.0 s.args.c s.args.p l.loop-k.k c.least-m.result (omega arith) (omega arith)
-          at-frame-at.frame_at-part.ensures l.loop-k.invariant.2 c.copy.ensures,
+      c.copy.ensures.same ∙ at-frame-at.loop-k.invariant.1,
+      gathered at-frame-at.requires.0 at-frame-at.args.c at-frame-at.args.p at-frame-at.loop-k.k c.least-m.result (omega arith) (omega arith)
+          at-frame-at.frame_at-part.ensures at-frame-at.loop-k.invariant.2 c.copy.ensures,
     )
 
 same_length : tie.Need-shape_of-bytes invariant-loop decreases-loop
