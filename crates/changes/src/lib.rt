@@ -1,5 +1,6 @@
 // Settings changed while a converter is open: request 7.
 #![tactic(auto)]
+
 ghost use Rattle.std.specs.Prelude.{◌≡◌};
 ghost use Rattle.reference.specs.Settings.{converter_of, held_settings};
 ghost use Rattle.reference.specs.Changes as changes;

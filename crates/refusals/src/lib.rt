@@ -1,5 +1,6 @@
 // Where a call is turned down: document 01's places, tried from top to bottom. A function that asks for an accepted converter reads its stored numbers.
 #![tactic(auto)]
+
 ghost use Rattle.std.specs.Prelude.{◌≡◌, [], ◌∷◌, ◌*◌, ◌≤◌};
 ghost use Rattle.reference.specs.Frames.{run, frame_count};
 ghost use Rattle.reference.specs.Output.{samples_per_frame};

@@ -3,7 +3,7 @@ use mathlib.Core.List.{◌++◌, List, [], append-nil}
 use mathlib.Core.Bool.{not}
 use mathlib.Core.Path.{◌≡◌, ap, sym, ◌∙◌}
 use native.Mathlib.Omega.{arith}
-use borrow.Author.Tests.{ne_eqb, eq-eqb, not-true, not-false}
+use borrow.Author.Tests.{ne_eqb, eq-eqb}
 use borrow.Author.Rules.{rules}
 use lib.ListN.{length}
 use Rattle.reference.specs.Refusals.{accepted, Place, decide, input_places, byte_lengths, lent_length, if_present}
@@ -32,15 +32,15 @@ fitting c = c.before.before
 
 returns : tie.Need-returns-then-not-accepted
 unfolding byte_lengths
-returns c = stands (first (start c.before.before)) c.input-v.ensures c.accepted.ensures _ (not-true _ c.if-not-accepted.true)
+returns c = stands (first (start c.before.before)) c.input-v.ensures c.accepted.ensures _ (c.if-not-accepted.true)
 
 fits : (c : tie.Else-not-accepted) → decide (first (start (tested c))) ≡ accepted
-fits c = passed (first (start (tested c))) (tested c).input-v.ensures c.accepted.ensures (not-false _ c.if-not-accepted.false)
+fits c = passed (first (start (tested c))) (tested c).input-v.ensures c.accepted.ensures (c.if-not-accepted.false)
 
 all_samples_requires : tie.Need-all_samples-expected-requires
 all_samples_requires c κs =
     let s = start (tested c) in
-    (s.pre, omega (arith, few_frames s.args.whose s.args.conv (run_of s) (fits c), rack_most s.args.whose))
+    (s.requires, omega (arith, few_frames s.args.whose s.args.conv (run_of s) (fits c), rack_most s.args.whose))
 
 returns-2 : tie.Need-returns-then-n-expected
 unfolding byte_lengths lent_length all_samples channel_samples

@@ -12,7 +12,7 @@ unfolding by_decision
 returns c = rw c.in-Accepted.is refl
 
 returns-2 : tie.Need-returns-in-Refused
-returns-2 c = let refused = c.in-Refused.given in rw (refused.1, exit_refused _ _ _ (error_refuses refused.0.0)) refl
+returns-2 c = rw (c.in-Refused.is, exit_refused _ _ _ (error_refuses c.in-Refused.field-0)) refl
 
 pub first_of_spec : {M : Type 1} → statement M
 first_of_spec = tie.close (tie.spec (λ c. search rules) (λ c. search rules) returns returns-2)

@@ -1,6 +1,5 @@
 -- `frame_count` meets its contract.
 use native.Mathlib.Omega.{arith}
-use borrow.Author.Rules.{rules}
 use Rattle.reference.proofs.Refusals.{some_channel, stored_frame, stored_count}
 use Rattle.refusals.proofs.frame_count.Statement.{statement}
 use Rattle.refusals.proofs.frame_count.Tie as tie

@@ -1,11 +1,10 @@
 -- `input` meets its contract.
 use mathlib.Core.List.{List, [], ◌∷◌, ◌++◌, append-nil}
-use mathlib.Core.Logic.{⊎_elim}
 use mathlib.Core.Bool.{not}
 use mathlib.Core.Path.{◌≡◌, ap, sym, ◌∙◌}
 use Prim.Native.Nat.{ℕ, ◌%◌, ◌/◌, ◌<◌}
 use native.Mathlib.Omega.{arith}
-use borrow.Author.Tests.{ne_eqb, eq-eqb, not-true, not-false}
+use borrow.Author.Tests.{ne_eqb, eq-eqb}
 use borrow.Author.Rules.{rules}
 use lib.ListN.{length}
 use Rattle.reference.specs.Refusals.{Place, decide, decision, input_places, run_length, too_many, one_long, if_present}
@@ -13,6 +12,7 @@ use Rattle.reference.specs.Frames.{Run, run, frame_length, frame_count}
 use Rattle.reference.proofs.Refusals.{at_first, at_next, at_end, present_holds, present_passes, absent_passes, some_channel, stored_frame}
 use Rattle.refusals.proofs.Steps.{stands, goes_on}
 use Rattle.refusals.proofs.input.Statement.{statement}
+use Rattle.refusals.proofs.input.Lts.{then-has_before+else-b-size, else-has_before}
 use Rattle.refusals.proofs.input.Tie as tie
 
 abbrev run_of : tie.Start → Run
@@ -59,7 +59,7 @@ returns-2 : tie.Need-returns-then-not-accepted
 unfolding input_places run_length
 returns-2 c =
     let e = c.before.before.before in
-    stands (more (from_whole e)) (counted c.before.before) c.accepted.ensures _ (not-true _ c.if-not-accepted.true)
+    stands (more (from_whole e)) (counted c.before.before) c.accepted.ensures _ (c.if-not-accepted.true)
     ∙ sym (at_next _ _ (ap not (eq-eqb _ _ (whole e))))
 
 -- the start, from where the run length is passed
@@ -75,16 +75,19 @@ unfolding input_places run_length
 past_length c =
     let e = c.before.before.before in
     at_next _ _ (ap not (eq-eqb _ _ (whole e)))
-    ∙ goes_on (more (from_whole e)) (counted c.before.before) c.accepted.ensures _ (not-false _ c.if-not-accepted.false)
+    ∙ goes_on (more (from_whole e)) (counted c.before.before) c.accepted.ensures _ (c.if-not-accepted.false)
 
 -- past the frame before too, by whichever branch
-so_far : (c : tie.Joined3) →
+so_far : (c : tie.Joined-has_before) →
     let s = from_passed c.before in
     decide (input_places s.args.whose s.args.conv (run_of s)) ≡ decide (if_present s.args.has_after (one_long 14 [] s.args.conv.channels s.args.after.now) ++ [])
 unfolding one_long
 so_far c =
     past_length c.before
-    ∙ ⊎_elim (λ t. present_passes _ _ _ t.0.taken (ap not (eq-eqb _ _ (t.1.left ∙ size (from_passed c.before))))) (λ t. absent_passes _ _ _ t.left) c.if-has_before.branch
+    ∙ (elim c.if-has_before.branch [
+      | then-has_before+else-b-size w ↦ present_passes _ _ _ w.if-has_before.true (ap not (eq-eqb _ _ (w.if-b-size.false ∙ size (from_passed c.before))))
+      | else-has_before w ↦ absent_passes _ _ _ w.if-has_before.false
+    ])
     ∙ ap decide (sym (append-nil _))
 
 returns-3 : tie.Need-returns-then-b-size

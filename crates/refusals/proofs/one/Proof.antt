@@ -2,7 +2,6 @@
 use mathlib.Core.Bool.{not}
 use mathlib.Core.Path.{sym, ap, ◌∙◌}
 use borrow.Author.Tests.{ne_eqb, eq-eqb}
-use borrow.Author.Rules.{rules}
 use Rattle.reference.specs.Refusals.{one_long}
 use Rattle.reference.proofs.Refusals.{at_first, at_next, at_end, stored_frame}
 use Rattle.refusals.proofs.one.Statement.{statement}
