@@ -2,7 +2,7 @@
 use mathlib.Core.Path.{◌≡◌, refl, sym, ap, ◌∙◌}
 use mathlib.Core.List.{List, [], ◌∷◌, ◌++◌, flat_map, append_assoc, append-nil}
 use mathlib.Core.Bool.{Bool, true, false, true≢false}
-use Prim.Native.Nat.{ℕ, ◌+◌, ◌-◌, ◌<◌}
+use Prim.Native.Nat.{ℕ, ◌+◌, ◌<◌}
 use native.Mathlib.Omega.{arith}
 use lib.ListN.{length, length-append}
 use lib.Seq.{take-append-le}
@@ -12,7 +12,7 @@ use Rattle.level_lines.specs.Text.{text, decimal, signed}
 use Rattle.level_settings.specs.Settings.{rate_text, cutoff_text}
 use Rattle.command_words.specs.Words.{Word, name}
 use Rattle.command_grammar.specs.Grammar.{db_at, Option, option_words, Allowed, AllAllowed, Command, Right, mark, command_words, command_line, After_options, Taken, Continues, FaultAt}
-use Rattle.command_grammar.specs.Reading.{fault, start, option, rate, cutoff, gain, sheet, jobs, input, output, next, after, line_of}
+use Rattle.command_grammar.specs.Reading.{fault, start, after, line_of}
 use Rattle.command_grammar.specs.declared.Options.{Options}
 use Rattle.command_grammar.specs.declared.Line.{Line}
 use Rattle.command_grammar.specs.declared.Asked.TheVariants.{Usage}

@@ -1,5 +1,6 @@
 // The command's arguments: what they may ask for, and what is read of them. The grammar is in specs/Grammar; no code.
 #![tactic(auto)]
+
 use reference::{Cutoff, PcmRate};
 
 // What the options ask for. The gain is its whole decibels above -120: 120 is 0 dB. Words are counted from 0; jobs and sheet are 0 where they

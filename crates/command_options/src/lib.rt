@@ -1,5 +1,6 @@
 // One word of the command line: an option, an option's value, a name; and what is expected after it.
 #![tactic(auto)]
+
 ghost use Rattle.std.specs.Prelude.{◌≡◌};
 ghost use Rattle.command_grammar.specs.Reading as reading;
 

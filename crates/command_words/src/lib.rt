@@ -1,5 +1,6 @@
 // Words that are names.
 #![tactic(auto)]
+
 ghost use Rattle.std.specs.Prelude.{◌≡◌};
 ghost use Rattle.command_words.specs.Words as words;
 

@@ -1,5 +1,6 @@
 // The level sheet for the sleeve, from a conversion's statistics.
 #![tactic(auto)]
+
 ghost use Rattle.std.specs.Prelude.{◌≡◌, false, ◌||◌, ◌+◌, ◌*◌, ◌<◌, ◌≤◌, length};
 ghost use Rattle.numbers.specs.Lists.{tabulate};
 ghost use Rattle.reference.specs.Refusals.{decide, decision};

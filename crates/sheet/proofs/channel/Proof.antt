@@ -3,7 +3,7 @@ use mathlib.Core.Path.{◌≡◌, ap}
 use mathlib.Core.Bool.{true, false}
 use native.Mathlib.Omega.{arith}
 use lib.IntN.{pos}
-use lib.ListN.{length, get_or, length-map}
+use lib.ListN.{length, get_or}
 use mir.Syntax.{w64}
 use mir.Val.{SFits}
 use mir.Facts.{to_z-of_z}
@@ -21,7 +21,7 @@ use Rattle.sheet.proofs.channel.Tie as tie
 
 -- a record has six marks
 six : (s : tie.Start) → length s.args.stats.empty ≡ 6
-six s = simp length-map at s.well-formed.1.1.1.0.1.1.1.1.1.0.1.0.1
+six s = s.well_formed.1.1.1.0.1.1.1.1.1.0.1.0.1
 
 number_requires : tie.Need-number-n-requires
 number_requires c κs =
@@ -71,7 +71,7 @@ returns c =
     let a = s.args in
     let x : SFits w64 (get_or a.stats.lowest a.c (pos 0)) = record { sfits = at_low.level-arg-2-1.given } in
     let y : SFits w64 (get_or a.stats.highest a.c (pos 0)) = record { sfits = at_high.level-arg-4-1.given } in
-    let mark = get_d_any a.stats.empty a.c false true (omega (arith, six s)) in
+    let mark = get_d_any a.stats.empty a.c false true (omega (arith, six s.before)) in
     let low = rw (to_z-of_z x, mark) at at_low.level-n.ensures.0 in
     let high = rw (to_z-of_z y, mark) at at_high.level-n-2.ensures.0 in
     let all = then at-number.number-n.ensures.0 (then at-number2.number-n-2.ensures.0 (then low (then high at-put.put.ensures))) in (

@@ -34,7 +34,7 @@ loop-again : tie.Need-loop-c-preserved invariant-loop decreases-loop
 loop-again c =
     let at_channel = c.before.before in
     let l = at_channel.loop-c in
-    (omega arith, omega (arith, at_channel.channel-at.ensures.1), at_channel.channel-at.auto.0 ∙ l.invariant.2, more _ l.c l.invariant.3 at_channel.channel-at.ensures.0 refl)
+    (omega arith, omega (arith, at_channel.channel-at.ensures.1), at_channel.channel-at.auto.out ∙ l.invariant.2, more _ l.c l.invariant.3 at_channel.channel-at.ensures.0 refl)
 
 same_length : tie.Need-shape_of-out invariant-loop decreases-loop
 same_length c = c.loop-c.invariant.2

@@ -1,9 +1,6 @@
 -- `fill` meets its contract.
-use mathlib.Core.Path.{◌≡◌, sym, ap, ◌∙◌}
 use native.Mathlib.Omega.{arith}
-use lib.ListN.{length, length-append}
 use borrow.Author.Rules.{rules}
-use Rattle.level_lines.specs.Text.{decimal}
 use Rattle.level_lines.proofs.Printing.{then, filled}
 use Rattle.sheet.specs.Sheet.{sheet}
 use Rattle.sheet.specs.Promises.{sheet_length}

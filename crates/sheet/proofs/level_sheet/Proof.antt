@@ -1,5 +1,5 @@
 -- `level_sheet` meets its contract.
-use mathlib.Core.Path.{◌≡◌, sym, ap, ◌∙◌}
+use mathlib.Core.Path.{sym, ap, ◌∙◌}
 use borrow.Author.Rules.{rules}
 use Rattle.reference.specs.Refusals.{decision, is_accepted}
 use Rattle.reference.proofs.Refusals.{error_refuses}
@@ -23,10 +23,8 @@ returns c =
 
 returns-2 : tie.Need-returns-in-Refused
 returns-2 c =
-    let at_told = c in
-    let told = at_told.in-Refused.given in
-    let e = sym at_told.verdict-verdict.ensures ∙ ap decision told.1 in
-    record { decided = sym e; written = sym (exit_refused _ _ _ (ap is_accepted e ∙ error_refuses told.0.0)) }
+    let e = sym c.verdict-verdict.ensures ∙ ap decision c.in-Refused.is in
+    record { decided = sym e; written = sym (exit_refused _ _ _ (ap is_accepted e ∙ error_refuses c.in-Refused.e)) }
 
 pub level_sheet_spec : {M : Type 1} → statement M
 level_sheet_spec = tie.close (tie.spec (λ c κs. search rules) (λ c. search rules) fill_requires (λ c. search rules) (λ c. search rules) returns returns-2)

@@ -1,11 +1,6 @@
 -- `wide` meets its contract.
-use mathlib.Core.Path.{◌≡◌, sym, ap, ap₂, ◌∙◌}
-use mathlib.Core.Bool.{Bool, true, false, ◌||◌}
-use Prim.Native.Nat.{ℕ}
-use lib.Dec.{ltb}
-use lib.ListN.{length}
+use mathlib.Core.Path.{sym, ◌∙◌}
 use borrow.Author.Rules.{rules}
-use Rattle.level_lines.specs.Text.{decimal}
 use Rattle.sheet.specs.Sheet.{sheet_too_wide}
 use Rattle.sheet.proofs.Widths.{sum_wide}
 use Rattle.sheet.proofs.wide.Statement.{statement}

@@ -3,7 +3,7 @@ use mathlib.Core.Path.{◌≡◌, sym, ◌∙◌}
 use mathlib.Core.Bool.{true, false}
 use native.Mathlib.Omega.{arith}
 use lib.IntN.{pos}
-use lib.ListN.{length, get_or, length-map}
+use lib.ListN.{length, get_or}
 use mir.Syntax.{w64}
 use mir.Val.{SFits}
 use mir.Facts.{to_z-of_z}
@@ -15,7 +15,7 @@ use Rattle.sheet.proofs.wide_channel.Tie as tie
 
 -- a record has six marks
 six : (s : tie.Start) → length s.args.stats.empty ≡ 6
-six s = simp length-map at s.well-formed.0.1.1.1.1.1.0.1.0.1
+six s = s.well_formed.0.1.1.1.1.1.0.1.0.1
 
 returns : tie.Need-returns
 returns c =
