@@ -1,5 +1,6 @@
 // Arguments of the C interface understood, and a call's answer told in lent lists.
 #![tactic(auto)]
+
 ghost use Rattle.std.specs.Prelude.{◌≡◌, ◌&&◌, eqb};
 ghost use Rattle.interface.specs.Codes.{known_flag};
 ghost use Rattle.interface.specs.Settings.{known_settings};

@@ -43,8 +43,8 @@ same-length-3 c = search rules
 returns-2 : tie.Need-returns-in-Refused
 returns-2 c =
     let told = c.before.before in
-    let refused = told.in-Refused.given in
-    (told.tell_data-in-Refused.ensures, rw (refused.1, exit_refused _ _ _ (error_refuses refused.0.0)) refl)
+    let refused = told.in-Refused in
+    (told.tell_data-in-Refused.ensures, rw (refused.is, exit_refused _ _ _ (error_refuses refused.field-0)) refl)
 
 pub tell_number_spec : {M : Type 1} → statement M
 tell_number_spec =

@@ -49,8 +49,8 @@ returns-2 : tie.Need-returns-in-Refused
 returns-2 c =
     let at-tell2 = c.before.before.before.before in
     let at-enum-told2 = at-tell2.before.before.before in
-    let refused = at-enum-told2.in-Refused.given in
-    (at-tell2.tell-in-Refused.ensures, rw (refused.1, exit_refused _ _ _ (error_refuses refused.0.0)) refl)
+    let refused = at-enum-told2.in-Refused in
+    (at-tell2.tell-in-Refused.ensures, rw (refused.is, exit_refused _ _ _ (error_refuses refused.field-0)) refl)
 
 pub tell_opening_spec : {M : Type 1} → statement M
 tell_opening_spec =

@@ -6,9 +6,10 @@ use Prim.Native.Nat.{ℕ, ◌+◌, ◌-◌, ◌≤◌, ◌<◌}
 use native.Mathlib.Omega.{arith}
 use native.Mathlib.Numerals.{add-one}
 use borrow.Author.Rules.{rules}
-use lib.IntN.{ℤ, pos}
+use lib.IntN.{pos}
 use lib.ListN.{length, length-set, length-map, take, get_or, set, get_or-map}
 use lib.Seq.{take-suc, take-suc-set, take_all}
+use mir.Syntax.{w64}
 use mir.Val.{bool_byte}
 use mir.Facts.{to_z-of_z}
 use Rattle.interface.specs.Told.{mark}
@@ -47,16 +48,16 @@ marked marks c = byte (get_or marks c false) ∙ sym (get_or-map mark marks c fa
 -- ---- a record has six of each
 module _ (c : tie.Start invariant-loop decreases-loop) where
   counts_six : length c.args.stats.clipped ≡ 6
-  counts_six = simp length-map at c.well-formed.0.1.1.0.1.0.1
+  counts_six = c.well_formed.0.1.1.0.1.0.1
 
   low_six : length c.args.stats.lowest ≡ 6
-  low_six = simp length-map at c.well-formed.0.1.1.1.0.1.0.1
+  low_six = c.well_formed.0.1.1.1.0.1.0.1
 
   high_six : length c.args.stats.highest ≡ 6
-  high_six = simp length-map at c.well-formed.0.1.1.1.1.0.1.0.1
+  high_six = c.well_formed.0.1.1.1.1.0.1.0.1
 
   marks_six : length (map mark c.args.stats.empty) ≡ 6
-  marks_six = simp length-map (simp length-map at c.well-formed.0.1.1.1.1.1.0.1.0.1)
+  marks_six = simp length-map c.well_formed.0.1.1.1.1.1.0.1.0.1
 
 -- the entry, from the loop
 abbrev start : tie.After-marks-1 invariant-loop decreases-loop → tie.Start invariant-loop decreases-loop
@@ -75,8 +76,8 @@ loop-again c =
     let m = turn.loop-c-test.true in (
       omega arith,
       copied_more l.invariant.1 (counts_six s) 0 m refl,
-      copied_more l.invariant.2 (low_six s) (pos 0) m (to_z-of_z (record { sfits = c.lowest-1.given })),
-      copied_more l.invariant.3 (high_six s) (pos 0) m (to_z-of_z (record { sfits = c.highest-1.given })),
+      copied_more l.invariant.2 (low_six s) (pos 0) m (to_z-of_z {w = w64} (record { sfits = c.lowest-1.given })),
+      copied_more l.invariant.3 (high_six s) (pos 0) m (to_z-of_z {w = w64} (record { sfits = c.highest-1.given })),
       copied_more l.invariant.4 (marks_six s) 0 m (marked s.args.stats.empty l.c),
     )
 

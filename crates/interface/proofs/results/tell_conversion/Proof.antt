@@ -32,12 +32,12 @@ returns : tie.Need-returns-in-Accepted
 unfolding by_decision
 returns c =
     let stats = written (told c) in
-    ((told c).tell.ensures, rw (accepted stats).enum_told-1.given.1 stats.put-stats.ensures)
+    ((told c).tell.ensures, rw (accepted stats).in-Accepted.is stats.put_stats.ensures)
 
 returns-2 : tie.Need-returns-in-Refused
 returns-2 c =
-    let known = (refused (refusal_told c)).enum_told-in-Refused-1.given in
-    ((refusal_told c).tell-in-Refused.ensures, rw (known.1, exit_refused _ _ _ (error_refuses known.0.0)) refl)
+    let known = (refused (refusal_told c)).in-Refused in
+    ((refusal_told c).tell-in-Refused.ensures, rw (known.is, exit_refused _ _ _ (error_refuses known.field-0)) refl)
 
 pub tell_conversion_spec : {M : Type 1} → statement M
 tell_conversion_spec =
