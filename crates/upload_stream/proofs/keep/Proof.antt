@@ -31,7 +31,7 @@ loop-holds c = (omega arith, wrote_none)
 within : (c : tie.In-loop-k invariant-loop decreases-loop) → let a = (start c.before).args in (c.loop-k.k < length a.bytes.now) × (a.known + c.loop-k.k < length a.head.now)
 within c =
     let e = c.lesser_of-more.ensures in
-    let p = (start c.before).pre in
+    let p = (start c.before).requires in
     (omega arith, omega arith)
 
 shared_slice_read_head : tie.Need-bounds-bytes-k invariant-loop decreases-loop
@@ -53,7 +53,7 @@ loop-again : tie.Need-loop-k-preserved invariant-loop decreases-loop
 loop-again c = (omega arith, wrote_more c.loop-k.invariant.1 (within c.before).1 refl)
 
 add_result : tie.Need-overflow_add-result invariant-loop decreases-loop
-add_result c = omega (arith, c.lesser_of-more.ensures, (start c.before).pre)
+add_result c = omega (arith, c.lesser_of-more.ensures, (start c.before).requires)
 
 same_length : tie.Need-shape_of-head invariant-loop decreases-loop
 same_length c = c.loop-k.invariant.1.same
@@ -64,7 +64,7 @@ returns c =
     let r = c.lesser_of-more in
     let a = (start c.before).args in
     let z : a.known + r.result - a.known ≡ l.k = omega arith in
-    ((omega arith, omega (arith, r.ensures, (start c.before).pre)), rw z l.invariant.1)
+    ((omega arith, omega (arith, r.ensures, (start c.before).requires)), rw z l.invariant.1)
 
 pub keep_spec : {M : Type 1} → statement M
 keep_spec =
