@@ -10,33 +10,25 @@
 // 84        two channels, each with its own run over the border
 #![tactic(auto)]
 
+use std::io;
+
 // Two digits.
 fn digit(n: u64) -> u8 {
     b'0' + (n % 10) as u8
 }
 
-fn report_of(k: u64) -> bool {
+fn report_of(rt: &HostRuntime, k: u64) -> io::Result<()> {
     let path = [digit(k / 10), digit(k)];
-    let fd = os::open_read(&path);
-    if fd < 0 {
-        os::fail(&path);
-        return false;
-    }
-    level_stream::report(fd, fd, libc::STDOUT_FILENO);
-    libc::close(fd);
-    true
+    let from = test_support::open(rt, &path)?;
+    level_stream::report(&mut &from, &mut &from, &mut io::writer(rt))
 }
 
-fn main() {
+fn main(rt: HostRuntime) -> io::Result<()> {
     let mut k = 0u64;
     while k < 84 {
         k += 1;
-        io::write_all(libc::STDOUT_FILENO, b"input ");
-        io::print_decimal(libc::STDOUT_FILENO, k);
-        io::write_all(libc::STDOUT_FILENO, b"\n");
-        report_of(k);
+        println!(rt; "input {k}")?;
+        report_of(&rt, k)?;
     }
-    io::write_all(libc::STDOUT_FILENO, b"inputs ");
-    io::print_decimal(libc::STDOUT_FILENO, k);
-    io::write_all(libc::STDOUT_FILENO, b"\n");
+    println!(rt; "inputs {k}")
 }

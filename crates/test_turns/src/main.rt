@@ -4,6 +4,9 @@
 
 ghost use Rattle.std.specs.Prelude.{◌≤◌, length};
 
+use std::io;
+use std::rt::Files;
+
 fn digit(n: u64) -> u8 {
     b'0' + (n % 10) as u8
 }
@@ -62,31 +65,22 @@ fn right_first(text: &[u8], n: usize) -> bool
     right(&text[..n])
 }
 
-fn file(k: u64) -> bool {
+fn file<R: Files>(rt: &R, k: u64) -> io::Result<bool> {
     let path = [digit(k / 100), digit(k / 10), digit(k)];
-    let fd = os::open_read(&path);
-    if fd < 0 {
-        os::fail(&path);
-        return false;
-    }
+    let mut from = test_support::open(rt, &path)?;
     let mut text = [0u8; 2048];
-    let came = level_input::fill(fd, &mut text);
-    libc::close(fd);
-    if came.failed {
-        os::fail(&path);
-        return false;
-    }
-    right_first(&text, came.n)
+    let n = level_input::fill(&mut from, &mut text)?;
+    Ok(right_first(&text, n))
 }
 
-fn main() {
+fn main(rt: HostRuntime) -> io::Result<()> {
     let mut k = 0u64;
     let mut equal = 0u64;
     while k < 194 {
         k += 1;
-        if file(k) {
+        if file(&rt, k)? {
             equal += 1;
         }
     }
-    test_support::equal(b"boards ", k, equal);
+    test_support::equal(&rt, b"boards ", k, equal)
 }
