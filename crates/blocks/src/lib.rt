@@ -1,5 +1,6 @@
 // The channel of a frame, a block of samples at a time: gathered, filtered, scaled and stored. Samples n count from the run's start.
 #![tactic(auto)]
+
 ghost use Rattle.std.specs.Prelude.{◌≡◌, true, false, ℕ, ◌+◌, ◌*◌, ◌%◌, ◌^◌, ◌≤◌, ◌<◌, T, ℤ, pos, nat_abs, length};
 ghost use Rattle.numbers.specs.Sums.{at0};
 ghost use Rattle.numbers.specs.Lists.{Held};

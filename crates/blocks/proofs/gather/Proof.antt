@@ -1,5 +1,5 @@
 -- `gather` meets its contract: the bytes go to the front of their array.
-use mathlib.Core.Path.{◌≡◌, ◌∙◌, ap}
+use mathlib.Core.Path.{◌≡◌, ap}
 use Prim.Native.Nat.{◌+◌, ◌*◌, ◌≤◌}
 use native.Mathlib.Nat.{mul-le-mul}
 use native.Mathlib.Omega.{arith}
@@ -7,7 +7,7 @@ use borrow.Author.Rules.{rules}
 use lib.ListN.{length}
 use Rattle.numbers.proofs.Lists.{held_some}
 use Rattle.reference.specs.Frames.{frame_count}
-use Rattle.routes.specs.Routes.{stride, around}
+use Rattle.routes.specs.Routes.{stride}
 use Rattle.routes.proofs.Arrays.{part_length}
 use Rattle.kernel.proofs.Blocks.{first_held}
 use Rattle.blocks.proofs.gather.Statement.{statement}
@@ -43,21 +43,19 @@ gather_requires c κs =
     let a = c.before in
     let s = entry a.before.before in
     let n = a.stride.result * s.args.values + a.around.result in
-    (s.pre.0, (s.pre.1.0, omega (arith, s.pre.1.1, step_few a.before, a.around.ensures.1, part_length 0 n s.args.bytes.now (read_is a))))
+    (s.requires.0, (s.requires.1.0, omega (arith, s.requires.1.1, step_few a.before, a.around.ensures.1, part_length 0 n s.args.bytes.now (read_is a))))
 
 add_result : tie.Need-overflow_add-result
 add_result c =
-    let a = c.before.before.before.before in
-    omega (arith, (entry a.before.before).requires.1.1, step_few a.before)
+    omega (arith, (entry c.before.before.before.before.before.before).requires.1.1, step_few c.before.before.before.before.before)
 
 returns : tie.Need-returns
 returns c =
-    let g = c.before.before in
-    let a = g.before.before in
+    let a = c.before.before.before.before in
     let s = entry a.before.before in
     let n = a.stride.result * s.args.values + a.around.result in
     let long = part_length 0 n s.args.bytes.now (read_is a) in
-    (omega (arith, step_is a.before), first_held (held_some _ (omega (arith, step_is a.before, a.around.ensures.0, long)) g.gather.ensures) _ (omega (arith, step_is a.before, a.around.ensures.0, long, g.gather.auto.1.1.1.1.1.1.1.0)))
+    (omega (arith, step_is a.before), first_held (held_some _ (omega (arith, step_is a.before, a.around.ensures.0, long)) c.gather.ensures) _ (omega (arith, step_is a.before, a.around.ensures.0, long, c.gather.auto.bytes)))
 
 pub gather_spec : {M : Type 1} → statement M
 gather_spec =

@@ -1,5 +1,5 @@
 -- `scale` meets its contract: the front of y is scaled to the front of the samples.
-use mathlib.Core.Path.{sym, ◌∙◌, ap}
+use mathlib.Core.Path.{sym, ◌∙◌}
 use Prim.Native.Nat.{◌-◌}
 use native.Mathlib.Omega.{arith}
 use borrow.Author.Rules.{rules}
@@ -13,20 +13,18 @@ use Rattle.blocks.proofs.scale.Tie as tie
 
 scale_block_requires : tie.Need-scale_block-requires
 scale_block_requires c κs =
-    let s = c.before.before.before in
-    let m = s.args.m in
-    let y = s.args.y.now in
+    let m = c.args.m in
+    let y = c.args.y.now in
     let part = part_length 0 m y (omega arith) in
-    ((omega (arith, part), part_length 0 m s.args.samples.now (omega arith) ∙ sym part), (s.requires.1.0, λ k l. rw (get_or-take (m - 0) y k (pos 0) (omega (arith, part))) (s.requires.1.1 k (omega (arith, part)))))
+    ((omega (arith, part), part_length 0 m c.args.samples.now (omega arith) ∙ sym part), (c.requires.1.0, λ k l. rw (get_or-take (m - 0) y k (pos 0) (omega (arith, part))) (c.requires.1.1 k (omega (arith, part)))))
 
 returns : tie.Need-returns
 returns c =
     let g = c.scale_block in
-    let s = c.before.before.before.before.before in
-    let m = s.args.m in
-    let y = s.args.y.now in
-    let done = part_scaled s.args.conv.gain.linear m y (omega arith) g.ensures in
-    (first_held done _ (omega (arith, g.auto.1.1.0, part_length 0 m s.args.samples.now (omega arith))), part_told s.args.conv.gain.linear m y (omega arith) g.ensures)
+    let m = c.args.m in
+    let y = c.args.y.now in
+    let done = part_scaled c.args.conv.gain.linear m y (omega arith) g.ensures in
+    (first_held done _ (omega (arith, g.auto.out, part_length 0 m c.args.samples.now (omega arith))), part_told c.args.conv.gain.linear m y (omega arith) g.ensures)
 
 pub scale_spec : {M : Type 1} → statement M
 scale_spec =

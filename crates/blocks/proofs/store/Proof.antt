@@ -6,29 +6,19 @@ use Rattle.blocks.proofs.store.Tie as tie
 
 store24_requires : tie.Need-store24-requires
 store24_requires c κs =
-    let t = c.before.before in
-    let s = t.before.before.before in
-    (s.requires.0, rw (front_length s.args.m s.args.samples.now s.requires.1) (s.requires.3 t.if-packed.true))
+    (c.requires.0, rw (front_length c.args.m c.args.samples.now c.requires.1) (c.requires.3 c.if-packed.true))
 
 returns : tie.Need-returns-then-packed
 returns c =
-    let g = c.before.before in
-    let t = g.before.before.before in
-    let s = t.before.before.before in
-    part_bytes s.args.m s.args.samples.now s.requires.1 t.if-packed.true g.store24.auto.1.1.1.1.0 g.store24.ensures
+    part_bytes c.args.m c.args.samples.now c.requires.1 c.if-packed.true c.store24.auto.raw c.store24.ensures
 
 store_requires : tie.Need-store-requires
 store_requires c κs =
-    let t = c.before.before in
-    let s = t.before.before.before in
-    (s.requires.0, rw (front_length s.args.m s.args.samples.now s.requires.1) (s.requires.2 t.if-packed.false))
+    (c.requires.0, rw (front_length c.args.m c.args.samples.now c.requires.1) (c.requires.2 c.if-packed.false))
 
 returns-2 : tie.Need-returns
 returns-2 c =
-    let g = c.before in
-    let t = g.before.before.before in
-    let s = t.before.before.before in
-    part_items s.args.m s.args.samples.now s.requires.1 t.if-packed.false g.store.auto.1.1.1.1.0 g.store.ensures
+    part_items c.args.m c.args.samples.now c.requires.1 c.if-packed.false c.store.auto.out c.store.ensures
 
 pub store_spec : {M : Type 1} → statement M
 store_spec =
