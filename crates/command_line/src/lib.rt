@@ -1,5 +1,6 @@
 // The command's arguments. What `read` promises is command_grammar's specs/Grammar.
 #![tactic(auto)]
+
 ghost use Rattle.command_words.specs.Words.{words_of};
 ghost use Rattle.command_grammar.specs.Grammar.{LineRead};
 

@@ -1,5 +1,6 @@
 // Refusals as sentences.
 #![tactic(auto)]
+
 ghost use Rattle.std.specs.Prelude.{◌++◌, ◌+◌, ◌*◌, ◌≤◌, length};
 ghost use Rattle.level_lines.specs.Text.{Printed};
 ghost use Rattle.sentences.specs.Sentences as texts;

@@ -7,9 +7,6 @@ use borrow.Author.Rules.{rules}
 use Rattle.sentences.proofs.lengths.Statement.{statement}
 use Rattle.sentences.proofs.lengths.Tie as tie
 
-slice_aggregate_put : tie.Need-slice-aggregate-put
-slice_aggregate_put c = search rules
-
 put_requires : tie.Need-put-requires
 put_requires c κs = search rules
 
@@ -24,20 +21,8 @@ returns c =
     let s = then1.before.before in
     rw (eq-eqb s.args.a s.args.b then1.if-a-b.true) said.put.ensures
 
-slice_aggregate_around : tie.Need-slice-aggregate-around
-slice_aggregate_around c = search rules
-
-slice_aggregate_around_2 : tie.Need-slice-aggregate-around-2
-slice_aggregate_around_2 c = search rules
-
 around_requires : tie.Need-around-n-requires
 around_requires c κs = search rules
-
-slice_aggregate_around_3 : tie.Need-slice-aggregate-around-3
-slice_aggregate_around_3 c = search rules
-
-slice_aggregate_around_4 : tie.Need-slice-aggregate-around-4
-slice_aggregate_around_4 c = search rules
 
 around_requires_2 : tie.Need-around-requires
 around_requires_2 c κs = search rules

@@ -6,9 +6,6 @@ use borrow.Author.Rules.{rules}
 use Rattle.sentences.proofs.of_file.Statement.{statement}
 use Rattle.sentences.proofs.of_file.Tie as tie
 
-slice_aggregate_put : tie.Need-slice-aggregate-put
-slice_aggregate_put c = search rules
-
 put_requires : tie.Need-put-requires
 put_requires c κs = search rules
 
@@ -70,12 +67,6 @@ returns-4 c =
     let else1 = else2.before in
     let s = else1.before.before in
     rw (ne_eqb s.args.number 9 else1.if-number-eq9.false, ne_eqb s.args.number 10 else2.if-number-eq10.false, ne_eqb s.args.number 11 else3.if-number-eq11.false, eq-eqb s.args.number 12 then4.if-number-eq12.true) said.too_large.ensures
-
-slice_aggregate_around : tie.Need-slice-aggregate-around
-slice_aggregate_around c = search rules
-
-slice_aggregate_around_2 : tie.Need-slice-aggregate-around-2
-slice_aggregate_around_2 c = search rules
 
 around_requires : tie.Need-around-requires
 around_requires c κs = search rules

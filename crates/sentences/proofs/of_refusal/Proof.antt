@@ -6,9 +6,6 @@ use borrow.Author.Rules.{rules}
 use Rattle.sentences.proofs.of_refusal.Statement.{statement}
 use Rattle.sentences.proofs.of_refusal.Tie as tie
 
-slice_aggregate_put : tie.Need-slice-aggregate-put
-slice_aggregate_put c = search rules
-
 put_requires : tie.Need-put-requires
 put_requires c κs = search rules
 
@@ -22,9 +19,6 @@ returns c =
     let then1 = said.before.before.before in
     let s = then1.before.before in
     rw (eq-eqb s.args.number 2 then1.if-number-eq2.true) said.put.ensures
-
-slice_aggregate_put_2 : tie.Need-slice-aggregate-put-2
-slice_aggregate_put_2 c = search rules
 
 put_requires_2 : tie.Need-put-requires-then-number-eq3
 put_requires_2 c κs = search rules
@@ -40,12 +34,6 @@ returns-2 c =
     let else1 = then2.before in
     let s = else1.before.before in
     rw (ne_eqb s.args.number 2 else1.if-number-eq2.false, eq-eqb s.args.number 3 then2.if-number-eq3.true) said.put-then-number-eq3.ensures
-
-slice_aggregate_around : tie.Need-slice-aggregate-around
-slice_aggregate_around c = search rules
-
-slice_aggregate_around_2 : tie.Need-slice-aggregate-around-2
-slice_aggregate_around_2 c = search rules
 
 around_requires : tie.Need-around-requires
 around_requires c κs = search rules

@@ -6,12 +6,6 @@ use borrow.Author.Rules.{rules}
 use Rattle.sentences.proofs.too_large.Statement.{statement}
 use Rattle.sentences.proofs.too_large.Tie as tie
 
-slice_aggregate_around : tie.Need-slice-aggregate-around
-slice_aggregate_around c = search rules
-
-slice_aggregate_around_2 : tie.Need-slice-aggregate-around-2
-slice_aggregate_around_2 c = search rules
-
 around_requires : tie.Need-around-requires
 around_requires c κs = search rules
 
@@ -24,12 +18,6 @@ returns c =
     let said = c.before.before in
     let then1 = said.before.before.before.before in
     rw (lt-ltb 2 then1.args.a then1.if-a-gt2.true) said.around.ensures.0
-
-slice_aggregate_around_3 : tie.Need-slice-aggregate-around-3
-slice_aggregate_around_3 c = search rules
-
-slice_aggregate_around_4 : tie.Need-slice-aggregate-around-4
-slice_aggregate_around_4 c = search rules
 
 around_requires_2 : tie.Need-around-requires-2
 around_requires_2 c κs = search rules
