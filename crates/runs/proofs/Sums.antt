@@ -17,7 +17,6 @@ use Rattle.numbers.specs.Extremes.{lesser, greater, extreme0}
 use Rattle.numbers.specs.Lists.{total, count, tabulate}
 use Rattle.numbers.proofs.Lists.{get_d_any, below_or, is_tabulate, tabulate_same}
 use Rattle.reference.specs.Frames.{Run, frame_length, frame_count}
-use Rattle.reference.specs.Stages.{y}
 use Rattle.reference.specs.Output.{samples_per_frame, unclamped, sample, clipped, item, channel_samples, all_samples, samples, channel_clips, channel_extreme, channel_empty, stats, frame_clips}
 use Rattle.reference.specs.declared.Converter.{Converter}
 use Rattle.reference.specs.declared.ConvertStats.{ConvertStats}

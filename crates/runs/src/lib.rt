@@ -1,5 +1,6 @@
 // The frames of a run, and the channels of a frame. Samples n count from the run's start.
 #![tactic(auto)]
+
 ghost use Rattle.std.specs.Prelude.{◌≡◌, ◌+◌, ◌*◌, ◌≤◌, ◌<◌, ◌%◌, length};
 ghost use Rattle.reference.specs.Frames.{frame_count};
 ghost use Rattle.reference.specs.Output.{samples_per_frame, sample, channel_samples, all_samples};

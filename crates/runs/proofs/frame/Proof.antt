@@ -35,7 +35,7 @@ few c = omega (arith, c.loop-channel-test.true, (start c).requires.0.slices.few)
 
 -- the run's samples fit a u64 many times over
 small : (c : tie.In-loop-channel invariant-loop decreases-loop) → ((start c).args.n + samples_per_frame (start c).args.conv.rate ≤ 540000 * 4704) × (samples_per_frame (start c).args.conv.rate ≤ 4704)
-small c = let s = start c in (omega (arith, s.pre.1.0.0, run_samples s.args.conv s.pre.0.slices), frame_samples s.args.conv.rate)
+small c = let s = start c in (omega (arith, s.requires.1.0.0, run_samples s.args.conv s.requires.0.slices), frame_samples s.args.conv.rate)
 
 loop-holds : tie.Need-loop-channel-init invariant-loop decreases-loop
 loop-holds c = columns_none (entry c).requires.1.1
@@ -44,7 +44,7 @@ channel_requires : tie.Need-channel-more-requires invariant-loop decreases-loop
 channel_requires c κs =
     let t = c.before.before in
     let s = start t in
-    (s.pre.0, (t.loop-channel-test.true, s.pre.1.0.0, room_same t.loop-channel.invariant.box s.pre.1.0.1, s.pre.1.0.2))
+    (s.requires.0, (t.loop-channel-test.true, s.requires.1.0.0, room_same t.loop-channel.invariant.box s.requires.1.0.1, s.requires.1.0.2))
 
 mul_sum : tie.Need-offset_bounds-sums-channel invariant-loop decreases-loop
 mul_sum c = omega (arith, few (turn (done c)))
@@ -56,7 +56,7 @@ join_tally_requires : tie.Need-join_tally-both-requires invariant-loop decreases
 join_tally_requires c κs =
     let d = done c.before in
     let t = turn d in
-    tallied_fits t.before.loop.inv.tallied t.loop-test.taken d.channel.ensures.is_told _ (few t) (omega (arith, small t))
+    tallied_fits t.loop-channel.invariant.tallied t.loop-channel-test.true d.channel-more.ensures.is_told _ (few t) (omega (arith, small t))
 
 mul_sums : tie.Need-offset_bounds-sums-channel-in-loop-channel invariant-loop decreases-loop
 mul_sums c = omega (arith, few (turn (done c.before.before)))
@@ -72,19 +72,19 @@ add_clips : tie.Need-overflow_add-clips invariant-loop decreases-loop
 add_clips c =
     let d = joined c in
     let t = turn d in
-    omega (arith, columns_few t.before.loop.inv, made_few d.channel.ensures, small t, few t)
+    omega (arith, columns_few t.loop-channel.invariant, made_few d.channel-more.ensures, small t, few t)
 
 add_channel : tie.Need-overflow_add-channel invariant-loop decreases-loop
 add_channel c = omega (arith, few (turn (joined c)))
 
 loop-less : tie.Need-loop-channel-smaller invariant-loop decreases-loop
-loop-less c = omega (arith, (turn (joined c)).loop-channel-test.taken)
+loop-less c = omega (arith, (turn (joined c)).loop-channel-test.true)
 
 loop-again : tie.Need-loop-channel-preserved invariant-loop decreases-loop
 loop-again c =
     let d = joined c in
     let t = turn d in
-    columns_more t.before.loop.inv _ t.loop-test.taken (start t).pre.0.slices.few d.channel.ensures c.join_tally-both.ensures
+    columns_more t.loop-channel.invariant _ t.loop-channel-test.true (start t).requires.0.slices.few d.channel-more.ensures c.join_tally-both.ensures
 
 returns : tie.Need-returns invariant-loop decreases-loop
 returns c =
@@ -109,6 +109,6 @@ frame_spec =
     add_channel
     loop-less
     loop-again
-    (λ c. c.before.loop.invariant.box.same)
-    (λ c. c.before.loop.invariant.box.same_bytes)
+    (λ c. c.loop-channel.invariant.box.same)
+    (λ c. c.loop-channel.invariant.box.same_bytes)
     returns)

@@ -8,6 +8,7 @@ use borrow.Author.Rules.{rules}
 use lib.IntN.{pos}
 use lib.ListN.{length-set, length, get_or, set}
 use mir.Facts.{to_z-of_z}
+use mir.Syntax.{w64}
 use Rattle.numbers.specs.Lists.{Held, tabulate}
 use Rattle.numbers.proofs.Lists.{get_d_any, held_none, held_more, is_tabulate}
 use Rattle.gain.specs.Tallies.{none}
@@ -62,14 +63,13 @@ array_write_empty c = c.loop-c-test.true
 
 loop-again : tie.Need-loop-c-preserved invariant-loop decreases-loop
 loop-again c =
-    let one = c.before.before in
-    let l = one.loop-c in
-    let m = one.loop-c-test.true in
-    let there : l.c < length one.args.t1 = omega (arith, m) in (
+    let l = c.loop-c in
+    let m = c.loop-c-test.true in
+    let there : l.c < length c.args.tallies = omega (arith, m) in (
       omega arith,
       part_more l.invariant.1 _ there m refl,
-      part_more l.invariant.2 _ there m (to_z-of_z (record { sfits = c.struct_told-1.given.1.0.1 })),
-      part_more l.invariant.3 _ there m (to_z-of_z (record { sfits = c.struct_told-in-loop-c-1.given.1.1.0.1 })),
+      part_more l.invariant.2 _ there m (to_z-of_z {w = w64} (record { sfits = c.struct_told-1.given.1.0.1 })),
+      part_more l.invariant.3 _ there m (to_z-of_z {w = w64} (record { sfits = c.struct_told-in-loop-c-1.given.1.1.0.1 })),
       part_more l.invariant.4 _ there m refl,
     )
 
