@@ -1,9 +1,13 @@
 -- Demand 3 speaks of these functions: what `ensures` says of a call is, word for word, the promise that the join theorem (crate joins) goes by.
 use mathlib.Core.Path.{◌≡◌, refl}
 use mathlib.Core.List.{List, map}
+use seplogic.Ra.Ura.{Ura}
+use base.Logic.{SProp}
+use prog.Memory.{Memory}
+use prog.Routine.{Routine}
 use types.Logic.{Logic}
 use contract.Lifetimes.{Lfts}
-use contract.Monad.{fact}
+use contract.Monad.{fact, Fun}
 use borrow.Fn.Kinds.{Dens, res_t, ended_of}
 use denote.Triple.Entry.{Args, Res}
 use denote.Triple.Clauses.{AtExit}
@@ -15,7 +19,6 @@ use Rattle.reference.specs.declared.Converter.{Converter}
 use Rattle.joins.specs.Joins.{Call, convert, convert_run, AcceptedConverter, AcceptedRun, JoinTo, GiveWholeRun}
 use Rattle.joins.proofs.Joins.{cut_runs_join}
 use Rattle.scarletbook_pcm.specs.Calls.{run_of}
-use Rattle.scarletbook_pcm.proofs.Thin.{Ura, Memory, Routine, SProp, Fun}
 use Rattle.scarletbook_pcm.proofs.convert_parts.Kinds as bytes-kinds
 use Rattle.scarletbook_pcm.proofs.convert_parts.Reads as bytes
 use Rattle.scarletbook_pcm.proofs.convert_desk_parts.Kinds as desk-kinds

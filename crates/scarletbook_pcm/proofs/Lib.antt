@@ -1,4 +1,3 @@
 pub mod Same
 pub mod Answers
-pub mod Thin
 pub mod Joins

@@ -19,7 +19,7 @@ places s = convert_places s.args.whose s.args.conv (run_of s) s.args.out.now s.a
 bytes_and_counts_requires : tie.Need-bytes_and_counts-stats-requires
 bytes_and_counts_requires c κs =
     let at-byte-call = c.before.before.before.before.before in
-    let past-at-byte-call = at-byte-call.before.before.before.before.before in
+    let past-at-byte-call = at-byte-call.before.before.before.before.before.before in
     let s = past-at-byte-call in
     let h = bytes_accepted s.args.whose s.args.conv (run_of s) s.args.out.now s.args.lent s.args.counts.now (passed (places s) at-byte-call.byte_call-verdict.ensures c.accepted.ensures c.if-accepted.true) in
     (h.0, (h.1, h.2 c.if-lent.true))
@@ -31,7 +31,7 @@ returns c =
     let at-if1 = at-if2.before in
     let at-accepted = at-if1.before in
     let at-byte-call = at-accepted.before in
-    let past-at-byte-call = at-byte-call.before.before.before.before.before in
+    let past-at-byte-call = at-byte-call.before.before.before.before.before.before in
     let s = past-at-byte-call in
     let g = at-bytes-and-counts.bytes_and_counts-stats in
     convert_promise s.args.whose s.args.conv (run_of s) s.args.lent s.args.out.now s.args.counts.now at-byte-call.byte_call-verdict.result at-byte-call.byte_call-verdict.ensures
@@ -41,7 +41,7 @@ returns c =
 bytes_requires : tie.Need-bytes-stats-requires
 bytes_requires c κs =
     let at-byte-call = c.before.before.before.before in
-    let past-at-byte-call = at-byte-call.before.before.before.before.before in
+    let past-at-byte-call = at-byte-call.before.before.before.before.before.before in
     let s = past-at-byte-call in
     let h = bytes_accepted s.args.whose s.args.conv (run_of s) s.args.out.now s.args.lent s.args.counts.now (passed (places s) at-byte-call.byte_call-verdict.ensures c.accepted.ensures c.if-accepted.true) in
     (h.0, h.1)
@@ -51,7 +51,7 @@ returns-2 c =
     let at-if1 = c.before.before.before.before.before in
     let at-accepted = at-if1.before in
     let at-byte-call = at-accepted.before in
-    let past-at-byte-call = at-byte-call.before.before.before.before.before in
+    let past-at-byte-call = at-byte-call.before.before.before.before.before.before in
     let s = past-at-byte-call in
     let g = c.bytes-stats in
     convert_promise s.args.whose s.args.conv (run_of s) s.args.lent s.args.out.now s.args.counts.now at-byte-call.byte_call-verdict.result at-byte-call.byte_call-verdict.ensures
@@ -61,7 +61,7 @@ returns-2 c =
 returns-3 : tie.Need-returns
 returns-3 c =
     let at-byte-call = c.before.before.before in
-    let past-at-byte-call = at-byte-call.before.before.before.before.before in
+    let past-at-byte-call = at-byte-call.before.before.before.before.before.before in
     let s = past-at-byte-call in
     convert_refused s.args.whose s.args.conv (run_of s) s.args.lent s.args.out.now s.args.counts.now at-byte-call.byte_call-verdict.result at-byte-call.byte_call-verdict.ensures
     (turned_down (places s) at-byte-call.byte_call-verdict.ensures c.accepted.ensures c.if-accepted.false) c.no_stats-stats.result c.no_stats-stats.ensures

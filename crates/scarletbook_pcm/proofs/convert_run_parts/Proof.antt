@@ -17,14 +17,14 @@ places s = convert_run_places s.args.conv (run_of s) s.args.out.now
 items_requires : tie.Need-items-stats-requires
 items_requires c κs =
     let at-run-call = c.before.before.before in
-    let s = at-run-call.before.before.before.before.before in
+    let s = at-run-call.before.before.before.before in
     let h = run_accepted s.args.conv (run_of s) s.args.out.now (passed (places s) at-run-call.run_call-verdict.ensures c.accepted.ensures c.if-accepted.true) in
     (h.0, h.1)
 
 returns : tie.Need-returns-then-accepted
 returns c =
     let at-run-call = c.before.before.before.before.before in
-    let s = at-run-call.before.before.before.before.before in
+    let s = at-run-call.before.before.before.before in
     let g = c.items-stats in
     samples_promise (places s) s.args.conv (run_of s) at-run-call.run_call-verdict.result at-run-call.run_call-verdict.ensures (passed (places s) at-run-call.run_call-verdict.ensures c.accepted.ensures c.if-accepted.true)
     g.result g.ensures.1 s.args.out.now _ g.ensures.0
@@ -32,7 +32,7 @@ returns c =
 returns-2 : tie.Need-returns
 returns-2 c =
     let at-run-call = c.before.before.before in
-    let s = at-run-call.before.before.before.before.before in
+    let s = at-run-call.before.before.before.before in
     samples_refused (places s) s.args.conv (run_of s) at-run-call.run_call-verdict.result at-run-call.run_call-verdict.ensures (turned_down (places s) at-run-call.run_call-verdict.ensures c.accepted.ensures c.if-accepted.false)
     c.no_stats-stats.result c.no_stats-stats.ensures s.args.out.now
 
