@@ -9,7 +9,7 @@ use lib.ListN.{length}
 use Rattle.numbers.proofs.Lists.{below_or}
 use Rattle.level_lines.specs.Text.{decimal}
 use Rattle.level_lines.proofs.Numerals.{one_digit, last_digit, some_digit, single, split}
-use Rattle.turns_lines.specs.Steps.{capped, Number, NumberRead}
+use Rattle.turns_lines.specs.Steps.{capped, NumberRead}
 
 -- ---- a number as it is read
 

@@ -1,5 +1,6 @@
 // What the program `turns` reads and what it prints.
 #![tactic(auto)]
+
 ghost use Rattle.std.specs.Prelude.{◌≡◌, ◌≤◌, length, take, drop};
 ghost use Rattle.level_lines.specs.Text.{text, Printed};
 ghost use Rattle.turns_lines.specs.Lines.{Answer};

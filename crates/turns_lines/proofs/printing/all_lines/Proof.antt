@@ -1,7 +1,7 @@
 -- `all_lines` meets its contract.
 use mathlib.Core.Path.{◌≡◌, ◌∙◌}
 use mathlib.Core.List.{List}
-use Prim.Native.Nat.{ℕ, ◌+◌, ◌*◌, ◌-◌, ◌≤◌}
+use Prim.Native.Nat.{ℕ, ◌*◌, ◌-◌, ◌≤◌}
 use native.Mathlib.Omega.{arith}
 use lib.IntN.{ℤ, pos}
 use lib.ListN.{length, get_or}
@@ -46,7 +46,7 @@ loop-again c =
     let fits : SFits w32 (get_or s.args.late.now l.a (pos 0)) = record { sfits = p.album_line-arg-in-loop-a-1.given } in (
       omega arith,
       omega (arith, l.invariant.1, p.album_line-at.ensures.1),
-      p.album_line-at.auto.0 ∙ l.invariant.2,
+      p.album_line-at.auto.out ∙ l.invariant.2,
       one_more (each s.args.finishes.now s.args.late.now) l.a l.invariant.3 (rw (to_z-of_z fits) at p.album_line-at.ensures.0),
     )
 
