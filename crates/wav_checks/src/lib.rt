@@ -1,5 +1,6 @@
 // Where a WAV file from a run is turned down: `convert`'s places, with a header in the output, then 12.
 #![tactic(auto)]
+
 ghost use Rattle.std.specs.Prelude.{◌≡◌, [], ◌∷◌};
 ghost use Rattle.reference.specs.Frames.{run};
 ghost use Rattle.reference.specs.Refusals.{decision, decide};

@@ -5,21 +5,21 @@ use mathlib.Core.List.{List, []}
 use mathlib.Core.Bool.{true}
 use Prim.Native.Nat.{ℕ, ◌+◌}
 use lib.ListN.{length, drop}
-use Rattle.reference.specs.Refusals.{accepted, refused, error_decision, decide, is_accepted}
+use Rattle.reference.specs.Refusals.{accepted, refused, decide, is_accepted}
 use Rattle.reference.specs.declared.PcmRate.{PcmRate}
 use Rattle.reference.specs.declared.PcmError.{PcmError}
 use Rattle.reference.specs.declared.Verdict.{Verdict}
 use Rattle.reference.specs.declared.Verdict.TheVariants as verdict
 use Rattle.reference.proofs.Refusals.{error_refuses}
 use Rattle.reference.proofs.Promises.{exit_accepted, decision_exact}
-use Rattle.wav_format.specs.Wav.{wav_file, Right, Taken, right_data, is_file}
+use Rattle.wav_format.specs.Wav.{wav_file, Right, Taken, right_data}
 use Rattle.wav_format.specs.Places.{read_places, write_places}
 use Rattle.wav_format.specs.Promises.{ReadPromise, file_samples, WritePromise}
 use Rattle.wav_format.specs.declared.WavFormat.{WavFormat}
 use Rattle.wav_format.specs.declared.WavRead.{WavRead}
 use Rattle.wav_format.specs.declared.WavRead.TheVariants as answer
 use Rattle.byte_lists.proofs.Same.{no_true}
-use Rattle.wav_format.proofs.Reading.{right_of, right_is, takes_taken, taken_takes, of_file, takes_of, data_is, length_file, read_accepts, accepts_read, read_refuses, tells}
+use Rattle.wav_format.proofs.Reading.{right_of, right_is, takes_taken, taken_takes, of_file, data_is, length_file, read_accepts, accepts_read, read_refuses, tells}
 use Rattle.wav_format.proofs.Writing.{samples_there, accepted_right, writes}
 
 abbrev pub format : PcmRate → ℕ → WavFormat

@@ -1,5 +1,6 @@
 // WAV files: read, and made from sample bytes. Neither call asks anything.
 #![tactic(auto)]
+
 ghost use Rattle.std.specs.Prelude.{◌≡◌, ◌++◌, ◌+◌, ◌*◌, ◌-◌, ◌≤◌, ◌<◌, length, take, drop};
 ghost use Rattle.byte_lists.specs.Lists.{same};
 ghost use Rattle.interface.specs.Codes as codes;

@@ -1,6 +1,5 @@
 -- `call` meets its contract.
 use mathlib.Core.Path.{◌≡◌, sym, ◌∙◌}
-use borrow.Author.Tests.{not-true, not-false}
 use borrow.Author.Rules.{rules}
 use Rattle.reference.specs.Frames.{Run, run}
 use Rattle.reference.specs.Refusals.{rack, accepted, decide, held_places, input_places}
@@ -31,14 +30,14 @@ abbrev fitting : tie.Else-n-expected → tie.Else-not-accepted-2
 fitting c = c.before.before
 
 opens : (c : tie.Else-not-accepted) → decide (held_places (from_opened c).args.conv) ≡ accepted
-opens c = passed (held_places (from_opened c).args.conv) c.held-v.ensures c.accepted.ensures (not-false _ c.if-not-accepted.false)
+opens c = passed (held_places (from_opened c).args.conv) c.held-v.ensures c.accepted.ensures c.if-not-accepted.false
 
 fits : (c : tie.Else-not-accepted-2) → decide (input_places rack (from_fitting c).args.conv (run_of (from_fitting c))) ≡ accepted
-fits c = passed (input_places rack (from_fitting c).args.conv (run_of (from_fitting c))) c.input-w.ensures c.accepted-2.ensures (not-false _ c.if-not-accepted-2.false)
+fits c = passed (input_places rack (from_fitting c).args.conv (run_of (from_fitting c))) c.input-w.ensures c.accepted-2.ensures c.if-not-accepted-2.false
 
 returns : tie.Need-returns-then-not-accepted
 unfolding wav_places
-returns c = stands (held_places (start c.before.before).args.conv) c.held-v.ensures c.accepted.ensures _ (not-true _ c.if-not-accepted.true)
+returns c = stands (held_places (start c.before.before).args.conv) c.held-v.ensures c.accepted.ensures _ c.if-not-accepted.true
 
 input_requires : tie.Need-input-w-requires
 input_requires c κs = opens c
@@ -48,7 +47,7 @@ unfolding wav_places
 returns-2 c =
     let e = c.before.before.before in
     let s = from_opened e in
-    stands (input_places rack s.args.conv (run_of s)) c.input-w.ensures c.accepted-2.ensures _ (not-true _ c.if-not-accepted-2.true)
+    stands (input_places rack s.args.conv (run_of s)) c.input-w.ensures c.accepted-2.ensures _ c.if-not-accepted-2.true
     ∙ sym (decide_skip (held_places s.args.conv) _ (opens e))
 
 all_samples_requires : tie.Need-all_samples-data-requires

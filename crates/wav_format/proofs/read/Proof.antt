@@ -24,24 +24,24 @@ returns c = too_short c.args.file.now c.if-file-lt44.true
 has_header_requires : tie.Need-has_header-requires
 has_header_requires c κs =
     let d = told c.before in
-    let r = right_is d.before.before.rate_of.result d.channels_of.result (length (file d) - 44) (sym c.right_data.ensures ∙ c.if-right_data.true) in
-    ((long d).if-file-lt44.left, d.channels_of.ensures.1, r.told)
+    let r = right_is d.before.before.rate_of-rate.result d.channels_of-channels.result (length (file d) - 44) (sym c.right_data.ensures ∙ c.if-right_data.true) in
+    ((long d).if-file-lt44.false, d.channels_of-channels.ensures.1, r.told)
 
 returns-2 : tie.Need-returns-then-has_header
 returns-2 c =
     let t = c.before.before in
     let d = told t.before in
-    is_told (file d) d.before.before.rate_of.result d.channels_of.result d.before.before.rate_of.ensures d.channels_of.ensures.0 c.has_header.ensures t.right_data.ensures t.if-right_data.true c.if-has_header.true
+    is_told (file d) d.before.before.rate_of-rate.result d.channels_of-channels.result d.before.before.rate_of-rate.ensures d.channels_of-channels.ensures.0 c.has_header.ensures t.right_data.ensures t.if-right_data.true c.if-has_header.true
 
 returns-3 : tie.Need-returns-else-has_header
 returns-3 c =
     let d = told c.before.before.before in
-    not_begun (file d) d.before.before.rate_of.result d.channels_of.result d.before.before.rate_of.ensures d.channels_of.ensures.0 c.has_header.ensures c.if-has_header.false
+    not_begun (file d) d.before.before.rate_of-rate.result d.channels_of-channels.result d.before.before.rate_of-rate.ensures d.channels_of-channels.ensures.0 c.has_header.ensures c.if-has_header.false
 
 returns-4 : tie.Need-returns-else-right_data
 returns-4 c =
     let d = told c.before in
-    not_right (file d) d.before.before.rate_of.result d.channels_of.result d.before.before.rate_of.ensures d.channels_of.ensures.0 c.right_data.ensures c.if-right_data.false
+    not_right (file d) d.before.before.rate_of-rate.result d.channels_of-channels.result d.before.before.rate_of-rate.ensures d.channels_of-channels.ensures.0 c.right_data.ensures c.if-right_data.false
 
 pub read_spec : {M : Type 1} → statement M
 read_spec =

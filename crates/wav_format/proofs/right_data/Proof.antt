@@ -2,7 +2,7 @@
 use mathlib.Core.Path.{refl}
 use borrow.Author.Tests.{lt-leb, le-leb, eq-eqb, ne_eqb}
 use borrow.Author.Rules.{rules}
-use Rattle.wav_format.specs.Wav.{frame_size, right_data}
+use Rattle.wav_format.specs.Wav.{right_data}
 use Rattle.wav_format.proofs.right_data.Statement.{statement}
 use Rattle.wav_format.proofs.right_data.Tie as tie
 

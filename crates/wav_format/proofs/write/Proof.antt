@@ -45,7 +45,7 @@ returns-2 c =
     let e = fits (put c) in
     let a = (start e.before.before).args in
     let h = header (hertz a.rate) a.channels (length a.bytes.now) in
-    writes a.rate a.channels a.bytes.now a.out.now (right e.before) _ e.if2.left
+    writes a.rate a.channels a.bytes.now a.out.now (right e.before) _ e.if-length-expected.false
     (whole h _ a.out.now _ (length_header (hertz a.rate) a.channels (length a.bytes.now)) (put c).put_header.ensures ∙ ap (λ (l : List ℕ). h ++ l) c.copy.ensures)
 
 returns-3 : tie.Need-returns

@@ -1,6 +1,5 @@
 -- `put_header` meets its contract.
-use mathlib.Core.Path.{◌≡◌, ◌∙◌}
-use Rattle.wav_format.proofs.ThreeParts.{hertz_small, three_parts, three_put}
+use Rattle.wav_format.proofs.ThreeParts.{hertz_small, three_put}
 use borrow.Author.Rules.{rules}
 use Rattle.wav_format.proofs.header.put_header.Statement.{statement}
 use Rattle.wav_format.proofs.header.put_header.Tie as tie
@@ -26,7 +25,7 @@ returns c =
     let p = second c in
     let m = made (first p) in
     let a = (start m.before.before).args in
-    three_put a.rate a.channels a.n a.out.now m.before.before.before.riff.ensures m.before.before.hertz.ensures m.before.format.ensures m.data_head.ensures (first p).copy.ensures p.copy2.ensures c.copy-3.ensures
+    three_put a.rate a.channels a.n a.out.now m.before.before.before.riff-first.ensures m.before.before.hertz.ensures m.before.format-second.ensures m.data_head-third.ensures (first p).copy.ensures p.copy-2.ensures c.copy-3.ensures
 
 pub put_header_spec : {M : Type 1} → statement M
 put_header_spec =
