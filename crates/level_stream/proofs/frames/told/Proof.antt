@@ -16,7 +16,7 @@ entry c = let held = c.before.before.before.before in held.before.before.before
 returns : tie.Need-returns
 returns c = let s = entry (framed c) in
     let r = (framed c).one_frame-r in
-    let ok = s.pre.1.1 in (
+    let ok = s.requires.1.1 in (
       record {
         left = refl;
         frames = refl;
@@ -25,7 +25,7 @@ returns c = let s = entry (framed c) in
         carried = accepted_states _ _ ok r.ensures.0.carried;
         moved = c.move_on.ensures;
       },
-      (omega (arith, s.pre.1.0.1, r.ensures.1.1), r.ensures.1.0),
+      (omega (arith, s.requires.1.0.1, r.ensures.1.1), r.ensures.1.0),
     )
 
 pub told_spec : {M : Type 1} → statement M
