@@ -62,7 +62,7 @@ piece rate channels samples i =
     no_piece
 
 -- the plan cuts an album of f frames: each piece ends where the next begins, the last with the album; the parts are all pieces in turn. Proved in
--- proofs/Cutting, `plan-cuts`
+-- proofs/Cutting, `plan_cuts`
 pub record PlanCuts (f : ℕ) : Type 0 where
   pub follows : (i : ℕ) → i + 1 < pieces f → i * 128 + piece_count f (i * 128) ≡ (i + 1) * 128
   pub ends : (i : ℕ) → i + 1 ≡ pieces f → i * 128 + piece_count f (i * 128) ≡ f

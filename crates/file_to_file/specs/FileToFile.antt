@@ -52,7 +52,7 @@ pub record Written {file : List ℕ} {w : Wanted} (steps : List (Step file w)) (
   pub headed : Holds out 0 (header (hertz w.rate) (channels file) (frames file * frame_size w.rate (channels file)))
   pub each : Each (λ s. Holds out (place_of w.rate (channels file) s.first) s.out') steps
 
--- proved in proofs/FileToFile, `file-to-file`: the file, and the statistics, are those of the whole album
+-- proved in proofs/FileToFile, `file_to_file`: the file, and the statistics, are those of the whole album
 abbrev pub FileToFile : Type 0
 FileToFile = (file : List ℕ) → Bytes file → (w : Wanted) (steps : List (Step file w)) → decide (album_places file (length file) w) ≡ accepted → Cut 0 (frames file) steps
     → ((out : List ℕ) → Written steps out → out ≡ wav_file w.rate (channels file) (s24le (samples (album_converter w file) (album_run file))))

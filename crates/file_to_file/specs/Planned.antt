@@ -34,12 +34,12 @@ piece_at file w i = piece w.rate (channels file) (dsf.samples file) i
 abbrev pub lent_for : List ℕ → Piece → Lent
 lent_for file p = record { before = frame_length (channels file); frames = p.room; after = frame_length (channels file); out = p.bytes }
 
--- of an accepted album, a step on every piece is accepted. Proved in proofs/Planned, `piece-accepted`
+-- of an accepted album, a step on every piece is accepted. Proved in proofs/Planned, `piece_accepted`
 abbrev pub PieceAccepted : Type 0
 PieceAccepted = (head : List ℕ) (n : ℕ) (w : Wanted) → decide (album_places head n w) ≡ accepted → (i : ℕ) → i < pieces (frames head)
     → decide (step_places head n w (piece_at head w i).first (piece_at head w i).count (piece_at head w i).start (piece_at head w i).window (lent_for head (piece_at head w i))) ≡ accepted
 
--- and its window is in the file, whose data start at byte 92. Proved in proofs/Planned, `piece-in-file`
+-- and its window is in the file, whose data start at byte 92. Proved in proofs/Planned, `piece_in_file`
 abbrev pub PieceInFile : Type 0
 PieceInFile = (head : List ℕ) (n : ℕ) (w : Wanted) → decide (album_places head n w) ≡ accepted → (i : ℕ) → i < pieces (frames head)
     → 92 + ((piece_at head w i).start + (piece_at head w i).window) ≤ n
@@ -51,7 +51,7 @@ abbrev pub OnPieces : {file : List ℕ} {w : Wanted} → ℕ → ℕ → List (S
 OnPieces a b [] = a ≡ b
 OnPieces {file} {w} a b (s ∷ ss) = (s.first ≡ (piece_at file w a).first) × (s.count ≡ (piece_at file w a).count) × OnPieces (a + 1) b ss
 
--- they cut the album. Proved in proofs/Planned, `pieces-cut`
+-- they cut the album. Proved in proofs/Planned, `pieces_cut`
 abbrev pub PiecesCut : Type 0
 PiecesCut = (file : List ℕ) (w : Wanted) (steps : List (Step file w)) → decide (album_places file (length file) w) ≡ accepted → OnPieces 0 (pieces (frames file)) steps → Cut 0 (frames file) steps
 
@@ -89,7 +89,7 @@ abbrev pub Parts : {file : List ℕ} {w : Wanted} → ℕ → ℕ → List (List
 Parts jobs j [] = j ≡ jobs
 Parts {file} jobs j (p ∷ ps) = Calls (part (frames file) jobs j).first (part (frames file) jobs j).end p × Parts jobs (j + 1) ps
 
--- the parts in turn are all pieces in order. Proved in proofs/Planned, `parts-are-all`
+-- the parts in turn are all pieces in order. Proved in proofs/Planned, `parts_are_all`
 abbrev pub PartsAreAll : Type 0
 PartsAreAll = (file : List ℕ) (w : Wanted) (jobs : ℕ) (parts : List (List (PieceCall file w))) → frames file ≤ 540000 → 0 < jobs → jobs ≤ 64 → Parts jobs 0 parts
     → Calls 0 (pieces (frames file)) (flat_map (λ p. p) parts)
@@ -104,7 +104,7 @@ pub record PlanWritten {file : List ℕ} {w : Wanted} (parts : List (List (Piece
 abbrev pub parts_joined : List (List ConvertStats) → ConvertStats
 parts_joined ls = joined_on no_stats (map (joined_on no_stats) ls)
 
--- is joining them all. Proved in proofs/Planned, `joined-by-parts`, `by_parts`
+-- is joining them all. Proved in proofs/Planned, `joined_by_parts`, `by_parts`
 abbrev pub JoinedByParts : Type 0
 JoinedByParts = (ls : List (List ConvertStats)) → parts_joined ls ≡ all_joined (flat_map (λ l. l) ls)
 
@@ -115,14 +115,14 @@ pub record PlanGives {file : List ℕ} {w : Wanted} (parts : List (List (PieceCa
   pub told : parts_joined (map (map (λ c. c.answer.stats)) parts) ≡ stats (album_converter w file) (album_run file)
   pub sheets : sheet (channels file) (parts_joined (map (map (λ c. c.answer.stats)) parts)) ≡ sheet (channels file) (stats (album_converter w file) (album_run file))
 
--- for every accepted album and 1 to 64 jobs. Proved in proofs/Planned, `plan-to-file`
+-- for every accepted album and 1 to 64 jobs. Proved in proofs/Planned, `plan_to_file`
 abbrev pub PlanToFile : Type 0
 PlanToFile = (file : List ℕ) → Bytes file → (w : Wanted) (jobs : ℕ) (parts : List (List (PieceCall file w))) → decide (album_places file (length file) w) ≡ accepted
     → 0 < jobs → jobs ≤ 64 → Parts jobs 0 parts → PlanGives parts
 
 -- ---- any cut
 
--- the sheet of any steps that cut the album is the whole run's. Proved in proofs/Planned, `sheet-to-file`
+-- the sheet of any steps that cut the album is the whole run's. Proved in proofs/Planned, `sheet_to_file`
 abbrev pub SheetToFile : Type 0
 SheetToFile = (file : List ℕ) → Bytes file → (w : Wanted) (steps : List (Step file w)) → decide (album_places file (length file) w) ≡ accepted → Cut 0 (frames file) steps → (n : ℕ)
     → sheet n (all_joined (map (λ s. s.answer.stats) steps)) ≡ sheet n (stats (album_converter w file) (album_run file))
