@@ -1,5 +1,5 @@
 -- What `frame_report` tells, once the frame is converted.
-use Rattle.std.proofs.Common.{◌≡◌, ℕ, suc, ◌*◌, ◌/◌, ◌<◌, ◌≤◌, false, List, [], length, get_or, ℤ, sym, refl, ap, ◌∙◌, subst, true≢false, mul-le-mul_right, zero-add, arith, eqb-true}
+use Rattle.std.proofs.Common.{◌≡◌, ℕ, suc, ◌*◌, ◌/◌, ◌<◌, ◌≤◌, false, List, length, get_or, ℤ, sym, refl, ap, ◌∙◌, subst, true≢false, mul-le-mul_right, zero-add, arith, eqb-true}
 use native.Mathlib.Nat.{div_self, mul-div_left}
 use borrow.Author.Tests.{not-false}
 use Rattle.numbers.specs.Lists.{tabulate, total}

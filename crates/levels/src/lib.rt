@@ -1,5 +1,6 @@
 // The figures of the level report: a frame is converted with its neighbours, and the lines of its channels are printed.
 #![tactic(auto)]
+
 ghost use Rattle.std.specs.Prelude.{◌≡◌, ℕ, ◌+◌, ◌*◌, ◌/◌, ◌<◌, ◌≤◌, length, get_or, pos, slice_index, slice_index_or};
 ghost use Rattle.numbers.specs.Extremes as extremes;
 ghost use Rattle.numbers.specs.Lists.{tabulate, total};

@@ -1,5 +1,5 @@
 -- `frame_report` meets its contract.
-use Rattle.std.proofs.Common.{◌≡◌, sym, ap, ◌∙◌, arith, rules}
+use Rattle.std.proofs.Common.{sym, ap, ◌∙◌, arith, rules}
 use Rattle.reference.specs.Refusals.{decision}
 use Rattle.levels.proofs.Reports.{some, few, enough, whole_rows, few_each, reported, unreported}
 use Rattle.levels.proofs.frame_report.Statement.{statement}

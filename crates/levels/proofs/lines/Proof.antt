@@ -1,5 +1,5 @@
 -- `lines` meets its contract.
-use Rattle.std.proofs.Common.{◌≡◌, ℕ, ◌+◌, ◌-◌, ◌*◌, ◌<◌, ◌≤◌, Bool, true, false, cond, eqb, ltb, List, length, get_or, set, replicate, ℤ, sym, refl, ap, ◌∙◌, ⊎_elim, zero-add, arith, length-set, get_or-set_other, get_or-set_same, rules, le-ltb, lt-ltb, eqb-true}
+use Rattle.std.proofs.Common.{◌≡◌, ℕ, ◌+◌, ◌-◌, ◌*◌, ◌<◌, ◌≤◌, Bool, true, false, cond, eqb, ltb, List, length, get_or, set, replicate, ℤ, refl, ap, ◌∙◌, ⊎_elim, zero-add, arith, length-set, get_or-set_other, get_or-set_same, rules, le-ltb, lt-ltb, eqb-true}
 use borrow.Author.Tests.{eqb-false}
 use Rattle.numbers.specs.Lists.{tabulate}
 use Rattle.numbers.proofs.Lists.{get_d_tabulate, length_tabulate, is_tabulate, below_or}
