@@ -1,5 +1,6 @@
 // The tables and the taps of a route, bound once a call and lent to the loops.
 #![tactic(auto)]
+
 ghost use Rattle.std.specs.Prelude.{◌≡◌, ◌*◌, ◌≤◌, length, take};
 ghost use Rattle.reference.specs.Stages.{taps_of};
 ghost use Rattle.reference.specs.Output.{samples_per_frame};

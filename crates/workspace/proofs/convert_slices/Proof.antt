@@ -17,10 +17,10 @@ known c = c.before.before.before
 abbrev entry : tie.After-slice_known-2-1 → tie.Start
 entry c = c.before.before.before.before.before
 
-taps_long : (c : tie.After-last_taps-n) → c.last_taps-n.result ≡ length (take c.last_taps-n.result c.last_taps-n.new.1.1.1.0)
+taps_long : (c : tie.After-last_taps-n) → c.last_taps-n.result ≡ length (take c.last_taps-n.result c.last_taps-n.new.h)
 taps_long c =
     let g = c.last_taps-n in
-    sym (length-take-le g.result g.new.1.1.1.0 (omega (arith, g.ensures.0, g.auto.1.1.1.0)))
+    sym (length-take-le g.result g.new.h (omega (arith, g.ensures.0, g.auto.h)))
 
 -- ---- Standard and Low
 
@@ -30,28 +30,23 @@ slice_aggregate_every_2 c = taps_long c.before.before.before.before.before
 every_requires : tie.Need-every-requires
 unfolding FirstTables
 every_requires c κs =
-    let f = c.before.before.before.before.before in
-    let m = f.before in
-    let g = m.before.before in
+    let g = c.before.before.before.before.before.before.before.before in
     let s = entry (known g) in
-    let first = f.s1_tables-tables.ensures in
-    (made_ready s.pre.0 (in_narrow s.args.conv.cutoff m.in-Standard.keys1 (λ e. rw e first) (λ e. rw e first)) g.last_taps-n.ensures.1, s.pre.1)
+    let first = c.s1_tables-tables.ensures in
+    (made_ready s.requires.0 (in_narrow s.args.conv.cutoff c.in-Standard.in-Standard-own.keys1 (λ e. rw e first) (λ e. rw e first)) g.last_taps-n.ensures.1, s.requires.1)
 
 -- ---- Wide
 
 slice_aggregate_every_4 : tie.Need-slice_bounds-every-end-in-Wide-2
 slice_aggregate_every_4 c =
-    let w = c.before.before.before in
-    taps_long w.before.before
+    taps_long c.before.before.before.before.before
 
 every_requires_2 : tie.Need-every-requires-in-Wide
 unfolding FirstTables
 every_requires_2 c κs =
-    let f = c.before.before.before.before.before in
-    let w = f.before in
-    let g = w.before.before in
+    let g = c.before.before.before.before.before.before.before.before in
     let s = entry (known g) in
-    (made_ready s.pre.0 (rw w.in-Wide.is f.s1_wide_tables-tables.ensures) g.last_taps-n.ensures.1, s.pre.1)
+    (made_ready s.requires.0 (rw c.in-Wide.is c.s1_wide_tables-tables.ensures) g.last_taps-n.ensures.1, s.requires.1)
 
 pub convert_slices_spec : {M : Type 1} → statement M
 convert_slices_spec =

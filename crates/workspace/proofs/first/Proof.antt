@@ -10,8 +10,8 @@ use Rattle.workspace.proofs.first.Tie as tie
 inside : tie.Need-slice_bounds-taps-end
 inside c = search rules
 
-taps_long : (c : tie.Start) → length (take c.args.n c.args.t3) ≡ c.args.n
-taps_long c = length-take-le c.args.n c.args.t3 (inside c)
+taps_long : (c : tie.Start) → length (take c.args.n c.args.taps) ≡ c.args.n
+taps_long c = length-take-le c.args.n c.args.taps (inside c)
 
 lent_requires : tie.Need-lent-requires
 lent_requires c κs =

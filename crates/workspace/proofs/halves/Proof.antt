@@ -12,15 +12,11 @@ use Rattle.workspace.proofs.halves.Tie as tie
 
 returns : tie.Need-returns
 returns c =
-    let odd = c.before in
-    let h = odd.before.before in
-    let even = h.before in
-    let s = even.before.before in
-    let f = s.args.f.now in
+    let f = c.args.f.now in
     let e = (length f + 1) / 2 in
-    let g = even.every_second in
-    let whole = same_len_mid 0 (e - 0) s.args.h.now g.new.1.1.0 g.auto.1.1.0 in
-    (refl, halves_bound f _ g.ensures (part_length 0 e s.args.h.now (omega arith) ∙ omega arith) odd.every_second-2.ensures (part_length e (length f) (put_mid 0 (e - 0) s.args.h.now g.new.1.1.0) (omega (arith, whole)) ∙ omega arith))
+    let g = c.every_second in
+    let whole = same_len_mid 0 (e - 0) c.args.h.now g.new.out g.auto.out in
+    (refl, halves_bound f _ g.ensures (part_length 0 e c.args.h.now (omega arith) ∙ omega arith) c.every_second-2.ensures (part_length e (length f) (put_mid 0 (e - 0) c.args.h.now g.new.out) (omega (arith, whole)) ∙ omega arith))
 
 pub halves_spec : {M : Type 1} → statement M
 halves_spec =

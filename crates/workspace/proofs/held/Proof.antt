@@ -11,9 +11,8 @@ returns : tie.Need-returns
 unfolding taps_of
 returns c =
     let g = c.first in
-    let s = c.before.before.before.before in
-    let f = s.args.filter in
-    (g.ensures.0, g.ensures.1 ∙ ap (lent_taps s.args.rate s.args.cutoff) (sym (take-take f.count 117 f.taps s.requires.0)))
+    let f = c.args.filter in
+    (g.ensures.0, g.ensures.1 ∙ ap (lent_taps c.args.rate c.args.cutoff) (sym (take-take f.count 117 f.taps c.requires.0)))
 
 pub held_spec : {M : Type 1} → statement M
 held_spec = tie.close (tie.spec (λ c κs. search rules) (λ c. search rules) returns)

@@ -1,6 +1,6 @@
 -- `last_taps` meets its contract: each case binds the definition's taps.
 use mathlib.Core.Path.{◌≡◌, refl, ◌∙◌, ap}
-use Prim.Native.Nat.{ℕ, ◌≤◌}
+use Prim.Native.Nat.{◌≤◌}
 use native.Mathlib.Omega.{arith}
 use borrow.Author.Rules.{rules}
 use lib.Dec.{lit≤}
@@ -23,21 +23,16 @@ is_F40 e = ap taps_of e ∙ built_in_taps
 returns : tie.Need-returns-in-Standard
 unfolding last_taps
 returns c =
-    let g = c.before in
-    let t = g.before.before in
-    let a = t.args in
-    let is : taps_of a.filter ≡ last_taps a.rate a.cutoff (taps_of a.filter) = rw t.in-Standard.is refl in
-    (g.held.ensures.0, g.held.ensures.1 ∙ ap (lent_taps a.rate a.cutoff) is)
+    let a = c.args in
+    let is : taps_of a.filter ≡ last_taps a.rate a.cutoff (taps_of a.filter) = rw c.in-Standard.is refl in
+    (c.held.ensures.0, c.held.ensures.1 ∙ ap (lent_taps a.rate a.cutoff) is)
 
 returns-2 : tie.Need-returns-in-Low
 unfolding last_taps
 returns-2 c =
-    let g = c.before in
-    let f = g.before.before.before in
-    let t = f.before in
-    let a = t.args in
-    let is : F30 ≡ last_taps a.rate a.cutoff (taps_of a.filter) = rw t.in-Low.is refl in
-    (omega (arith, g.lent.ensures.0), g.lent.ensures.1 ∙ ap (lent_taps a.rate a.cutoff) (f.f30.ensures ∙ is))
+    let a = c.args in
+    let is : F30 ≡ last_taps a.rate a.cutoff (taps_of a.filter) = rw c.in-Low.is refl in
+    (omega (arith, c.lent.ensures.0), c.lent.ensures.1 ∙ ap (lent_taps a.rate a.cutoff) (c.f30.ensures ∙ is))
 
 held_requires_2 : tie.Need-held-requires-in-Hz88200
 held_requires_2 c κs = (few_built_in _ c.built_in.ensures, search rules)
@@ -45,24 +40,16 @@ held_requires_2 c κs = (few_built_in _ c.built_in.ensures, search rules)
 returns-3 : tie.Need-returns-in-Hz88200
 unfolding last_taps
 returns-3 c =
-    let g = c.before in
-    let f = g.before.before in
-    let t = f.before in
-    let w = t.before in
-    let a = w.args in
-    let is : F40 ≡ last_taps a.rate a.cutoff (taps_of a.filter) = rw (w.in-Wide.is, t.in-Hz88200.is) refl in
-    (g.held-in-Hz88200.ensures.0, g.held-in-Hz88200.ensures.1 ∙ ap (lent_taps a.rate a.cutoff) (is_F40 f.built_in.ensures ∙ is))
+    let a = c.args in
+    let is : F40 ≡ last_taps a.rate a.cutoff (taps_of a.filter) = rw (c.in-Wide.is, c.in-Hz88200.is) refl in
+    (c.held-in-Hz88200.ensures.0, c.held-in-Hz88200.ensures.1 ∙ ap (lent_taps a.rate a.cutoff) (is_F40 c.built_in.ensures ∙ is))
 
 returns-4 : tie.Need-returns-in-Hz176400
 unfolding last_taps
 returns-4 c =
-    let g = c.before in
-    let f = g.before.before.before in
-    let t = f.before in
-    let w = t.before in
-    let a = w.args in
-    let is : F80 ≡ last_taps a.rate a.cutoff (taps_of a.filter) = rw (w.in-Wide.is, t.in-Hz176400.is) refl in
-    (omega (arith, g.lent-in-Hz176400.ensures.0), g.lent-in-Hz176400.ensures.1 ∙ ap (lent_taps a.rate a.cutoff) (f.f80.ensures ∙ is))
+    let a = c.args in
+    let is : F80 ≡ last_taps a.rate a.cutoff (taps_of a.filter) = rw (c.in-Wide.is, c.in-Hz176400.is) refl in
+    (omega (arith, c.lent-in-Hz176400.ensures.0), c.lent-in-Hz176400.ensures.1 ∙ ap (lent_taps a.rate a.cutoff) (c.f80.ensures ∙ is))
 
 held_requires_3 : tie.Need-held-requires-in-Hz352800
 held_requires_3 c κs = (few_built_in _ c.built_in-in-Hz352800.ensures, search rules)
@@ -70,13 +57,9 @@ held_requires_3 c κs = (few_built_in _ c.built_in-in-Hz352800.ensures, search r
 returns-5 : tie.Need-returns-in-Hz352800
 unfolding last_taps
 returns-5 c =
-    let g = c.before in
-    let f = g.before.before in
-    let t = f.before in
-    let w = t.before in
-    let a = w.args in
-    let is : F40 ≡ last_taps a.rate a.cutoff (taps_of a.filter) = rw (w.in-Wide.is, t.in-Hz352800.is) refl in
-    (g.held-in-Hz352800.ensures.0, g.held-in-Hz352800.ensures.1 ∙ ap (lent_taps a.rate a.cutoff) (is_F40 f.built_in-in-Hz352800.ensures ∙ is))
+    let a = c.args in
+    let is : F40 ≡ last_taps a.rate a.cutoff (taps_of a.filter) = rw (c.in-Wide.is, c.in-Hz352800.is) refl in
+    (c.held-in-Hz352800.ensures.0, c.held-in-Hz352800.ensures.1 ∙ ap (lent_taps a.rate a.cutoff) (is_F40 c.built_in-in-Hz352800.ensures ∙ is))
 
 pub last_taps_spec : {M : Type 1} → statement M
 last_taps_spec =

@@ -8,29 +8,22 @@ use Rattle.workspace.proofs.lent.Tie as tie
 returns : tie.Need-returns-in-Hz88200
 unfolding lent_taps
 returns c =
-    let g = c.before in
-    (g.halves.ensures.0, rw g.in-Hz88200.is g.halves.ensures.1)
+    (c.halves.ensures.0, rw c.in-Hz88200.is c.halves.ensures.1)
 
 returns-2 : tie.Need-returns-in-Standard
 unfolding lent_taps
 returns-2 c =
-    let g = c.before in
-    let m = g.before.before in
-    let t = m.before in
-    (g.plain.ensures.0, rw t.in-Hz176400.is (in_narrow t.args.cutoff m.in-Standard.keys1 (λ e. rw e g.plain.ensures.1) (λ e. rw e g.plain.ensures.1)))
+    (c.plain.ensures.0, rw c.in-Hz176400.is (in_narrow c.args.cutoff c.in-Standard.in-Standard-own.keys1 (λ e. rw e c.plain.ensures.1) (λ e. rw e c.plain.ensures.1)))
 
 returns-3 : tie.Need-returns-in-Wide
 unfolding lent_taps
 returns-3 c =
-    let g = c.before in
-    let w = g.before.before in
-    (g.halves-in-Wide.ensures.0, rw (w.in-Hz176400.is, w.in-Wide.is) g.halves-in-Wide.ensures.1)
+    (c.halves-in-Wide.ensures.0, rw (c.in-Hz176400.is, c.in-Wide.is) c.halves-in-Wide.ensures.1)
 
 returns-4 : tie.Need-returns-in-Hz352800
 unfolding lent_taps
 returns-4 c =
-    let g = c.before in
-    (g.plain-in-Hz352800.ensures.0, rw g.in-Hz352800.is g.plain-in-Hz352800.ensures.1)
+    (c.plain-in-Hz352800.ensures.0, rw c.in-Hz352800.is c.plain-in-Hz352800.ensures.1)
 
 pub lent_spec : {M : Type 1} → statement M
 lent_spec =

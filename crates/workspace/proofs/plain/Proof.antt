@@ -10,7 +10,7 @@ use Rattle.workspace.proofs.plain.Tie as tie
 returns : tie.Need-returns
 returns c =
     let g = c.widen_taps in
-    (refl, take_at g.new.1.0 _ (length c.args.f.now) (omega (arith, ap length g.ensures)) ∙ g.ensures)
+    (refl, take_at g.new.out _ (length c.args.f.now) (omega (arith, ap length g.ensures)) ∙ g.ensures)
 
 pub plain_spec : {M : Type 1} → statement M
 plain_spec = tie.close (tie.spec (λ c. search rules) (λ c. search rules) (λ c. search rules) (λ c κs. search rules) (λ c. search rules) returns)
