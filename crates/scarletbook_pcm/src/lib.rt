@@ -1,5 +1,6 @@
 // The converter's calls. None asks anything: a call that document 01's table turns down is refused, and all lent memory keeps its contents.
 #![tactic(auto)]
+
 ghost use Rattle.std.specs.Prelude.{◌≡◌};
 ghost use Rattle.reference.specs.Frames.{run};
 ghost use Rattle.reference.specs.Output as output;

@@ -1,15 +1,18 @@
 -- What `ensures` says of a call of `convert_parts`, and of `convert` over the run record, is, word for word, the promise that the join theorem of files goes by.
 use mathlib.Core.Path.{◌≡◌, refl}
+use seplogic.Ra.Ura.{Ura}
+use base.Logic.{SProp}
+use prog.Memory.{Memory}
+use prog.Routine.{Routine}
 use types.Logic.{Logic}
 use contract.Lifetimes.{Lfts}
-use contract.Monad.{fact}
+use contract.Monad.{fact, Fun}
 use borrow.Fn.Kinds.{Dens, res_t, ended_of}
 use denote.Triple.Entry.{Args, Res}
 use denote.Triple.Clauses.{AtExit}
 use denote.Triple.Spec.{exits}
 use Rattle.reference.specs.Frames.{run}
 use Rattle.scarletbook_pcm.specs.Calls.{run_of}
-use Rattle.scarletbook_pcm.proofs.Thin.{Ura, Memory, Routine, SProp, Fun}
 use Rattle.wav.specs.Promises.{WavPromise}
 use Rattle.wav.specs.Joined.{WavCall}
 use Rattle.wav.proofs.convert_parts.Kinds as kinds

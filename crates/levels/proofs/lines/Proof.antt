@@ -54,7 +54,7 @@ decreases-loop stats samples ch number out₀ states next₀ at₀ c₀ out next
 loop-holds : tie.Need-loop-c-init invariant-loop decreases-loop
 unfolding tabulate joined
 loop-holds c = let a = c.args in
-    (omega arith, omega arith, refl, rw c.none-none.ensures (states_none a.samples.now a.ch a.t5), none_printed a.out.now)
+    (omega arith, omega arith, refl, rw c.none-none.ensures (states_none a.samples.now a.ch a.states), none_printed a.out.now)
 
 loop-again : tie.Need-loop-c-preserved invariant-loop decreases-loop
 loop-again c = let printed = c.before.before in
@@ -65,9 +65,9 @@ loop-again c = let printed = c.before.before in
     let a = at-loop.args in (
       omega arith,
       omega (arith, put.ensures.1),
-      put.auto.0 ∙ l.invariant.2,
-      rw l.invariant.3 (states_more a.samples.now a.ch a.t5 l.c (omega arith) told.level-told.ensures.1),
-      more (λ c. level_line a.number c (level_of a.stats.clipped a.samples.now a.ch c (get_or a.t5 c none))) l.c l.invariant.4 put.ensures.0 (ap (level_line a.number l.c) told.level-told.ensures.0),
+      put.auto.out ∙ l.invariant.2,
+      rw l.invariant.3 (states_more a.samples.now a.ch a.states l.c (omega arith) told.level-told.ensures.1),
+      more (λ c. level_line a.number c (level_of a.stats.clipped a.samples.now a.ch c (get_or a.states c none))) l.c l.invariant.4 put.ensures.0 (ap (level_line a.number l.c) told.level-told.ensures.0),
     )
 
 returns : tie.Need-returns invariant-loop decreases-loop

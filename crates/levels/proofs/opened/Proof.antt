@@ -14,7 +14,7 @@ returns c =
     let made = c.before in
     let known = made.before.before.before in
     let s = known.before.before in
-    rw (made.built_in-filter.ensures, made.db_to_linear-linear.ensures, made.nearest_i64_to_f64-db.ensures, wide_is s.args.s.db known.struct_told-1.given.1.1.1.0.1) at c.«open».ensures
+    rw (made.built_in-filter.ensures, made.db_to_linear-linear.ensures, made.nearest_i64_to_f64-db.ensures, wide_is s.args.s.db known.struct_told-1.given.1.1.1.0.1) at c.open.ensures
 
 pub opened_spec : {M : Type 1} → statement M
 opened_spec =
