@@ -1,5 +1,5 @@
 -- Sizes of an album.
-use Rattle.std.proofs.Common.{◌≡◌, ℕ, ◌+◌, ◌*◌, ◌/◌, ◌<◌, ◌≤◌, mul-le-mul, arith}
+use Rattle.std.proofs.Common.{ℕ, ◌*◌, ◌/◌, ◌≤◌, mul-le-mul, arith}
 use Rattle.dsf.specs.Dsf.{frames_in}
 use Rattle.reference.specs.Output.{samples_per_frame}
 use Rattle.wav_format.specs.Wav.{frame_size}

@@ -1,5 +1,5 @@
 -- Laws of opening an album.
-use Rattle.std.proofs.Common.{◌≡◌, ℕ, ◌*◌, ◌≤◌, Bool, true, false, not, ◌&&◌, leb, ◌≢◌, List, [], ◌∷◌, ◌++◌, length, sym, refl, ap, ◌∙◌, true≢false, ltb-false, eq-eqb, ne_eqb, leb-true}
+use Rattle.std.proofs.Common.{◌≡◌, ℕ, ◌≤◌, Bool, true, false, not, ◌&&◌, leb, ◌≢◌, List, [], ◌∷◌, ◌++◌, length, sym, refl, ap, ◌∙◌, true≢false, ltb-false, eq-eqb, ne_eqb, leb-true}
 use Rattle.reference.specs.Refusals.{decision, decide, accepted, is_accepted, opening_places, lent_length}
 use Rattle.reference.specs.declared.Verdict.{Verdict}
 use Rattle.reference.proofs.Refusals.{decide_first, decide_skip, decide_stop, pass, at_first, at_next, at_end}
@@ -9,7 +9,7 @@ use Rattle.wav_format.specs.Wav.{most_data}
 use Rattle.wav_checks.specs.Places.{too_large}
 use Rattle.interface.specs.Codes.{hertz}
 use Rattle.reference.specs.declared.PcmRate.{PcmRate}
-use Rattle.reference.specs.declared.Verdict.TheVariants.{Accepted, Refused}
+use Rattle.reference.specs.declared.Verdict.TheVariants.{Refused}
 use Rattle.reference.specs.declared.PcmError.TheVariants.{OutputBytes}
 use Rattle.dsf.specs.Dsf.{channels, samples, frames, frames_in}
 use Rattle.dsf.specs.Reading.{OpenedPromise, header_places, file_header}

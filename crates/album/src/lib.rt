@@ -1,5 +1,6 @@
 // A DSF album as a WAV file: whether it can be one, and its numbers. The definitions are in specs/.
 #![tactic(auto)]
+
 ghost use Rattle.std.specs.Prelude.{◌≡◌, ◌*◌, ◌≤◌, [], ◌∷◌, ◌++◌};
 ghost use Rattle.reference.specs.Refusals.{decision, decide, opening_places, too_many, rack};
 ghost use Rattle.wav_format.specs.Wav as wav;

@@ -1,11 +1,10 @@
 -- Numbers that fit the columns by their sizes.
 use mathlib.Core.Path.{◌≡◌, refl}
-use mathlib.Core.Bool.{Bool, true, false, ◌||◌, or-false}
-use Prim.Native.Nat.{ℕ, zero, suc, ◌+◌, ◌*◌, ◌^◌, ◌≤◌, ◌<◌}
+use mathlib.Core.Bool.{Bool, true, false}
+use Prim.Native.Nat.{ℕ, zero, suc, ◌*◌, ◌^◌, ◌≤◌, ◌<◌}
 use native.Mathlib.Nat.{zero-add}
 use native.Mathlib.Omega.{arith}
 use borrow.Author.Tests.{le-ltb}
-use lib.Dec.{ltb}
 use lib.IntN.{ℤ, pos, negsuc, nat_abs}
 use lib.ListN.{length, get_or}
 use Rattle.numbers.specs.Lists.{total}
@@ -13,8 +12,7 @@ use Rattle.reference.specs.declared.ConvertStats.{ConvertStats}
 use Rattle.level_lines.specs.Text.{text, decimal, signed}
 use Rattle.level_lines.proofs.Numerals.{places}
 use Rattle.columns.specs.Columns.{level, too_wide}
-use Rattle.columns.proofs.Widths.{no_level, some_level}
-use Rattle.sheet.specs.Sheet.{channel_line, sum_line, clip_sum, some_below, sheet_too_wide}
+use Rattle.sheet.specs.Sheet.{channel_line, clip_sum, some_below, sheet_too_wide}
 use Rattle.sheet.proofs.Widths.{channel_wide, sum_wide}
 
 signed_fits : (z : ℤ) → nat_abs z < 10 ^ 11 → length (signed z) ≤ 12

@@ -13,7 +13,7 @@ use Rattle.numbers.specs.Lists.{count}
 use Rattle.numbers.proofs.Extremes.{Best, least_best, greatest_best, picked_in}
 use Rattle.numbers.proofs.Lists.{get_d_tabulate, count_few}
 use Rattle.reference.specs.Frames.{Run}
-use Rattle.reference.specs.Output.{samples_per_frame, unclamped, clipped, channel_samples, channel_clips, channel_extreme, stats}
+use Rattle.reference.specs.Output.{unclamped, clipped, channel_samples, channel_clips, channel_extreme, stats}
 use Rattle.reference.specs.Refusals.{Datum, rack, accepted, refused, refusal_number, decide, lent_length}
 use Rattle.reference.specs.Stages.{taps_of, y}
 use Rattle.reference.specs.Scaling.{scaled}

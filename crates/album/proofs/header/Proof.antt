@@ -1,5 +1,5 @@
 -- `header` meets its contract.
-use Rattle.std.proofs.Common.{◌≡◌, [], drop, sym, refl, ap, ◌∙◌, append-nil, arith, drop_of_length-le, rules, eq-eqb, ne_eqb}
+use Rattle.std.proofs.Common.{◌≡◌, [], drop, sym, ◌∙◌, append-nil, arith, drop_of_length-le, rules}
 use Rattle.album.proofs.Openings.{head_refused, head_wrong, head_written, head_fits}
 use Rattle.album.proofs.header.Statement.{statement}
 use Rattle.album.proofs.header.Tie as tie

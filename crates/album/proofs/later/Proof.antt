@@ -1,5 +1,5 @@
 -- `later` meets its contract.
-use Rattle.std.proofs.Common.{◌≡◌, sym, refl, ap, ◌∙◌, arith, rules}
+use Rattle.std.proofs.Common.{sym, ap, ◌∙◌, rules}
 use Rattle.reference.specs.Refusals.{is_accepted, opening_places}
 use Rattle.reference.proofs.Refusals.{decide_skip, decide_stop}
 use Rattle.reference.proofs.Promises.{accepted_is}

@@ -1,5 +1,5 @@
 -- `limits` meets its contract.
-use Rattle.std.proofs.Common.{◌≡◌, sym, refl, ◌∙◌, arith, rules, le-ltb, lt-ltb}
+use Rattle.std.proofs.Common.{sym, ◌∙◌, arith, rules, le-ltb, lt-ltb}
 use Rattle.reference.proofs.Refusals.{at_first, at_next}
 use Rattle.album.proofs.Bounds.{bytes_bound}
 use Rattle.album.proofs.limits.Statement.{statement}

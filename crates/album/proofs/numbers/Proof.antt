@@ -1,5 +1,5 @@
 -- `numbers` meets its contract.
-use Rattle.std.proofs.Common.{◌≡◌, sym, refl, arith, rules}
+use Rattle.std.proofs.Common.{refl, arith, rules}
 use Rattle.album.specs.Album.{album_of, pieces}
 use Rattle.album.proofs.Bounds.{bytes_bound, frames_cover}
 use Rattle.album.proofs.numbers.Statement.{statement}

@@ -1,6 +1,5 @@
 -- `open` meets its contract.
-use Rattle.std.proofs.Common.{◌≡◌, sym, ◌∙◌, rules}
-use Rattle.reference.specs.Refusals.{decide, accepted}
+use Rattle.std.proofs.Common.{sym, ◌∙◌, rules}
 use Rattle.reference.proofs.Promises.{accepted_is}
 use Rattle.album.proofs.Openings.{few_frames, header_refused, few_channels, frames_are, opened, later_refused}
 use Rattle.album.proofs.open.Statement.{statement}

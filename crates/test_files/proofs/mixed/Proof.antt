@@ -1,6 +1,5 @@
 -- `mixed` meets its contract.
 use mathlib.Core.Path.{ap}
-use Prim.Native.Nat.{ℕ, ◌+◌, ◌*◌, ◌%◌}
 use borrow.Author.Rules.{rules}
 use Rattle.test_files.specs.Cases.{mix}
 use Rattle.test_files.proofs.mixed.Statement.{statement}

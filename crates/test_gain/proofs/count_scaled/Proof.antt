@@ -7,23 +7,23 @@ use lib.ListN.{length}
 use Rattle.test_gain.proofs.count_scaled.Statement.{statement}
 use Rattle.test_gain.proofs.count_scaled.Tie as tie
 
-abbrev invariant-loop : tie.invariant-loop
+abbrev invariant-loop : tie.invariant-loop-i
 invariant-loop ys db samples clips n₀ i₀ n i = (n ≤ i) × (i ≤ length ys)
 
-abbrev decreases-loop : tie.decreases-loop
+abbrev decreases-loop : tie.decreases-loop-i
 decreases-loop ys db samples clips n₀ i₀ n i = length ys - i
 
-add_n : tie.Need-overflow-add-n invariant-loop decreases-loop
+add_n : tie.Need-overflow_add-n invariant-loop decreases-loop
 add_n c = omega arith
 
-add_i : tie.Need-overflow-add-i invariant-loop decreases-loop
+add_i : tie.Need-overflow_add-i invariant-loop decreases-loop
 add_i c = omega arith
 
-loop-less : tie.Need-loop-smaller invariant-loop decreases-loop
+loop-less : tie.Need-loop-i-smaller invariant-loop decreases-loop
 loop-less c = omega arith
 
-loop-again : tie.Need-loop-preserved invariant-loop decreases-loop
-loop-again c = (⊎_elim (λ w. omega arith) (λ w. omega arith) c.if1.branch, omega arith)
+loop-again : tie.Need-loop-i-preserved invariant-loop decreases-loop
+loop-again c = (⊎_elim (λ w. omega arith) (λ w. omega arith) c.if-scales.branch, omega arith)
 
 pub count_scaled_spec : {M : Type 1} → statement M
 count_scaled_spec =

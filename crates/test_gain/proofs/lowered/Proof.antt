@@ -28,18 +28,18 @@ module _ (n : ℕ) (some : 0 < n % 4294967296) where
   fits : SFits w64 (to_z w64 (n % 4294967296) -ℤ pos 2147483648)
   fits = subst (λ (z : ℤ). SFits w64 (z -ℤ pos 2147483648)) (sym read) (sfits_abs (omega (arith, size)))
 
-above : (c : tie.Else1) → 0 < c.before.args.n % 4294967296
-above c = omega (arith, c.if1.false)
+above : (c : tie.Else-low-eq0) → 0 < c.args.n % 4294967296
+above c = omega (arith, c.if-low-eq0.false)
 
-sub_result : tie.Need-overflow-sub-result
-sub_result c = fits c.before.args.n (above c)
+sub_result : tie.Need-overflow_sub-result
+sub_result c = fits c.args.n (above c)
 
-returns : tie.Need-returns
+returns : tie.Need-returns-then-low-eq0
 returns c = lit< tt
 
-returns-2 : tie.Need-returns-2
+returns-2 : tie.Need-returns
 returns-2 c =
-    let n = c.before.args.n in
+    let n = c.args.n in
     subst (λ (z : ℤ). nat_abs z < 2147483648) (sym (to_z-of_z (fits n (above c)) ∙ ap (λ (z : ℤ). z -ℤ pos 2147483648) (read n (above c)))) (size n (above c))
 
 pub lowered_spec : {M : Type 1} → statement M

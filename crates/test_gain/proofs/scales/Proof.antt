@@ -17,14 +17,14 @@ only : (z : ℤ) → nat_abs z < 2 ^ 31 → (k : ℕ) → k < 1 → nat_abs (get
 only z h zero l = h
 only z h (suc k) l = absurd (omega arith)
 
-scale_block_requires : tie.Need-scale-block-requires
+scale_block_requires : tie.Need-scale_block-t-requires
 scale_block_requires c κs =
-    let low = c.before.before.lowered in
-    let known = c.before.before.before.before in
-    let from = known.before.before in
-    let made = subst (λ (a : FromDb). GainPromise from.before.float.result a) known.g.given.1 from.from-db.ensures in
-    let h = subst (λ (z : ℤ). nat_abs z < 2 ^ 31) (sym (val low.result low.result low.type-inv refl)) low.ensures in
-    ((omega arith, refl), (made_bounded _ known.g.given.0.0 made, only _ h))
+    let low = c.lowered in
+    let known = c.before.before.before in
+    let from = known.before in
+    let made = subst (λ (a : FromDb). GainPromise from.float.result a) known.in-Made.is from.from_db.ensures in
+    let h = subst (λ (z : ℤ). nat_abs z < 2 ^ 31) (sym (val low.result low.result low.type_inv refl)) low.ensures in
+    ((omega arith, refl), (made_bounded _ known.in-Made.g made, only _ h))
 
 pub scales_spec : {M : Type 1} → statement M
 scales_spec =

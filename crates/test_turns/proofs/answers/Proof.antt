@@ -6,8 +6,8 @@ use borrow.Author.Rules.{rules}
 use Rattle.test_turns.proofs.answers.Statement.{statement}
 use Rattle.test_turns.proofs.answers.Tie as tie
 
-slice_aggregate_same : tie.Need-slice-aggregate-same
-slice_aggregate_same c = let a = c.before.before.answer in sym (length-take-le _ _ (omega (arith, a.ensures.0, a.auto)))
+slice_aggregate_same : tie.Need-slice_bounds-same-end
+slice_aggregate_same c = let a = c.answer-n in sym (length-take-le _ _ (omega (arith, a.ensures.0, a.auto)))
 
 pub answers_spec : {M : Type 1} → statement M
 answers_spec =

@@ -5,10 +5,10 @@ use borrow.Author.Rules.{rules}
 use Rattle.test_turns.proofs.main.Statement.{statement}
 use Rattle.test_turns.proofs.main.Tie as tie
 
-abbrev invariant-loop : tie.invariant-loop
+abbrev invariant-loop : tie.invariant-loop-k
 invariant-loop k₀ equal₀ t3 k equal = (k ≤ 194) × (equal ≤ k)
 
-abbrev decreases-loop : tie.decreases-loop
+abbrev decreases-loop : tie.decreases-loop-k
 decreases-loop k₀ equal₀ t3 k equal = 194 - k
 
 pub main_spec : {M : Type 1} → statement M
@@ -20,7 +20,6 @@ main_spec =
     (λ c. search rules)
     (λ c. search rules)
     (λ c κs. search rules)
-    (λ c. search rules)
     (λ c. search rules)
     (λ c. search rules)
     (λ c. search rules)

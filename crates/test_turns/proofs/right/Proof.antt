@@ -6,10 +6,10 @@ use borrow.Author.Rules.{rules}
 use Rattle.test_turns.proofs.right.Statement.{statement}
 use Rattle.test_turns.proofs.right.Tie as tie
 
-slice_aggregate_answers : tie.Need-slice-aggregate-answers
+slice_aggregate_answers : tie.Need-slice_bounds-answers-end
 slice_aggregate_answers c =
     let b = c.before.before in
-    sym (length-take-le b.border.result b.before.before.args.text.now b.border.ensures)
+    sym (length-take-le b.border-k.result b.args.text.now b.border-k.ensures)
 
 pub right_spec : {M : Type 1} → statement M
 right_spec =

@@ -4,10 +4,10 @@ use borrow.Author.Rules.{rules}
 use Rattle.test_changes.proofs.by_hand.count.Statement.{statement}
 use Rattle.test_changes.proofs.by_hand.count.Tie as tie
 
-abbrev invariant-loop : tie.invariant-loop
+abbrev invariant-loop : tie.invariant-loop-k
 invariant-loop question text frame yes₀ k₀ yes' k = (k ≤ 312) × (yes' ≤ k)
 
-abbrev decreases-loop : tie.decreases-loop
+abbrev decreases-loop : tie.decreases-loop-k
 decreases-loop question text frame yes₀ k₀ yes' k = 312 - k
 
 pub count_spec : {M : Type 1} → statement M

@@ -5,10 +5,10 @@ use borrow.Author.Rules.{rules}
 use Rattle.test_changes.proofs.lists.bytes_kept.Statement.{statement}
 use Rattle.test_changes.proofs.lists.bytes_kept.Tie as tie
 
-abbrev invariant-loop : tie.invariant-loop
+abbrev invariant-loop : tie.invariant-loop-i
 invariant-loop s i₀ i = i ≤ length s
 
-abbrev decreases-loop : tie.decreases-loop
+abbrev decreases-loop : tie.decreases-loop-i
 decreases-loop s i₀ i = length s - i
 
 pub bytes_kept_spec : {M : Type 1} → statement M

@@ -5,10 +5,10 @@ use borrow.Author.Rules.{rules}
 use Rattle.test_changes.proofs.lists.same.Statement.{statement}
 use Rattle.test_changes.proofs.lists.same.Tie as tie
 
-abbrev invariant-loop : tie.invariant-loop
+abbrev invariant-loop : tie.invariant-loop-i
 invariant-loop a b i₀ i = i ≤ length a
 
-abbrev decreases-loop : tie.decreases-loop
+abbrev decreases-loop : tie.decreases-loop-i
 decreases-loop a b i₀ i = length a - i
 
 pub same_spec : {M : Type 1} → statement M

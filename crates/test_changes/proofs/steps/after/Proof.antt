@@ -4,10 +4,10 @@ use borrow.Author.Rules.{rules}
 use Rattle.test_changes.proofs.steps.after.Statement.{statement}
 use Rattle.test_changes.proofs.steps.after.Tie as tie
 
-abbrev invariant-loop : tie.invariant-loop
+abbrev invariant-loop : tie.invariant-loop-k
 invariant-loop row converter₀ right₀ k₀ converter right k = (k ≤ 6) × (right ≤ k)
 
-abbrev decreases-loop : tie.decreases-loop
+abbrev decreases-loop : tie.decreases-loop-k
 decreases-loop row converter₀ right₀ k₀ converter right k = 6 - k
 
 pub after_spec : {M : Type 1} → statement M

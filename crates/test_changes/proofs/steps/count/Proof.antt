@@ -4,10 +4,10 @@ use borrow.Author.Rules.{rules}
 use Rattle.test_changes.proofs.steps.count.Statement.{statement}
 use Rattle.test_changes.proofs.steps.count.Tie as tie
 
-abbrev invariant-loop : tie.invariant-loop
+abbrev invariant-loop : tie.invariant-loop-k
 invariant-loop text frame openings₀ changes₀ conversions₀ k₀ openings changes conversions k = (k ≤ 150) × (openings ≤ k) × (changes ≤ 6 * k) × (conversions ≤ k)
 
-abbrev decreases-loop : tie.decreases-loop
+abbrev decreases-loop : tie.decreases-loop-k
 decreases-loop text frame openings₀ changes₀ conversions₀ k₀ openings changes conversions k = 150 - k
 
 pub count_spec : {M : Type 1} → statement M

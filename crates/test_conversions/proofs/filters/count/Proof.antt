@@ -5,10 +5,10 @@ use borrow.Author.Rules.{rules}
 use Rattle.test_conversions.proofs.filters.count.Statement.{statement}
 use Rattle.test_conversions.proofs.filters.count.Tie as tie
 
-abbrev invariant-loop : tie.invariant-loop
+abbrev invariant-loop : tie.invariant-loop-i
 invariant-loop text yes₀ i₀ yes' i = i ≤ 240
 
-abbrev decreases-loop : tie.decreases-loop
+abbrev decreases-loop : tie.decreases-loop-i
 decreases-loop text yes₀ i₀ yes' i = 240 - i
 
 pub count_spec : {M : Type 1} → statement M

@@ -31,11 +31,11 @@ module _ (n : ℕ) (l : n < 2 ^ 31) where
   fits_less : SFits w32 (to_z w32 (of_z w32 (pos 0 -ℤ to_z w32 n)) -ℤ pos 1)
   fits_less = rw (to_z-of_z fits, is, less_one n) (record { sfits = l })
 
-sub_result : tie.Need-overflow-sub-result
-sub_result c = fits (c.before.args.code % 2147483648) (omega arith)
+sub_result : tie.Need-overflow_sub-result
+sub_result c = fits (c.args.code % 2147483648) (omega arith)
 
-sub_result_2 : tie.Need-overflow-sub-result-2
-sub_result_2 c = fits_less (c.before.args.code % 2147483648) (omega arith)
+sub_result_2 : tie.Need-overflow_sub-result-else-code-lt2147483648
+sub_result_2 c = fits_less (c.args.code % 2147483648) (omega arith)
 
 pub tap_spec : {M : Type 1} → statement M
 tap_spec = tie.close (tie.spec (λ c. search rules) sub_result sub_result_2 (λ c. search rules) (λ c. search rules))

@@ -7,14 +7,14 @@ use lib.ListN.{length, length-set}
 use Rattle.test_conversions.proofs.filters.taps.Statement.{statement}
 use Rattle.test_conversions.proofs.filters.taps.Tie as tie
 
-abbrev invariant-loop : tie.invariant-loop
+abbrev invariant-loop : tie.invariant-loop-k
 invariant-loop row made₀ k₀ made k = (k ≤ 117) × (length made ≡ 117)
 
-abbrev decreases-loop : tie.decreases-loop
+abbrev decreases-loop : tie.decreases-loop-k
 decreases-loop row made₀ k₀ made k = 117 - k
 
-loop-again : tie.Need-loop-preserved invariant-loop decreases-loop
-loop-again c = (omega arith, simp length-set c.before.before.loop.invariant.1)
+loop-again : tie.Need-loop-k-preserved invariant-loop decreases-loop
+loop-again c = (omega arith, simp length-set c.loop-k.invariant.1)
 
 pub taps_spec : {M : Type 1} → statement M
 taps_spec =

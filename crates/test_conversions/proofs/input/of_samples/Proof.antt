@@ -6,19 +6,19 @@ use lib.ListN.{length}
 use Rattle.test_conversions.proofs.input.of_samples.Statement.{statement}
 use Rattle.test_conversions.proofs.input.of_samples.Tie as tie
 
-abbrev invariant-loop : tie.invariant-loop
+abbrev invariant-loop : tie.invariant-loop-i
 invariant-loop s d₀ i₀ d i = i ≤ length s
 
-abbrev decreases-loop : tie.decreases-loop
+abbrev decreases-loop : tie.decreases-loop-i
 decreases-loop s d₀ i₀ d i = length s - i
 
-mul_lifted : tie.Need-overflow-mul-lifted invariant-loop decreases-loop
+mul_lifted : tie.Need-offset_bounds-s-i invariant-loop decreases-loop
 mul_lifted c = omega arith
 
-add_i : tie.Need-overflow-add-i invariant-loop decreases-loop
+add_i : tie.Need-overflow_add-i invariant-loop decreases-loop
 add_i c = omega arith
 
-loop-less : tie.Need-loop-smaller invariant-loop decreases-loop
+loop-less : tie.Need-loop-i-smaller invariant-loop decreases-loop
 loop-less c = omega arith
 
 pub of_samples_spec : {M : Type 1} → statement M

@@ -7,44 +7,44 @@ use borrow.Author.Rules.{rules}
 use Rattle.test_conversions.proofs.refusals.count.Statement.{statement}
 use Rattle.test_conversions.proofs.refusals.count.Tie as tie
 
-abbrev invariant-loop : tie.invariant-loop
+abbrev invariant-loop : tie.invariant-loop-i
 invariant-loop question rows n₀ i₀ n i = (n ≤ i) × (i ≤ length rows / 9)
 
-abbrev decreases-loop : tie.decreases-loop
+abbrev decreases-loop : tie.decreases-loop-i
 decreases-loop question rows n₀ i₀ n i = length rows / 9 - i
 
-mul_right : tie.Need-overflow-mul-right invariant-loop decreases-loop
+mul_right : tie.Need-overflow_mul-i invariant-loop decreases-loop
 mul_right c = omega arith
 
-mul_right_2 : tie.Need-overflow-mul-right-2 invariant-loop decreases-loop
+mul_right_2 : tie.Need-overflow_mul-i-in-loop-i invariant-loop decreases-loop
 mul_right_2 c = omega arith
 
-add_right : tie.Need-overflow-add-right invariant-loop decreases-loop
+add_right : tie.Need-overflow_add-i invariant-loop decreases-loop
 add_right c = omega arith
 
-mul_right_3 : tie.Need-overflow-mul-right-3 invariant-loop decreases-loop
+mul_right_3 : tie.Need-offset_bounds-rows-i invariant-loop decreases-loop
 mul_right_3 c = omega arith
 
-sub_right : tie.Need-overflow-sub-right invariant-loop decreases-loop
+sub_right : tie.Need-slice_bounds-right-count invariant-loop decreases-loop
 sub_right c = omega arith
 
-part_right_start : tie.Need-slice-bounds-right-start invariant-loop decreases-loop
+part_right_start : tie.Need-slice_bounds-right-start invariant-loop decreases-loop
 part_right_start c = omega arith
 
-part_right_end : tie.Need-slice-bounds-right-end invariant-loop decreases-loop
+part_right_end : tie.Need-slice_bounds-right-end invariant-loop decreases-loop
 part_right_end c = omega arith
 
-add_n : tie.Need-overflow-add-n invariant-loop decreases-loop
+add_n : tie.Need-overflow_add-n invariant-loop decreases-loop
 add_n c = omega arith
 
-add_i : tie.Need-overflow-add-i invariant-loop decreases-loop
+add_i : tie.Need-overflow_add-i-in-loop-i invariant-loop decreases-loop
 add_i c = omega arith
 
-loop-less : tie.Need-loop-smaller invariant-loop decreases-loop
+loop-less : tie.Need-loop-i-smaller invariant-loop decreases-loop
 loop-less c = omega arith
 
-loop-again : tie.Need-loop-preserved invariant-loop decreases-loop
-loop-again c = (⊎_elim (λ w. omega arith) (λ w. omega arith) c.if1.branch, omega arith)
+loop-again : tie.Need-loop-i-preserved invariant-loop decreases-loop
+loop-again c = (⊎_elim (λ w. omega arith) (λ w. omega arith) c.if-right.branch, omega arith)
 
 pub count_spec : {M : Type 1} → statement M
 count_spec =

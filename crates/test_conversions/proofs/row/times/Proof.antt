@@ -9,8 +9,8 @@ use Rattle.test_conversions.proofs.row.times.Tie as tie
 below : (a b : ℕ) → a < 2 ^ 32 → b < 2 ^ 32 → a * b < 2 ^ 64
 below a b m n = let h : a * b ≤ 4294967295 * 4294967295 = mul-le-mul {n₂ = 4294967295} {m₂ = 4294967295} (omega arith) (omega arith) in omega arith
 
-mul_result : tie.Need-overflow-mul-result
-mul_result c = record { fits = below c.before.before.args.a c.before.before.args.b (omega arith) (omega arith) }
+mul_result : tie.Need-overflow_mul-result
+mul_result c = record { fits = below c.args.a c.args.b (omega arith) (omega arith) }
 
 pub times_spec : {M : Type 1} → statement M
 times_spec = tie.close (tie.spec (λ c. search rules) (λ c. search rules) mul_result (λ c. search rules))

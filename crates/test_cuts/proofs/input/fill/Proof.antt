@@ -7,19 +7,19 @@ use lib.ListN.{length}
 use Rattle.test_cuts.proofs.input.fill.Statement.{statement}
 use Rattle.test_cuts.proofs.input.fill.Tie as tie
 
-abbrev invariant-loop : tie.invariant-loop
+abbrev invariant-loop : tie.invariant-loop-k
 invariant-loop album bytes₀ x₀ k₀ bytes x k = length bytes ≡ length bytes₀
 
-abbrev decreases-loop : tie.decreases-loop
+abbrev decreases-loop : tie.decreases-loop-k
 decreases-loop album bytes₀ x₀ k₀ bytes x k = length bytes₀ - k
 
-slice_write_bytes : tie.Need-slice-write-bytes invariant-loop decreases-loop
+slice_write_bytes : tie.Need-bounds-bytes-k invariant-loop decreases-loop
 slice_write_bytes c = omega arith
 
-add_k : tie.Need-overflow-add-k invariant-loop decreases-loop
+add_k : tie.Need-overflow_add-k invariant-loop decreases-loop
 add_k c = omega arith
 
-loop-less : tie.Need-loop-smaller invariant-loop decreases-loop
+loop-less : tie.Need-loop-k-smaller invariant-loop decreases-loop
 loop-less c = omega arith
 
 pub fill_spec : {M : Type 1} → statement M

@@ -7,19 +7,19 @@ use lib.ListN.{length}
 use Rattle.test_cuts.proofs.input.part.Statement.{statement}
 use Rattle.test_cuts.proofs.input.part.Tie as tie
 
-abbrev invariant-loop : tie.invariant-loop
+abbrev invariant-loop : tie.invariant-loop-k
 invariant-loop album place first last bytes₀ k₀ bytes k = length bytes ≡ length bytes₀
 
-abbrev decreases-loop : tie.decreases-loop
+abbrev decreases-loop : tie.decreases-loop-k
 decreases-loop album place first last bytes₀ k₀ bytes k = length bytes₀ - k
 
-slice_write_bytes : tie.Need-slice-write-bytes invariant-loop decreases-loop
+slice_write_bytes : tie.Need-bounds-bytes-k invariant-loop decreases-loop
 slice_write_bytes c = omega arith
 
-add_k : tie.Need-overflow-add-k invariant-loop decreases-loop
+add_k : tie.Need-overflow_add-k invariant-loop decreases-loop
 add_k c = omega arith
 
-loop-less : tie.Need-loop-smaller invariant-loop decreases-loop
+loop-less : tie.Need-loop-k-smaller invariant-loop decreases-loop
 loop-less c = omega arith
 
 pub part_spec : {M : Type 1} → statement M

@@ -6,19 +6,19 @@ use lib.ListN.{length}
 use Rattle.test_cuts.proofs.junk.bytes_kept.Statement.{statement}
 use Rattle.test_cuts.proofs.junk.bytes_kept.Tie as tie
 
-abbrev invariant-loop : tie.invariant-loop
+abbrev invariant-loop : tie.invariant-loop-i
 invariant-loop s i₀ i = i ≤ length s
 
-abbrev decreases-loop : tie.decreases-loop
+abbrev decreases-loop : tie.decreases-loop-i
 decreases-loop s i₀ i = length s - i
 
-shared_slice_read_if1 : tie.Need-shared-slice-read-if1 invariant-loop decreases-loop
+shared_slice_read_if1 : tie.Need-bounds-s-i invariant-loop decreases-loop
 shared_slice_read_if1 c = omega arith
 
-add_i : tie.Need-overflow-add-i invariant-loop decreases-loop
+add_i : tie.Need-overflow_add-i invariant-loop decreases-loop
 add_i c = omega arith
 
-loop-less : tie.Need-loop-smaller invariant-loop decreases-loop
+loop-less : tie.Need-loop-i-smaller invariant-loop decreases-loop
 loop-less c = omega arith
 
 pub bytes_kept_spec : {M : Type 1} → statement M

@@ -7,19 +7,19 @@ use lib.ListN.{length}
 use Rattle.test_cuts.proofs.junk.fill_bytes.Statement.{statement}
 use Rattle.test_cuts.proofs.junk.fill_bytes.Tie as tie
 
-abbrev invariant-loop : tie.invariant-loop
+abbrev invariant-loop : tie.invariant-loop-i
 invariant-loop s₀ i₀ s i = length s ≡ length s₀
 
-abbrev decreases-loop : tie.decreases-loop
+abbrev decreases-loop : tie.decreases-loop-i
 decreases-loop s₀ i₀ s i = length s₀ - i
 
-slice_write_s : tie.Need-slice-write-s invariant-loop decreases-loop
+slice_write_s : tie.Need-bounds-s-i invariant-loop decreases-loop
 slice_write_s c = omega arith
 
-add_i : tie.Need-overflow-add-i invariant-loop decreases-loop
+add_i : tie.Need-overflow_add-i invariant-loop decreases-loop
 add_i c = omega arith
 
-loop-less : tie.Need-loop-smaller invariant-loop decreases-loop
+loop-less : tie.Need-loop-i-smaller invariant-loop decreases-loop
 loop-less c = omega arith
 
 pub fill_bytes_spec : {M : Type 1} → statement M

@@ -7,19 +7,19 @@ use lib.ListN.{length}
 use Rattle.test_cuts.proofs.junk.fill_samples.Statement.{statement}
 use Rattle.test_cuts.proofs.junk.fill_samples.Tie as tie
 
-abbrev invariant-loop : tie.invariant-loop
+abbrev invariant-loop : tie.invariant-loop-i
 invariant-loop s₀ i₀ s i = length s ≡ length s₀
 
-abbrev decreases-loop : tie.decreases-loop
+abbrev decreases-loop : tie.decreases-loop-i
 decreases-loop s₀ i₀ s i = length s₀ - i
 
-mul_s : tie.Need-overflow-mul-s invariant-loop decreases-loop
+mul_s : tie.Need-offset_bounds-s-i invariant-loop decreases-loop
 mul_s c = omega arith
 
-add_i : tie.Need-overflow-add-i invariant-loop decreases-loop
+add_i : tie.Need-overflow_add-i invariant-loop decreases-loop
 add_i c = omega arith
 
-loop-less : tie.Need-loop-smaller invariant-loop decreases-loop
+loop-less : tie.Need-loop-i-smaller invariant-loop decreases-loop
 loop-less c = omega arith
 
 pub fill_samples_spec : {M : Type 1} → statement M

@@ -5,16 +5,16 @@ use Prim.Native.Nat.{◌-◌, ◌≤◌}
 use Rattle.test_dsf.proofs.headers.each.Statement.{statement}
 use Rattle.test_dsf.proofs.headers.each.Tie as tie
 
-abbrev invariant-loop : tie.invariant-loop
+abbrev invariant-loop : tie.invariant-loop-k
 invariant-loop fd t₀ n k₀ t k = k ≤ n
 
-abbrev decreases-loop : tie.decreases-loop
+abbrev decreases-loop : tie.decreases-loop-k
 decreases-loop fd t₀ n k₀ t k = n - k
 
-add_k : tie.Need-overflow-add-k invariant-loop decreases-loop
+add_k : tie.Need-overflow_add-k invariant-loop decreases-loop
 add_k c = omega arith
 
-loop-less : tie.Need-loop-smaller invariant-loop decreases-loop
+loop-less : tie.Need-loop-k-smaller invariant-loop decreases-loop
 loop-less c = omega arith
 
 pub each_spec : {M : Type 1} → statement M

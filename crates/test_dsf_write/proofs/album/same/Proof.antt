@@ -5,28 +5,28 @@ use Prim.Native.Nat.{◌-◌, ◌≤◌}
 use Rattle.test_dsf_write.proofs.album.same.Statement.{statement}
 use Rattle.test_dsf_write.proofs.album.same.Tie as tie
 
-abbrev invariant-loop : tie.invariant-loop
+abbrev invariant-loop : tie.invariant-loop-i
 invariant-loop part whole k from i₀ i = i ≤ 2352
 
-abbrev decreases-loop : tie.decreases-loop
+abbrev decreases-loop : tie.decreases-loop-i
 decreases-loop part whole k from i₀ i = 2352 - i
 
-mul_from : tie.Need-overflow-mul-from invariant-loop decreases-loop
+mul_from : tie.Need-overflow_mul-from invariant-loop decreases-loop
 mul_from c = omega arith
 
-mul_if1 : tie.Need-overflow-mul-if1 invariant-loop decreases-loop
+mul_if1 : tie.Need-offset_bounds-part-i invariant-loop decreases-loop
 mul_if1 c = omega arith
 
-add_if1 : tie.Need-overflow-add-if1 invariant-loop decreases-loop
+add_if1 : tie.Need-overflow_add-from invariant-loop decreases-loop
 add_if1 c = omega arith
 
-mul_if1_2 : tie.Need-overflow-mul-if1-2 invariant-loop decreases-loop
+mul_if1_2 : tie.Need-offset_bounds-whole-from invariant-loop decreases-loop
 mul_if1_2 c = omega arith
 
-add_i : tie.Need-overflow-add-i invariant-loop decreases-loop
+add_i : tie.Need-overflow_add-i invariant-loop decreases-loop
 add_i c = omega arith
 
-loop-less : tie.Need-loop-smaller invariant-loop decreases-loop
+loop-less : tie.Need-loop-i-smaller invariant-loop decreases-loop
 loop-less c = omega arith
 
 pub same_spec : {M : Type 1} → statement M

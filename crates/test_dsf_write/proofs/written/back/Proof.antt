@@ -7,16 +7,16 @@ use lib.ListN.{length}
 use Rattle.test_dsf_write.proofs.written.back.Statement.{statement}
 use Rattle.test_dsf_write.proofs.written.back.Tie as tie
 
-abbrev invariant-loop : tie.invariant-loop
+abbrev invariant-loop : tie.invariant-loop-k
 invariant-loop n file frames room₀ sum₀ from₀ k₀ room sum from k = (k ≤ n) × (length room ≡ length room₀)
 
-abbrev decreases-loop : tie.decreases-loop
+abbrev decreases-loop : tie.decreases-loop-k
 decreases-loop n file frames room₀ sum₀ from₀ k₀ room sum from k = n - k
 
-add_k : tie.Need-overflow-add-k invariant-loop decreases-loop
+add_k : tie.Need-overflow_add-k invariant-loop decreases-loop
 add_k c = omega arith
 
-loop-less : tie.Need-loop-smaller invariant-loop decreases-loop
+loop-less : tie.Need-loop-k-smaller invariant-loop decreases-loop
 loop-less c = omega arith
 
 pub back_spec : {M : Type 1} → statement M

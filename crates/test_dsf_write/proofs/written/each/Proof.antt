@@ -7,16 +7,16 @@ use lib.ListN.{length}
 use Rattle.test_dsf_write.proofs.written.each.Statement.{statement}
 use Rattle.test_dsf_write.proofs.written.each.Tie as tie
 
-abbrev invariant-loop : tie.invariant-loop
+abbrev invariant-loop : tie.invariant-loop-k
 invariant-loop fd frames₀ file₀ out₀ b₀ n k₀ frames file out b k = (k ≤ n) × (length frames ≡ length frames₀) × (length file ≡ length file₀) × (length out ≡ length out₀)
 
-abbrev decreases-loop : tie.decreases-loop
+abbrev decreases-loop : tie.decreases-loop-k
 decreases-loop fd frames₀ file₀ out₀ b₀ n k₀ frames file out b k = n - k
 
-add_k : tie.Need-overflow-add-k invariant-loop decreases-loop
+add_k : tie.Need-overflow_add-k invariant-loop decreases-loop
 add_k c = omega arith
 
-loop-less : tie.Need-loop-smaller invariant-loop decreases-loop
+loop-less : tie.Need-loop-k-smaller invariant-loop decreases-loop
 loop-less c = omega arith
 
 pub each_spec : {M : Type 1} → statement M

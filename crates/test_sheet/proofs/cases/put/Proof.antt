@@ -5,7 +5,7 @@ use borrow.Author.Rules.{rules}
 use Rattle.test_sheet.proofs.cases.put.Statement.{statement}
 use Rattle.test_sheet.proofs.cases.put.Tie as tie
 
-slice_aggregate_level_sheet : tie.Need-slice-aggregate-level-sheet
+slice_aggregate_level_sheet : tie.Need-slice_bounds-level_sheet-end-2
 slice_aggregate_level_sheet c =
     let s = c.before.before in
     sym (length-take-le s.args.n s.args.out.now s.requires)

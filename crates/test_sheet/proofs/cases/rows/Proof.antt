@@ -4,10 +4,10 @@ use borrow.Author.Rules.{rules}
 use Rattle.test_sheet.proofs.cases.rows.Statement.{statement}
 use Rattle.test_sheet.proofs.cases.rows.Tie as tie
 
-abbrev invariant-loop : tie.invariant-loop
+abbrev invariant-loop : tie.invariant-loop-k
 invariant-loop bytes sheets all place₀ k₀ yes₀ place k yes' = (k ≤ 230) × (yes' ≤ k) × (place ≤ all)
 
-abbrev decreases-loop : tie.decreases-loop
+abbrev decreases-loop : tie.decreases-loop-k
 decreases-loop bytes sheets all place₀ k₀ yes₀ place k yes' = 230 - k
 
 pub rows_spec : {M : Type 1} → statement M

@@ -4,10 +4,10 @@ use borrow.Author.Rules.{rules}
 use Rattle.test_sheet.proofs.joins.all.Statement.{statement}
 use Rattle.test_sheet.proofs.joins.all.Tie as tie
 
-abbrev invariant-loop : tie.invariant-loop
+abbrev invariant-loop : tie.invariant-loop-k
 invariant-loop bytes k₀ yes₀ t6 k yes' = (k ≤ 30) × (yes' ≤ k)
 
-abbrev decreases-loop : tie.decreases-loop
+abbrev decreases-loop : tie.decreases-loop-k
 decreases-loop bytes k₀ yes₀ t6 k yes' = 30 - k
 
 pub all_spec : {M : Type 1} → statement M
@@ -18,7 +18,6 @@ all_spec =
     decreases-loop
     (λ c. search rules)
     (λ c. search rules)
-    (λ c. search rules)
     (λ c κs. search rules)
     (λ c. search rules)
     (λ c. search rules)
@@ -30,7 +29,6 @@ all_spec =
     (λ c. search rules)
     (λ c κs. search rules)
     (λ c κs. search rules)
-    (λ c. search rules)
     (λ c. search rules)
     (λ c. search rules)
     (λ c. search rules)

@@ -7,22 +7,22 @@ use lib.ListN.{length}
 use Rattle.test_wav.proofs.case.fill.Statement.{statement}
 use Rattle.test_wav.proofs.case.fill.Tie as tie
 
-abbrev invariant-loop : tie.invariant-loop
+abbrev invariant-loop : tie.invariant-loop-k
 invariant-loop bytes₀ x₀ k₀ bytes x k = length bytes ≡ length bytes₀
 
-abbrev decreases-loop : tie.decreases-loop
+abbrev decreases-loop : tie.decreases-loop-k
 decreases-loop bytes₀ x₀ k₀ bytes x k = length bytes₀ - k
 
-cast_bytes : tie.Need-overflow-cast-bytes invariant-loop decreases-loop
+cast_bytes : tie.Need-overflow_cast-bytes invariant-loop decreases-loop
 cast_bytes c = omega arith
 
-slice_write_bytes : tie.Need-slice-write-bytes invariant-loop decreases-loop
+slice_write_bytes : tie.Need-bounds-bytes-k invariant-loop decreases-loop
 slice_write_bytes c = omega arith
 
-add_k : tie.Need-overflow-add-k invariant-loop decreases-loop
+add_k : tie.Need-overflow_add-k invariant-loop decreases-loop
 add_k c = omega arith
 
-loop-less : tie.Need-loop-smaller invariant-loop decreases-loop
+loop-less : tie.Need-loop-k-smaller invariant-loop decreases-loop
 loop-less c = omega arith
 
 pub fill_spec : {M : Type 1} → statement M

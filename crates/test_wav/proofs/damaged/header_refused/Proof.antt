@@ -7,19 +7,19 @@ use lib.ListN.{length}
 use Rattle.test_wav.proofs.damaged.header_refused.Statement.{statement}
 use Rattle.test_wav.proofs.damaged.header_refused.Tie as tie
 
-abbrev invariant-loop : tie.invariant-loop
+abbrev invariant-loop : tie.invariant-loop-k
 invariant-loop file₀ yes₀ k₀ file yes' k = (length file ≡ length file₀) × (k ≤ 44) × (yes' ≤ 255 * k)
 
-abbrev decreases-loop : tie.decreases-loop
+abbrev decreases-loop : tie.decreases-loop-k
 decreases-loop file₀ yes₀ k₀ file yes' k = 44 - k
 
-add_yes : tie.Need-overflow-add-yes invariant-loop decreases-loop
+add_yes : tie.Need-overflow_add-yes invariant-loop decreases-loop
 add_yes c = omega arith
 
-add_k : tie.Need-overflow-add-k invariant-loop decreases-loop
+add_k : tie.Need-overflow_add-k invariant-loop decreases-loop
 add_k c = omega arith
 
-loop-less : tie.Need-loop-smaller invariant-loop decreases-loop
+loop-less : tie.Need-loop-k-smaller invariant-loop decreases-loop
 loop-less c = omega arith
 
 pub header_refused_spec : {M : Type 1} → statement M

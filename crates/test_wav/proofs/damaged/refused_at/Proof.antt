@@ -7,28 +7,28 @@ use lib.ListN.{length}
 use Rattle.test_wav.proofs.damaged.refused_at.Statement.{statement}
 use Rattle.test_wav.proofs.damaged.refused_at.Tie as tie
 
-abbrev invariant-loop : tie.invariant-loop
+abbrev invariant-loop : tie.invariant-loop-d
 invariant-loop file₀ k old yes₀ d₀ file yes' d = (length file ≡ length file₀) × (d ≤ 256) × (1 ≤ d) × (yes' ≤ d - 1)
 
-abbrev decreases-loop : tie.decreases-loop
+abbrev decreases-loop : tie.decreases-loop-d
 decreases-loop file₀ k old yes₀ d₀ file yes' d = 256 - d
 
-slice_read_old : tie.Need-slice-read-old invariant-loop decreases-loop
+slice_read_old : tie.Need-bounds-file-k invariant-loop decreases-loop
 slice_read_old c = omega arith
 
-slice_write_file : tie.Need-slice-write-file invariant-loop decreases-loop
+slice_write_file : tie.Need-bounds-file-k-in-loop-d invariant-loop decreases-loop
 slice_write_file c = omega arith
 
-add_yes : tie.Need-overflow-add-yes invariant-loop decreases-loop
+add_yes : tie.Need-overflow_add-yes invariant-loop decreases-loop
 add_yes c = omega arith
 
-add_d : tie.Need-overflow-add-d invariant-loop decreases-loop
+add_d : tie.Need-overflow_add-d invariant-loop decreases-loop
 add_d c = omega arith
 
-loop-less : tie.Need-loop-smaller invariant-loop decreases-loop
+loop-less : tie.Need-loop-d-smaller invariant-loop decreases-loop
 loop-less c = omega arith
 
-slice_write_file_2 : tie.Need-slice-write-file-2 invariant-loop decreases-loop
+slice_write_file_2 : tie.Need-bounds-file-k-2 invariant-loop decreases-loop
 slice_write_file_2 c = omega arith
 
 pub refused_at_spec : {M : Type 1} → statement M

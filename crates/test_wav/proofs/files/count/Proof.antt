@@ -5,19 +5,19 @@ use Prim.Native.Nat.{◌-◌, ◌≤◌}
 use Rattle.test_wav.proofs.files.count.Statement.{statement}
 use Rattle.test_wav.proofs.files.count.Tie as tie
 
-abbrev invariant-loop : tie.invariant-loop
+abbrev invariant-loop : tie.invariant-loop-i
 invariant-loop question headers yes₀ i₀ yes' i = (i ≤ 24) × (yes' ≤ i)
 
-abbrev decreases-loop : tie.decreases-loop
+abbrev decreases-loop : tie.decreases-loop-i
 decreases-loop question headers yes₀ i₀ yes' i = 24 - i
 
-add_yes : tie.Need-overflow-add-yes invariant-loop decreases-loop
+add_yes : tie.Need-overflow_add-yes invariant-loop decreases-loop
 add_yes c = omega arith
 
-add_i : tie.Need-overflow-add-i invariant-loop decreases-loop
+add_i : tie.Need-overflow_add-i invariant-loop decreases-loop
 add_i c = omega arith
 
-loop-less : tie.Need-loop-smaller invariant-loop decreases-loop
+loop-less : tie.Need-loop-i-smaller invariant-loop decreases-loop
 loop-less c = omega arith
 
 pub count_spec : {M : Type 1} → statement M

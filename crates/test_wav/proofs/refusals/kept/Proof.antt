@@ -6,19 +6,19 @@ use lib.ListN.{length}
 use Rattle.test_wav.proofs.refusals.kept.Statement.{statement}
 use Rattle.test_wav.proofs.refusals.kept.Tie as tie
 
-abbrev invariant-loop : tie.invariant-loop
+abbrev invariant-loop : tie.invariant-loop-k
 invariant-loop out k₀ k = k ≤ length out
 
-abbrev decreases-loop : tie.decreases-loop
+abbrev decreases-loop : tie.decreases-loop-k
 decreases-loop out k₀ k = length out - k
 
-shared_slice_read_if1 : tie.Need-shared-slice-read-if1 invariant-loop decreases-loop
+shared_slice_read_if1 : tie.Need-bounds-out-k invariant-loop decreases-loop
 shared_slice_read_if1 c = omega arith
 
-add_k : tie.Need-overflow-add-k invariant-loop decreases-loop
+add_k : tie.Need-overflow_add-k invariant-loop decreases-loop
 add_k c = omega arith
 
-loop-less : tie.Need-loop-smaller invariant-loop decreases-loop
+loop-less : tie.Need-loop-k-smaller invariant-loop decreases-loop
 loop-less c = omega arith
 
 pub kept_spec : {M : Type 1} → statement M
