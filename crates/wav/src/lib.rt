@@ -1,5 +1,6 @@
 // A WAV file from a run: what `convert` writes, behind the header. The calls ask nothing.
 #![tactic(auto)]
+
 ghost use Rattle.reference.specs.Frames.{run};
 ghost use Rattle.wav.specs.Promises.{WavPromise};
 

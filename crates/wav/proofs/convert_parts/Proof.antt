@@ -1,5 +1,5 @@
 -- `convert_parts` meets its contract.
-use mathlib.Core.Path.{◌≡◌, refl}
+use mathlib.Core.Path.{◌≡◌}
 use mathlib.Core.List.{List, []}
 use borrow.Author.Rules.{rules}
 use Rattle.reference.specs.Frames.{Run, run}
@@ -15,7 +15,7 @@ use Rattle.wav.proofs.convert_parts.Tie as tie
 
 -- places in the code: the start, the call accepted, the header put, the run converted
 abbrev start : tie.After-call-verdict → tie.Start
-start c = let d = c.before.before.before.before in d.before.before.before.before
+start c = let d = c.before.before.before.before in d.before.before
 
 abbrev begun : tie.After-put_header → tie.Then-accepted
 begun c = c.before.before
@@ -52,7 +52,7 @@ sub_convert_parts c =
     let p = c.before.before in
     let t = begun p in
     let s = start t.before.before in
-    mid_long s.args.conv (run_of s) s.args.lent s.args.out.now s.args.counts.now t.before.before.call.result t.before.before.call.ensures (ok t) _ [] [] (record { verdict = Accepted; stats = no_stats }) p.put_header.ensures
+    mid_long s.args.conv (run_of s) s.args.lent s.args.out.now s.args.counts.now t.before.before.call-verdict.result t.before.before.call-verdict.ensures (ok t) _ [] [] (record { verdict = Accepted; stats = no_stats }) p.put_header.ensures
 
 part_convert_parts_start : tie.Need-slice_bounds-convert_parts-start
 part_convert_parts_start c = sub_convert_parts c
@@ -63,7 +63,7 @@ returns c =
     let p = put d in
     let t = begun p in
     let s = start t.before.before in
-    converted s.args.conv (run_of s) s.args.lent s.args.out.now s.args.counts.now t.before.before.call.result t.before.before.call.ensures (ok t) _ _ _ d.convert-parts.result p.put-header.ensures d.convert-parts.ensures
+    converted s.args.conv (run_of s) s.args.lent s.args.out.now s.args.counts.now t.before.before.call-verdict.result t.before.before.call-verdict.ensures (ok t) _ _ _ d.convert_parts-made.result p.put_header.ensures d.convert_parts-made.ensures
 
 returns-2 : tie.Need-returns
 returns-2 d =
