@@ -1,6 +1,5 @@
 -- The plan cuts every album.
-use mathlib.Core.Path.{◌≡◌}
-use Prim.Native.Nat.{ℕ, ◌+◌, ◌*◌, ◌/◌, ◌<◌}
+use Prim.Native.Nat.{ℕ, ◌+◌, ◌/◌}
 use native.Mathlib.Nat.{mul-div_cancel, zero-div, mul-zero}
 use native.Mathlib.Omega.{arith}
 use Rattle.album.specs.Album.{pieces}

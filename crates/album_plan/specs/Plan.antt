@@ -1,5 +1,5 @@
 -- The plan: pieces of at most 128 frames (147 groups of blocks), and parts of whole pieces.
-use Rattle.std.specs.Prelude.{cond, ◌&&◌, ℕ, suc, ◌+◌, ◌-◌, ◌*◌, ◌/◌, ◌≤◌, ◌<◌, pred, ltb, leb, ◌≡◌}
+use Rattle.std.specs.Prelude.{cond, ◌&&◌, ℕ, ◌+◌, ◌-◌, ◌*◌, ◌/◌, ◌≤◌, ◌<◌, ltb, leb, ◌≡◌}
 use Rattle.reference.specs.Frames.{frame_length}
 use Rattle.reference.specs.declared.PcmRate.{PcmRate}
 use Rattle.dsf.specs.Dsf.{frames_in}

@@ -1,5 +1,6 @@
 // The plan: an album's frames cut into pieces, and the pieces into parts.
 #![tactic(auto)]
+
 ghost use Rattle.std.specs.Prelude.{◌≡◌, ◌≤◌, ◌<◌};
 ghost use Rattle.album_plan.specs.Plan as plan;
 

@@ -1,5 +1,6 @@
 // What is told of an album: its numbers in a list, and the numbers that a refusal's sentence tells.
 #![tactic(auto)]
+
 ghost use Rattle.std.specs.Prelude.{◌≡◌, ◌≤◌, length};
 ghost use Rattle.reference.specs.Refusals.{decision, refusal_number};
 ghost use Rattle.reference.specs.Promises.{by_decision};

@@ -1,5 +1,5 @@
 -- `some` meets its contract.
-use mathlib.Core.Path.{◌≡◌, refl}
+use mathlib.Core.Path.{refl}
 use native.Mathlib.Omega.{arith}
 use borrow.Author.Rules.{rules}
 use Rattle.album_plan.specs.Plan.{piece_count, place_of, some_piece}

@@ -1,9 +1,7 @@
 -- `stretch` meets its contract.
-use mathlib.Core.Path.{◌≡◌, refl, ap, ◌∙◌}
+use mathlib.Core.Path.{refl, ap, ◌∙◌}
 use borrow.Author.Rules.{rules}
 use Rattle.dsf_frames.specs.declared.FrameWindow.{FrameWindow}
-use Rattle.dsf_frames.specs.Reading.{lesser}
-use Rattle.album_plan.specs.Plan.{less_one}
 use Rattle.album_plan.proofs.Stretches.{begins, ends, long_enough}
 use Rattle.album_plan.proofs.stretch.Statement.{statement}
 use Rattle.album_plan.proofs.stretch.Tie as tie

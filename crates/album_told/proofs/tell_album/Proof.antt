@@ -13,8 +13,8 @@ returns c =
     let put = c.before.before in
     let then1 = let numbers = put.before.before in numbers.before.before in
     let asked = then1.before in
-    let yes = accepted_is _ (sym asked.accepted.ensures ∙ then1.if1.taken) in
-    (ap (λ (r : Report). r.number) asked.before.of-verdict.ensures, put.put.ensures ∙ sym (exit_accepted _ _ _ yes))
+    let yes = accepted_is _ (sym asked.accepted.ensures ∙ then1.if-accepted.true) in
+    (ap (λ (r : Report). r.number) asked.before.of_verdict-report.ensures, put.put.ensures ∙ sym (exit_accepted _ _ _ yes))
 
 returns-2 : tie.Need-returns
 returns-2 c =
