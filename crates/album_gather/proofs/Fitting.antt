@@ -1,13 +1,13 @@
 -- Laws of a step's places.
 use mathlib.Core.Path.{◌≡◌, refl, sym, ap, ◌∙◌}
-use mathlib.Core.List.{List, [], ◌∷◌, ◌++◌}
+use mathlib.Core.List.{List, [], ◌∷◌}
 use mathlib.Core.Bool.{Bool, true, false, not, ◌&&◌, true≢false}
-use Prim.Native.Nat.{ℕ, ◌+◌, ◌-◌, ◌*◌, ◌≤◌, ◌<◌}
+use Prim.Native.Nat.{ℕ, ◌+◌, ◌-◌, ◌≤◌, ◌<◌}
 use native.Mathlib.Omega.{arith}
 use lib.Dec.{leb}
 use borrow.Author.Tests.{lt-leb, le-leb, leb-true}
 use Rattle.reference.specs.Frames.{frame_length}
-use Rattle.reference.specs.Refusals.{Decision, decision, is_accepted, Place, place, decide, accepted, refused, number, lent_length}
+use Rattle.reference.specs.Refusals.{Decision, decision, is_accepted, Place, place, decide, accepted, refused, number}
 use Rattle.reference.proofs.Refusals.{at_first, at_next, at_end, pass, decide_skip, decide_stop}
 use Rattle.reference.proofs.Promises.{accepted_is}
 use Rattle.reference.specs.declared.Verdict.{Verdict}
@@ -15,9 +15,8 @@ use Rattle.dsf.specs.Dsf.{frames_in}
 use Rattle.dsf_frames.specs.Reading.{lesser, window_start, window_end, asked_places}
 use Rattle.dsf_frames.proofs.Asked.{fits}
 use Rattle.album_plan.specs.Plan.{stretch_start, stretch_end}
-use Rattle.album_gather.specs.Steps.{held_places, lent_places, piece_places}
+use Rattle.album_gather.specs.Steps.{held_places}
 use Rattle.album.specs.declared.Album.{Album}
-use Rattle.album_gather.specs.declared.Lent.{Lent}
 use Rattle.album_plan.proofs.Stretches.{start_grows, end_grows}
 
 module _ (a : Album) (first count start window : ℕ) where

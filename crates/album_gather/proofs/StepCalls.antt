@@ -1,20 +1,20 @@
 -- A step that is taken is a call of `convert` that is accepted.
-use mathlib.Core.Path.{◌≡◌, refl, sym, ap, ◌∙◌}
-use mathlib.Core.Bool.{Bool, true, false, not}
-use mathlib.Core.List.{List, [], ◌∷◌, ◌++◌}
-use Prim.Native.Nat.{ℕ, ◌+◌, ◌-◌, ◌*◌, ◌/◌, ◌%◌, ◌≤◌, ◌<◌}
+use mathlib.Core.Path.{◌≡◌, refl, sym, ◌∙◌}
+use mathlib.Core.Bool.{Bool, true, false}
+use mathlib.Core.List.{List, [], ◌++◌}
+use Prim.Native.Nat.{ℕ, ◌+◌, ◌-◌, ◌*◌, ◌%◌, ◌≤◌, ◌<◌}
 use native.Mathlib.Nat.{mul-div_cancel, mul-mod_left}
 use native.Mathlib.Omega.{arith}
-use lib.Dec.{ltb, eqb}
+use lib.Dec.{ltb}
 use lib.ListN.{length}
 use borrow.Author.Tests.{eq-eqb, le-ltb}
 use Rattle.reference.specs.Frames.{Run, frame_length, frame_count}
-use Rattle.reference.specs.Output.{samples_per_frame, channel_samples, all_samples}
+use Rattle.reference.specs.Output.{channel_samples, all_samples}
 use Rattle.reference.specs.Refusals.{Place, rack, decide, accepted, held_places, one_long, if_present, run_length, input_places, lent_length, byte_lengths, convert_places}
 use Rattle.reference.specs.declared.Converter.{Converter}
 use Rattle.reference.proofs.Refusals.{at_next, at_end, decide_skip}
 use Rattle.wav_format.specs.Wav.{frame_size}
-use Rattle.album_gather.specs.Steps.{frames_from, there, run_from}
+use Rattle.album_gather.specs.Steps.{there, run_from}
 use Rattle.album_gather.proofs.Sequences.{from_length}
 
 module _ (conv : Converter) (some : 0 < conv.channels) (F : ℕ → List ℕ) (long : (k : ℕ) → length (F k) ≡ frame_length conv.channels) (f first count : ℕ) (few : count ≤ 540000) where

@@ -1,5 +1,6 @@
 // What a step asks of its window and its lists, and frames gathered out of a window.
 #![tactic(auto)]
+
 ghost use Rattle.std.specs.Prelude.{◌≡◌, true, [], ◌∷◌, ◌*◌, ◌≤◌, length};
 ghost use Rattle.reference.specs.Refusals.{decision, decide, lent_length};
 ghost use Rattle.dsf_frames.specs.Reading.{window_frame};

@@ -1,11 +1,11 @@
 -- `fits` meets its contract.
-use mathlib.Core.Path.{◌≡◌, sym, ap, ◌∙◌}
+use mathlib.Core.Path.{sym, ap, ◌∙◌}
 use native.Mathlib.Omega.{arith}
 use borrow.Author.Rules.{rules}
 use Rattle.reference.specs.Refusals.{is_accepted}
 use Rattle.reference.proofs.Refusals.{decide_skip, decide_stop}
 use Rattle.reference.proofs.Promises.{accepted_is}
-use Rattle.album_gather.specs.Steps.{held_places, lent_places, piece_places}
+use Rattle.album_gather.specs.Steps.{held_places, piece_places}
 use Rattle.album_gather.proofs.Fitting.{is_held}
 use Rattle.album_gather.proofs.fits.Statement.{statement}
 use Rattle.album_gather.proofs.fits.Tie as tie

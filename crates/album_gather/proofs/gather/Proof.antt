@@ -1,12 +1,10 @@
 -- `gather` meets its contract.
 use mathlib.Core.Path.{◌≡◌, refl, sym, ap, ◌∙◌}
-use Prim.Native.Nat.{ℕ, ◌+◌, ◌-◌, ◌*◌, ◌≤◌, ◌<◌}
+use Prim.Native.Nat.{◌+◌, ◌-◌, ◌*◌, ◌≤◌}
 use native.Mathlib.Omega.{arith}
 use borrow.Author.Rules.{rules}
 use borrow.Rule.Slice.PartMut.{mid_len, same_len_mid}
 use lib.ListN.{length}
-use Rattle.reference.specs.Frames.{frame_length}
-use Rattle.dsf.specs.Dsf.{channels}
 use Rattle.numbers.proofs.Lists.{part_end}
 use Rattle.level_lines.specs.Text.{Printed}
 use Rattle.dsf_frames.specs.Reading.{window_frame}
@@ -68,7 +66,7 @@ loop-again c =
     let is = taken_frame head a.total (a.from + l.k) a.start window called.window_frame.ensures s.requires.taken (s.requires.each l.k (omega arith)) (room ∙ s.requires.sizes) in
     let long = ap length is ∙ window_frame_length head (a.from + l.k) window a.start ∙ sym s.requires.sizes in (
       omega arith,
-      same_len_mid (l.k * a.size) (l.k * a.size + a.size - l.k * a.size) l.out called.window_frame.new.1.1.1.1.1.0 (long ∙ sym room) ∙ l.invariant.1,
+      same_len_mid (l.k * a.size) (l.k * a.size + a.size - l.k * a.size) l.out called.window_frame.new.out (long ∙ sym room) ∙ l.invariant.1,
       next_frame (λ f. window_frame head f window a.start) a.from l.k a.size a.out.now l.out _ l.invariant.2 is long,
     )
 

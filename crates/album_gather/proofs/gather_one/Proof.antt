@@ -1,5 +1,5 @@
 -- `gather_one` meets its contract.
-use mathlib.Core.Path.{◌≡◌, refl, sym, ◌∙◌}
+use mathlib.Core.Path.{refl, ◌∙◌}
 use borrow.Author.Rules.{rules}
 use Rattle.album_gather.specs.Steps.{worked}
 use Rattle.album_gather.proofs.Sequences.{from_one}

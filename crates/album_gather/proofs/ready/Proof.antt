@@ -21,10 +21,10 @@ module _ (c : tie.Then-accepted) where
   begin = at_open.before.before
 
   taken : decide (album_places begin.args.head.now begin.args.length begin.args.wanted) ≡ accepted
-  taken = sym at_open.«open».ensures.decided ∙ accepted_is _ (sym c.accepted.ensures ∙ c.if-accepted.true)
+  taken = sym at_open.open-opened.ensures.decided ∙ accepted_is _ (sym c.accepted.ensures ∙ c.if-accepted.true)
 
-  numbers_are : at_open.«open».result.album ≡ album_of begin.args.wanted.rate (channels begin.args.head.now) (samples begin.args.head.now)
-  numbers_are = at_open.«open».ensures.album ∙ exit_accepted _ _ _ taken
+  numbers_are : at_open.open-opened.result.album ≡ album_of begin.args.wanted.rate (channels begin.args.head.now) (samples begin.args.head.now)
+  numbers_are = at_open.open-opened.ensures.album ∙ exit_accepted _ _ _ taken
 
 fits_requires : tie.Need-fits-verdict-requires
 fits_requires c κs = subst (λ (x : Album). FitArgs x) (sym (numbers_are c)) (album_fits _ _ _ (taken c))
@@ -35,9 +35,9 @@ returns c =
     let then = c.before in
     let a = (begin then).args in
     record {
-      decided = c.fits2.ensures ∙ ap (λ (x : Album). decide (piece_places x a.first a.count a.start a.window a.lent)) (numbers_are then)
+      decided = c.fits-verdict.ensures ∙ ap (λ (x : Album). decide (piece_places x a.first a.count a.start a.window a.lent)) (numbers_are then)
           ∙ sym (decide_skip (album_places a.head.now a.length a.wanted) _ (taken then));
-      album = (at_open then).«open».ensures.album;
+      album = (at_open then).open-opened.ensures.album;
     }
 
 returns-2 : tie.Need-returns
@@ -45,10 +45,10 @@ unfolding step_places
 returns-2 c =
     let at_open = c.before.before.before in
     let a = at_open.args in
-    let refused = ap is_accepted (sym at_open.«open».ensures.decided) ∙ sym c.accepted.ensures ∙ c.if-accepted.false in
+    let refused = ap is_accepted (sym at_open.open-opened.ensures.decided) ∙ sym c.accepted.ensures ∙ c.if-accepted.false in
     record {
-      decided = at_open.«open».ensures.decided ∙ sym (decide_stop (album_places a.head.now a.length a.wanted) _ refused);
-      album = at_open.«open».ensures.album;
+      decided = at_open.open-opened.ensures.decided ∙ sym (decide_stop (album_places a.head.now a.length a.wanted) _ refused);
+      album = at_open.open-opened.ensures.album;
     }
 
 pub ready_spec : {M : Type 1} → statement M
