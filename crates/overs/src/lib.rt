@@ -27,6 +27,7 @@ pub struct OverCount {
     pub next: Progress,
 }
 
+#[tactic(auto, unfolding(crate::specs::Overs::end_of, crate::specs::Overs::stands_at))]
 fn end_of(s: i32) -> End
     ensures { result ≡ overs.end_of s }
 {
@@ -97,6 +98,7 @@ fn longer(length: u64) -> u64
 }
 
 // 1 where the sample after so many is the third.
+#[tactic(auto, unfolding(crate::specs::Overs::third_after))]
 fn third(length: u64) -> u64
     ensures { result ≡ overs.third_after length }
 {
