@@ -3,14 +3,13 @@ use mathlib.Core.Path.{◌≡◌, refl, sym, ap, subst, ◌∙◌}
 use mathlib.Core.Bool.{Bool, true, false}
 use mathlib.Core.List.{List, []}
 use Prim.Native.Nat.{ℕ, ◌+◌, ◌-◌, ◌*◌, ◌≤◌, ◌<◌}
-use native.Mathlib.Nat.{add-zero}
 use native.Mathlib.Omega.{arith}
 use lib.Dec.{ltb}
 use lib.ListN.{length}
 use borrow.Author.Tests.{ltb-true, eqb-true, not-false}
 use Rattle.reference.specs.Frames.{Run, run, frame_length}
 use Rattle.reference.specs.Settings.{converter_of}
-use Rattle.reference.specs.Refusals.{rack, decide, decision, is_accepted, accepted, held_places, opening_places, lent_length, convert_places}
+use Rattle.reference.specs.Refusals.{rack, decide, decision, is_accepted, accepted, opening_places, lent_length, convert_places}
 use Rattle.reference.specs.Promises.{by_decision, ConvertPromise}
 use Rattle.reference.specs.Statistics.{no_stats}
 use Rattle.reference.specs.declared.Settings.{Settings}

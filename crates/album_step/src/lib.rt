@@ -1,5 +1,6 @@
 // A step of an album's conversion: frames out of a window of the file, converted with the frames next to them.
 #![tactic(auto)]
+
 ghost use Rattle.std.specs.Prelude.{◌≡◌};
 ghost use Rattle.album_gather.specs.Steps.{StepPromise, Stepped, window_run};
 ghost use Rattle.reference.specs.Output.{samples, stats, s24le};

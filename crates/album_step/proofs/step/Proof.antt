@@ -1,6 +1,6 @@
 -- `step` meets its contract.
 use mathlib.Core.Path.{◌≡◌, sym, ◌∙◌}
-use Prim.Native.Nat.{ℕ, ◌≤◌}
+use Prim.Native.Nat.{◌≤◌}
 use native.Mathlib.Omega.{arith}
 use borrow.Author.Rules.{rules}
 use lib.ListN.{length}
@@ -71,7 +71,7 @@ returns c =
     let t = then m in
     let x = (a t).args in
     stepped x.head.now x.length x.wanted x.first x.count x.window.now x.start x.before.now x.frames.now x.after.now x.out.now (taken t)
-    ((at_ready t).ready-ready.ensures.decided ∙ taken t) m.converter_of.result (is_converter m) k.work.ensures
+    ((at_ready t).ready-ready.ensures.decided ∙ taken t) m.converter_of-conv.result (is_converter m) k.work-stats.ensures
 
 returns-2 : tie.Need-returns
 returns-2 c =
