@@ -1,6 +1,5 @@
 -- `told` meets its contract.
 use mathlib.Core.Path.{refl}
-use native.Mathlib.Omega.{arith}
 use Rattle.level_stream.proofs.Buffers.{accepted_lines, accepted_clips, accepted_states}
 use Rattle.level_stream.proofs.frames.told.Goals as goal
 

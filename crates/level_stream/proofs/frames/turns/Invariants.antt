@@ -1,5 +1,5 @@
 -- `turns`: what is counted stays within its bounds, and the turns so far lead to the moment at hand.
-use Rattle.std.proofs.Common.{◌≡◌, ◌+◌, ◌*◌, ◌≤◌, length}
+use Rattle.std.proofs.Common.{◌+◌, ◌*◌, ◌≤◌}
 use Rattle.level_stream.specs.Buffers.{moment, Led}
 use Rattle.level_stream.proofs.frames.turns.Given as goal
 
