@@ -3,12 +3,12 @@
 #![tactic(auto)]
 
 mod albums;
-mod numbers;
+mod plan_numbers;
 mod steps;
 
 use std::io;
 
 fn main(rt: HostRuntime) -> io::Result<()> {
     albums::all(&rt)?;
-    numbers::all(&rt)
+    plan_numbers::all(&rt)
 }

@@ -5,9 +5,9 @@
 mod call;
 mod desk;
 mod document;
-mod filters;
 mod input;
-mod refusals;
+mod own_filters;
+mod refused;
 mod replay;
 mod row;
 
@@ -16,7 +16,7 @@ use std::io;
 fn main(rt: HostRuntime) -> io::Result<()> {
     replay::beside_rust(&rt)?;
     document::figures(&rt)?;
-    refusals::refusals(&rt)?;
+    refused::refusals(&rt)?;
     desk::desk(&rt)?;
-    filters::own(&rt)
+    own_filters::own(&rt)
 }

@@ -2,12 +2,12 @@
 #![tactic(auto)]
 
 mod cases;
-mod joins;
+mod joined;
 mod rows;
 
 use std::io;
 
 fn main(rt: HostRuntime) -> io::Result<()> {
     cases::all(&rt)?;
-    joins::all(&rt)
+    joined::all(&rt)
 }

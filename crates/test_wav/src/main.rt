@@ -4,12 +4,12 @@
 mod case;
 mod damaged;
 mod files;
-mod refusals;
+mod refused;
 
 use std::io;
 
 fn main(rt: HostRuntime) -> io::Result<()> {
     files::files(&rt)?;
     damaged::damaged(&rt)?;
-    refusals::refusals(&rt)
+    refused::refusals(&rt)
 }

@@ -2,8 +2,8 @@
 use Prim.Native.Nat.{◌-◌, ◌≤◌}
 use native.Mathlib.Omega.{arith}
 use borrow.Author.Rules.{rules}
-use Rattle.test_conversions.proofs.filters.count.Statement.{statement}
-use Rattle.test_conversions.proofs.filters.count.Tie as tie
+use Rattle.test_conversions.proofs.own_filters.count.Statement.{statement}
+use Rattle.test_conversions.proofs.own_filters.count.Tie as tie
 
 abbrev invariant-loop : tie.invariant-loop-i
 invariant-loop text yes₀ i₀ yes' i = i ≤ 240

@@ -4,8 +4,8 @@ use Prim.Native.Nat.{◌-◌, ◌≤◌}
 use native.Mathlib.Omega.{arith}
 use borrow.Author.Rules.{rules}
 use lib.ListN.{length, length-set}
-use Rattle.test_conversions.proofs.filters.taps.Statement.{statement}
-use Rattle.test_conversions.proofs.filters.taps.Tie as tie
+use Rattle.test_conversions.proofs.own_filters.taps.Statement.{statement}
+use Rattle.test_conversions.proofs.own_filters.taps.Tie as tie
 
 abbrev invariant-loop : tie.invariant-loop-k
 invariant-loop row made₀ k₀ made k = (k ≤ 117) × (length made ≡ 117)

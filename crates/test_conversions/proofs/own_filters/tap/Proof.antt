@@ -8,8 +8,8 @@ use mir.Syntax.{w32}
 use mir.Val.{SFits, to_z, of_z}
 use mir.Facts.{to_z-of_z, to_z_pos}
 use Rattle.numbers.proofs.Integers.{abs_neg, sfits_abs}
-use Rattle.test_conversions.proofs.filters.tap.Statement.{statement}
-use Rattle.test_conversions.proofs.filters.tap.Tie as tie
+use Rattle.test_conversions.proofs.own_filters.tap.Statement.{statement}
+use Rattle.test_conversions.proofs.own_filters.tap.Tie as tie
 
 minus : (n : ℕ) → nat_abs (pos 0 -ℤ pos n) ≡ n
 minus n = ap nat_abs (+ℤ_idl (neg_ℤ (pos n))) ∙ abs_neg (pos n)

@@ -4,8 +4,8 @@ use Prim.Native.Nat.{◌-◌, ◌/◌, ◌≤◌}
 use lib.ListN.{length}
 use native.Mathlib.Omega.{arith}
 use borrow.Author.Rules.{rules}
-use Rattle.test_conversions.proofs.refusals.count.Statement.{statement}
-use Rattle.test_conversions.proofs.refusals.count.Tie as tie
+use Rattle.test_conversions.proofs.refused.count.Statement.{statement}
+use Rattle.test_conversions.proofs.refused.count.Tie as tie
 
 abbrev invariant-loop : tie.invariant-loop-i
 invariant-loop question rows n₀ i₀ n i = (n ≤ i) × (i ≤ length rows / 9)

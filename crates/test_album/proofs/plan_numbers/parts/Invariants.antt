@@ -1,6 +1,6 @@
 -- `parts`: each turn leaves fewer cases.
 use Rattle.std.proofs.Common.{◌-◌, ◌≤◌}
-use Rattle.test_album.proofs.numbers.parts.Given as goal
+use Rattle.test_album.proofs.plan_numbers.parts.Given as goal
 
 abbrev pub invariant-loop-k : goal.invariant-loop-k
 invariant-loop-k g l = l.k ≤ l.n

@@ -3,8 +3,8 @@ use native.Mathlib.Omega.{arith}
 use borrow.Author.Rules.{rules}
 use Prim.Native.Nat.{◌-◌, ◌≤◌}
 use lib.ListN.{length}
-use Rattle.test_wav.proofs.refusals.kept.Statement.{statement}
-use Rattle.test_wav.proofs.refusals.kept.Tie as tie
+use Rattle.test_wav.proofs.refused.kept.Statement.{statement}
+use Rattle.test_wav.proofs.refused.kept.Tie as tie
 
 abbrev invariant-loop : tie.invariant-loop-k
 invariant-loop out k₀ k = k ≤ length out
