@@ -1,5 +1,6 @@
 // The converter's calls for C and Rust. None asks anything of its arguments: where they are not understood, a call answers 255 and writes nothing.
 #![tactic(auto)]
+
 ghost use Rattle.reference.specs.Promises.{PackPromise};
 ghost use Rattle.interface.specs.Settings.{c_settings, c_converter};
 ghost use Rattle.interface.specs.Told.{stat_lists};

@@ -50,7 +50,7 @@ returns c =
     let at-tell-opening = past.before in
     let at-settings = at-tell-opening.before.before.before.before.before in
     let told = at-tell-opening.tell_opening.ensures in
-    let made = at-tell-opening.before.before.before.before.«open» in
+    let made = at-tell-opening.before.before.before.before.open-made in
     let promise = rw at-settings.settings.ensures at made.ensures in
     worked (known at-settings.before) (record { made = made.result; promise = promise; told = told.0; written = told.1 })
 

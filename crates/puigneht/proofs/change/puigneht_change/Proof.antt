@@ -20,7 +20,7 @@ abbrev the_settings : tie.Start → CSettings
 the_settings s = c_settings s.args.rate s.args.cutoff s.args.channels s.args.gain.now s.args.own s.args.taps.now
 
 abbrev wanted : tie.Start → CChange
-wanted s = c_change s.args.wanted-rate s.args.wanted-cutoff s.args.wanted-gain.now
+wanted s = c_change s.args.wanted_rate s.args.wanted_cutoff s.args.wanted_gain.now
 
 abbrev asked : tie.Start → Bool
 asked s = known_change (wanted s) && open_understood (the_settings s) s.args.numbers.now s.args.«data».now s.args.decibels.now
@@ -49,11 +49,11 @@ fit c =
     open_lengths (the_settings s) s.args.numbers.now s.args.«data».now s.args.decibels.now (both_true (known_change (wanted s)) _ (known c)).1
 
 converter_requires : tie.Need-converter-conv-requires
-converter_requires c κs = let l = fit c.before in (l.0.floats, l.1)
+converter_requires c κs = let l = fit c in (l.0.floats, l.1)
 
 gain_of_requires : tie.Need-gain_of-gain-requires
 gain_of_requires c κs =
-    let taken = c.before.before.before.before in
+    let taken = c.before.before.before in
     let w = wanted (start taken.before) in
     two_floats w.rate w.cutoff (length w.gain) 0 (both_true (known_change w) _ (known taken)).0
 
@@ -66,7 +66,7 @@ held c = c.before.before.before.before
 
 tell_opening_requires : tie.Need-tell_opening-requires
 tell_opening_requires c κs =
-    let l = fit (held c.before.before.before).before.before in
+    let l = fit (held c.before.before.before).before in
     (l.1, l.0.told)
 
 -- the promise, over what the numbers stand for
@@ -81,8 +81,8 @@ returns c =
     let g = m.before in
     let told = at-tell.tell_opening.ensures in
     let promise =
-    as_read (held m).converter-conv.ensures g.before.before.rate_of.ensures g.before.cutoff_of.ensures g.gain_of.ensures m.change.result m.change.ensures in
-    worked (known (held m).before.before) (record { made = m.change.result; promise = promise; told = told.0; written = told.1 })
+    as_read (held m).converter-conv.ensures g.rate_of-rate.ensures g.cutoff_of-cutoff.ensures g.gain_of-gain.ensures m.change-made.result m.change-made.ensures in
+    worked (known (held m).before) (record { made = m.change-made.result; promise = promise; told = told.0; written = told.1 })
 
 returns-2 : tie.Need-returns
 returns-2 c =

@@ -14,14 +14,14 @@ abbrev first : tie.Start → StatLists
 first s = stat_lists s.args.clipped.now s.args.lowest.now s.args.highest.now s.args.empty.now
 
 abbrev second : tie.Start → StatLists
-second s = stat_lists s.args.more-clipped.now s.args.more-lowest.now s.args.more-highest.now s.args.more-empty.now
+second s = stat_lists s.args.more_clipped.now s.args.more_lowest.now s.args.more_highest.now s.args.more_empty.now
 
 -- what the test finds
 module _ (c : tie.After-both) where
   abbrev start : tie.Start
   start =
       let at-known = c.before.before in
-      let at-lent = at-known.before.before.before.before in
+      let at-lent = at-known.before.before.before.before.before in
       at-lent
 
   found : c.both.result ≡ (known_stats (first start) && known_stats (second start))
@@ -31,19 +31,17 @@ module _ (c : tie.After-both) where
   both_hold e = (and-eq-true_iff (known_stats (first start)) (known_stats (second start))).0 (sym found ∙ e)
 
 held_stats_requires : tie.Need-held_stats-a-requires
-held_stats_requires c κs =
-    let at-if1 = c.before.before.before.before in
-    known_six (first (start at-if1.before)) (both_hold at-if1.before at-if1.if-both.true).0
+held_stats_requires c κs = known_six (first (start c.before)) (both_hold c.before c.if-both.true).0
 
 held_stats_requires_2 : tie.Need-held_stats-b-requires
 held_stats_requires_2 c κs =
-    let at-if1 = c.before.before.before.before.before in
+    let at-if1 = c.before in
     known_six (second (start at-if1.before)) (both_hold at-if1.before at-if1.if-both.true).1
 
 put_stats_requires : tie.Need-put_stats-requires
 put_stats_requires c κs =
     let at_join = c.before.before.before.before in
-    let at-if1 = at_join.before.before.before.before.before.before.before in
+    let at-if1 = at_join.before.before.before in
     known_six (first (start at-if1.before)) (both_hold at-if1.before at-if1.if-both.true).0
 
 returns : tie.Need-returns-then-both
@@ -52,7 +50,7 @@ returns c =
     let at_join = at-put.before.before.before.before.before in
     let at_second = at_join.before in
     let at_first = at_second.before in
-    let at-if1 = at_first.before.before.before.before.before in
+    let at-if1 = at_first.before in
     let e = at_join.join_stats-joined.ensures ∙ ap₂ joined_stats at_first.held_stats-a.ensures at_second.held_stats-b.ensures in
     worked (sym (found at-if1.before) ∙ at-if1.if-both.true) (record { told = refl; written = at-put.put_stats.ensures ∙ ap told_stats e })
 

@@ -24,10 +24,10 @@ returns : tie.Need-returns-then-told-eq4
 returns c =
     let t = told c in
     let d = t.before.before in
-    let made = d.before.read in
+    let made = d.read-made in
     let old = (understood d).before.before.before.args.told.now in
-    worked (eq-eqb _ _ (understood d).if-told-eq4.taken)
-    (record { made = made.result; promise = made.ensures; number = t.tell-file.ensures.0; written = t.tell-file.ensures.1 ∙ ap (λ (l : List ℕ). read_numbers made.result (length l) old) d.samples_of.ensures })
+    worked (eq-eqb _ _ (understood d).if-told-eq4.true)
+    (record { made = made.result; promise = made.ensures; number = t.tell_file.ensures.0; written = t.tell_file.ensures.1 ∙ ap (λ (l : List ℕ). read_numbers made.result (length l) old) d.samples_of-n.ensures })
 
 returns-2 : tie.Need-returns
 returns-2 c = turned_away (ne_eqb _ _ c.if-told-eq4.false) refl

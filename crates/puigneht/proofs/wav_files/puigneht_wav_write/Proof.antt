@@ -27,12 +27,12 @@ returns c =
     let p = c.before.before in
     let t = told p in
     let w = done t in
-    worked (eq-eqb _ _ (understood w).if-data-eq2.taken)
+    worked (eq-eqb _ _ (understood w).if-data-eq2.true)
     (record {
-      made = w.written.result;
-      promise = w.written.ensures;
-      number = ap (λ (r : Report). r.number) t.of-verdict.ensures;
-      numbers = p.put_two.ensures ∙ ap (λ (r : Report). r.first ∷ r.second ∷ []) t.of-verdict.ensures;
+      made = w.written-verdict.result;
+      promise = w.written-verdict.ensures;
+      number = ap (λ (r : Report). r.number) t.of_verdict-report.ensures;
+      numbers = p.put_two.ensures ∙ ap (λ (r : Report). r.first ∷ r.second ∷ []) t.of_verdict-report.ensures;
     })
 
 returns-2 : tie.Need-returns

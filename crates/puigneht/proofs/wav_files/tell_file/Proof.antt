@@ -14,7 +14,7 @@ returns : tie.Need-returns-in-Wav
 returns c =
     let m = c.before.before in
     let s = start m.before in
-    rw (m.in-Wav.is, ← c.hertz.ensures) (refl, four_set s.args.told.now _ _ _ _ s.pre)
+    rw (m.in-Wav.is, ← c.hertz.ensures) (refl, four_set s.args.told.now _ _ _ _ s.requires)
 
 returns-2 : tie.Need-returns-in-Refused
 returns-2 c = rw c.in-Refused.is (ap (λ (r : Report). r.number) c.of_error-report.ensures, refl)

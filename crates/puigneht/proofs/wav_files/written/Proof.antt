@@ -24,7 +24,7 @@ returns c =
     let t = known w in
     let h = t.before in
     let a = (start h.before).args in
-    of_known_rate a.rate a.channels a.bytes.now a.out.now (eq-eqb _ _ (sym (number h) ∙ t.if1.taken)) h.before.rate_of.result h.before.rate_of.ensures _ w.write.result w.write.ensures
+    of_known_rate a.rate a.channels a.bytes.now a.out.now (eq-eqb _ _ (sym (number h) ∙ t.if-hertz-rate.true)) h.rate_of-known.result h.rate_of-known.ensures _ w.write.result w.write.ensures
 
 returns-2 : tie.Need-returns
 returns-2 c =
