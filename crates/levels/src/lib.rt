@@ -102,6 +102,7 @@ fn extremes_of(samples: &[i32], ch: usize, c: usize) -> Extremes
 }
 
 // Overs of channel c from what is in progress before it: none where its lowest and highest sample lie between the ends of full scale.
+#[tactic(auto, using(crate::proofs::Quiet::quiet_channel))]
 fn overs_of(samples: &[i32], ch: usize, c: usize, e: Extremes, p: Progress) -> OverCount
     requires c_lt_ch { (c < ch) × (ch ≤ length samples.now) × (length samples.now ≡ length samples.now / ch * ch) }
     requires low_value { e.low ≡ extremes.extreme extremes.lesser (λ n. get_or samples.now (n * ch + c) (pos 0)) 0 (length samples.now / ch) }

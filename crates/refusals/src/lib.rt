@@ -178,6 +178,7 @@ fn few(whose: Limit, count: usize) -> Verdict
 }
 
 // Run length, before, after.
+#[tactic(auto, using(crate::proofs::Inputs::some_size, crate::proofs::Inputs::part_frame, crate::proofs::Inputs::too_long, crate::proofs::Inputs::long_before, crate::proofs::Inputs::long_after, crate::proofs::Inputs::right_input))]
 pub fn input(
     whose: Limit,
     conv: Converter,

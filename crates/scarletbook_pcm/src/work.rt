@@ -8,6 +8,7 @@ ghost use Rattle.scarletbook_pcm.specs.Calls.{AcceptedCall};
 use reference::{ConvertStats, Converter};
 
 // A neighbour's slice, or an empty part of it where the neighbour is absent.
+#[tactic(auto, unfolding(crate::specs::Calls::present))]
 fn present<'a>(there: bool, bytes: &'a [u8]) -> &'a [u8]
     ensures { result.now ≡ calls.present there bytes.now }
 {
