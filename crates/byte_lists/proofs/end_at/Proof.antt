@@ -18,14 +18,9 @@ decreases-loop text at end k₀ k = length text - k
 loop-holds : tie.Need-loop-k-init invariant-loop decreases-loop
 loop-holds c = (omega arith, omega arith, λ i l m e. omega arith)
 
-returns : tie.Need-returns-then-text-k invariant-loop decreases-loop
-returns c =
-    let l = c.loop-k in
-    record { from = l.invariant.0; within = l.invariant.1; none_before = l.invariant.2; holds = λ h. c.if-text-k.true }
-
 loop-again : tie.Need-loop-k-preserved invariant-loop decreases-loop
 loop-again c = let l = c.loop-k in
-    (omega arith, omega arith, λ i p m e. ⊎_elim (λ q. l.invariant.2 i p q e) (λ q. let s : i ≡ l.k = omega arith in c.if-text-k.false (rw s at e)) (below_or i l.k))
+    (omega arith, omega arith, λ i p m e. ⊎_elim (λ q. l.invariant.2 i p q e) (λ q. let s : i ≡ l.k = omega arith in let f = rw s at e in omega arith) (below_or i l.k))
 
 returns-2 : tie.Need-returns invariant-loop decreases-loop
 returns-2 c = let l = c.loop-k in
@@ -39,7 +34,7 @@ end_at_spec =
     decreases-loop
     loop-holds
     (λ c. search rules)
-    returns
+    (λ c. let l = c.loop-k in record { from = l.invariant.0; within = l.invariant.1; none_before = l.invariant.2; holds = λ h. omega arith })
     (λ c. search rules)
     (λ c. search rules)
     loop-again

@@ -28,14 +28,8 @@ loop-holds : tie.Need-loop-b-init invariant-loop decreases-loop
 unfolding total
 loop-holds c = (omega arith, refl, omega arith, known c.before.before)
 
-mul_place : tie.Need-offset_bounds-dues-b invariant-loop decreases-loop
-mul_place c = omega (arith, c.loop-b.invariant.3.few)
-
 place_requires : tie.Need-place-requires invariant-loop decreases-loop
 place_requires c κs = let r = c.loop-b.invariant.3 in (omega (arith, r.album c.loop-b.b (omega arith)), omega (arith, r.few))
-
-mul_place_2 : tie.Need-offset_bounds-dues-a invariant-loop decreases-loop
-mul_place_2 c = omega (arith, c.loop-b.invariant.3.few)
 
 place_requires_2 : tie.Need-place-requires-in-loop-b invariant-loop decreases-loop
 place_requires_2 c κs =
@@ -78,10 +72,10 @@ finish_spec =
     invariant-loop
     decreases-loop
     loop-holds
-    mul_place
+    (λ c. omega (arith, c.loop-b.invariant.3.few))
     (λ c. search rules)
     place_requires
-    mul_place_2
+    (λ c. omega (arith, c.loop-b.invariant.3.few))
     (λ c. search rules)
     place_requires_2
     (λ c. search rules)

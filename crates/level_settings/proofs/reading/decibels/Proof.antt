@@ -32,19 +32,13 @@ returns-3 c =
     rw (negated_is c.number-m.result (omega arith))
     (minus s.args.text.now (left at-skip.skip-k.ensures c.if-k-gt0.true) c.number-m.ensures (pos_of_ne-zero c.if-m-eq0.false) c.if-m-gt120.false)
 
-returns-4 : tie.Need-returns-then-n-gt24
-returns-4 c =
-    let at-skip = c.before.before.before in
-    let s = at-skip.before.before.before in
-    no_plus s.args.text.now (at-skip.skip-k.ensures.refuses c.if-k-gt0.false) c.number-n.ensures c.if-n-gt24.true
-
 returns-5 : tie.Need-returns
 returns-5 c =
     let at-skip = c.before.before.before in
     let s = at-skip.before.before.before in
     let small : c.number-n.result < 2147483648 = omega arith in
     rw (to_z_pos w32 small)
-    (plus s.args.text.now (at-skip.skip-k.ensures.refuses c.if-k-gt0.false) c.number-n.ensures c.if-n-gt24.false)
+    (plus s.args.text.now (at-skip.skip-k.ensures.refuses c.if-k-gt0.false) c.number-n.ensures (omega arith))
 
 pub decibels_spec : {M : Type 1} → statement M
 decibels_spec =
@@ -61,6 +55,6 @@ decibels_spec =
     sub_result
     returns-3
     (λ c κs. search rules)
-    returns-4
+    (λ c. no_plus c.args.text.now (c.skip-k.ensures.refuses c.if-k-gt0.false) c.number-n.ensures (omega arith))
     (λ c. search rules)
     returns-5)

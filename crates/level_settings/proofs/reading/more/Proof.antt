@@ -1,5 +1,4 @@
 -- `more` meets its contract.
-use native.Mathlib.Nat.{pos_of_ne-zero}
 use native.Mathlib.Omega.{arith}
 use borrow.Author.Rules.{rules}
 use Rattle.level_settings.proofs.Digits as digits
@@ -9,15 +8,12 @@ use Rattle.level_settings.proofs.reading.more.Tie as tie
 returns : tie.Need-returns-then-d-gt9
 returns c = λ t h r. digits.no_more h r c.first-d.ensures (λ l p q. omega arith)
 
-returns-2 : tie.Need-returns-then-n-eq0
-returns-2 c = λ t h r. digits.no_more h r c.first-d.ensures (λ l p q. omega arith)
-
 returns-3 : tie.Need-returns-then-n-gt99
 returns-3 c = λ t h r. digits.no_more h r c.first-d.ensures (λ l p q. omega arith)
 
 returns-4 : tie.Need-returns
-returns-4 c = λ t h r. digits.more h r c.first-d.ensures (omega arith) (pos_of_ne-zero c.if-n-eq0.false) (omega arith)
+returns-4 c = λ t h r. digits.more h r c.first-d.ensures (omega arith) (omega arith) (omega arith)
 
 pub more_spec : {M : Type 1} → statement M
 more_spec =
-    tie.close (tie.spec (λ c κs. search rules) returns returns-2 returns-3 (λ c. search rules) (λ c. search rules) returns-4)
+    tie.close (tie.spec (λ c κs. search rules) returns (λ c. λ t h r. digits.no_more h r c.first-d.ensures (λ l p q. omega arith)) returns-3 (λ c. search rules) (λ c. search rules) returns-4)
