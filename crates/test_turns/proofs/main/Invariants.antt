@@ -1,5 +1,5 @@
 -- `main`: it has counted at most one for each board.
-use Rattle.std.proofs.Common.{◌-◌, ◌≤◌, ◌×◌}
+use Rattle.std.proofs.Common.{◌-◌, ◌≤◌}
 use Rattle.test_turns.proofs.main.Given as goal
 
 abbrev pub invariant-loop-k : goal.invariant-loop-k
