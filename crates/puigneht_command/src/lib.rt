@@ -1,6 +1,7 @@
 // The command's calls for C. None asks anything of its arguments: where a list of fixed length has another, or a rate or a cutoff is unknown,
 // a call answers 255 and writes nothing.
 #![tactic(auto)]
+
 ghost use Rattle.std.specs.Prelude.{◌≡◌};
 ghost use Rattle.puigneht_command.specs.Calls as calls;
 ghost use Rattle.interface.specs.Told.{stat_lists};

@@ -52,9 +52,9 @@ returns c =
     let a = (start then1.before).args in
     let w = wanted a.rate a.cutoff a.db in
     let is : want.wanted.result ≡ w = want.wanted.ensures ∙ rw (to_z-of_z (start then1.before).ranges.db) refl in
-    let promise : AlbumPromise a.head.now a.length w opened.«open».result = subst (λ (x : Wanted). AlbumPromise a.head.now a.length x opened.«open».result) is opened.«open».ensures in
+    let promise : AlbumPromise a.head.now a.length w opened.open-opened.result = subst (λ (x : Wanted). AlbumPromise a.head.now a.length x opened.open-opened.result) is opened.open-opened.ensures in
     done_so (known then1)
-    (open_done a.head.now a.length w opened.«open».result promise said.said_of-told.result told.tell_album-number.ensures.0 told.tell_album-number.ensures.1
+    (open_done a.head.now a.length w opened.open-opened.result promise said.said_of-told.result told.tell_album-number.ensures.0 told.tell_album-number.ensures.1
     (said.said_of-told.ensures ∙ ap (λ (r : PcmRate). said_of a.head.now a.length r told.tell_album-number.result) named.rate_of.ensures) put.put_two.ensures)
 
 returns-2 : tie.Need-returns

@@ -62,7 +62,7 @@ returns c =
     let a = s.args in
     let made = at-step.step-made in
     let w = wanted a.rate a.cutoff a.db in
-    let is : want.wanted.result ≡ w = want.wanted.ensures ∙ rw (to_z-of_z s.fits.db) refl in
+    let is : want.wanted.result ≡ w = want.wanted.ensures ∙ rw (to_z-of_z s.ranges.db) refl in
     done_so (known (then at-step)) (record {
       made = made.result;
       promise = rw is at made.ensures;
