@@ -24,9 +24,6 @@ loop-holds c = (omega arith, refl)
 shared_slice_read_if2 : tie.Need-bounds-list-k invariant-loop decreases-loop
 shared_slice_read_if2 c = omega arith
 
-shared_slice_read_if2_2 : tie.Need-bounds-this-k invariant-loop decreases-loop
-shared_slice_read_if2_2 c = omega arith
-
 returns-2 : tie.Need-returns-then-list-k invariant-loop decreases-loop
 returns-2 c =
     let at-loop = c.before.before.before.before in
@@ -65,7 +62,7 @@ is_spec =
     returns
     loop-holds
     shared_slice_read_if2
-    shared_slice_read_if2_2
+    (λ c. omega arith)
     returns-2
     add_k
     loop-less
