@@ -58,6 +58,6 @@ window_frame head f window start = data_frame (window_data window start) (channe
 abbrev pub WindowPromise : List ℕ → ℕ → ℕ → List ℕ → ℕ → List ℕ → List ℕ → Verdict → Type 0
 WindowPromise head n f window start out = Framed (window_places head n f start (length window) (length out)) (window_frame head f window start) out
 
--- the file has the window's bytes: of every such file the window's frame is the file's (proofs/Asked, `window-right`)
+-- the file has the window's bytes: of every such file the window's frame is the file's (proofs/Asked, `window_right`)
 pub record WindowOf (file window : List ℕ) (start : ℕ) : Type 0 where
   pub holds : (i : ℕ) → i < length window → get_or window i 0 ≡ file_data file (start + i)

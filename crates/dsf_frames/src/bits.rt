@@ -23,6 +23,7 @@ fn turn(x: u8) -> u8
 }
 
 // A byte of a file in our bit order.
+#[tactic(auto, unfolding(dsf::specs::Dsf::our_byte))]
 fn ours(bits: u64, x: u8) -> u8
     ensures { result ≡ our_byte bits x }
 {

@@ -47,6 +47,7 @@ fn groups(channels: u64, samples: u64, f: u64) -> FrameWindow
 }
 
 // What a program that reads a file in pieces reads for a frame.
+#[tactic(auto, using(crate::proofs::Asked::window_is), unfolding(crate::specs::Reading::frame_window, dsf::specs::Dsf::frames_in))]
 pub fn window(channels: u64, samples: u64, frame: u64) -> FrameWindow
     ensures { result ≡ frame_window channels samples frame }
 {

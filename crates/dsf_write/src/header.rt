@@ -69,6 +69,7 @@ pub fn put_header(kind: u8, channels: u8, stated: u64, samples: u64, size: u64, 
 }
 
 // The channel type that is written.
+#[tactic(auto, unfolding(crate::specs::Written::type_of))]
 pub fn kind_of(channels: u8) -> u8
     requires { channels ≤ 6 }
     ensures { result ≡ type_of channels }

@@ -155,6 +155,7 @@ pub fn tell_gain(made: FromDb, gain: &mut [f64], decibels: &mut [f64]) -> u8
 }
 
 // A conversion's number is answered, its data and decibels written, and its statistics where it was accepted.
+#[tactic(auto, using(reference::proofs::Promises::exit_refused, reference::proofs::Refusals::error_refuses), unfolding(reference::specs::Promises::by_decision))]
 pub fn tell_conversion(
     made: Converted,
     clipped: &mut [u64],

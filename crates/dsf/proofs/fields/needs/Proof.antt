@@ -1,4 +1,4 @@
--- `rules` meets its contract.
+-- `needs` meets its contract.
 use mathlib.Core.Path.{ap₂, ◌∙◌}
 use native.Mathlib.Omega.{arith}
 use borrow.Author.Rules.{rules}

@@ -1,5 +1,5 @@
 -- `later` meets its contract.
-use mathlib.Core.Path.{◌≡◌, sym, ap, ap₂, ◌∙◌}
+use mathlib.Core.Path.{◌≡◌, ap, ap₂, ◌∙◌}
 use mathlib.Core.List.{List}
 use mathlib.Core.Bool.{Bool, ◌&&◌}
 use Prim.Native.Nat.{ℕ, ◌+◌, ◌%◌}
@@ -43,21 +43,6 @@ lengths_are c =
     ∙ ap (λ (v : Bool). eqb stated.result (total c) && v) c.both.ensures
     ∙ ends_is (head c) (total c) (ap (λ (s : ℕ). eqb s (total c)) stated.ensures) size (ap (λ (k : ℕ). leb (92 + k) (total c)) need)
 
-returns : tie.Need-returns-then-lengths
-returns c =
-    let t = c.before.before in
-    all_right (head t) (total t) (start t).requires.0 (start t).requires.1 (sym (format_is t) ∙ c.if-format.true) (sym (lengths_are t) ∙ c.if-lengths.true)
-
-returns-2 : tie.Need-returns-then-format
-returns-2 c =
-    let t = c.before.before in
-    wrong_eleven (head t) (total t) (start t).requires.0 (start t).requires.1 (sym (format_is t) ∙ c.if-format.true) (sym (lengths_are t) ∙ c.if-lengths.false)
-
-returns-3 : tie.Need-returns
-returns-3 c =
-    let t = c.before in
-    wrong_ten (head t) (total t) (start t).requires.0 (start t).requires.1 (sym (format_is t) ∙ c.if-format.false)
-
 pub later_spec : {M : Type 1} → statement M
 later_spec =
     tie.close
@@ -72,6 +57,6 @@ later_spec =
     (λ c κs. search rules)
     (λ c κs. search rules)
     (λ c κs. search rules)
-    returns
-    returns-2
-    returns-3)
+    (λ c. let t = c.before.before in all_right (head t) (total t) (start t).requires.0 (start t).requires.1 (cc (format_is t)) (cc (lengths_are t)))
+    (λ c. let t = c.before.before in wrong_eleven (head t) (total t) (start t).requires.0 (start t).requires.1 (cc (format_is t)) (cc (lengths_are t)))
+    (λ c. let t = c.before in wrong_ten (head t) (total t) (start t).requires.0 (start t).requires.1 (cc (format_is t))))

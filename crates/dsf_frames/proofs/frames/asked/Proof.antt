@@ -18,13 +18,6 @@ returns c = no_frame _ _ _ _ _ _ c.if-samples-frame.true
 groups_requires : tie.Need-groups-held-requires
 groups_requires c κs = (c.requires, omega arith)
 
-returns-2 : tie.Need-returns-then-from-start
-unfolding frames_in
-returns-2 c =
-    let a = c.args in
-    let late : window_start a.channels a.frame < a.start = rw (← c.groups-held.ensures.0) c.if-from-start.true in
-    begins_late a.channels a.samples a.frame a.start a.size a.room c.if-samples-frame.false late
-
 mul_expected : tie.Need-overflow_mul-expected
 mul_expected c = omega arith
 
@@ -33,7 +26,7 @@ unfolding frames_in
 returns-3 c =
     let held = c.before.before.before.before in
     let a = held.args in
-    let begins : a.start ≤ window_start a.channels a.frame = rw (← held.groups-held.ensures.0) c.if-from-start.false in
+    let begins : a.start ≤ window_start a.channels a.frame = omega (arith, c.groups-held.ensures.0) in
     let covers : leb (window_end a.channels a.samples a.frame) (a.start + a.size) ≡ true = rw (← held.groups-held.ensures.1) (sym c.reaches.ensures ∙ c.if-reaches.true) in
     wrong_room a.channels a.samples a.frame a.start a.size a.room held.if-samples-frame.false begins covers c.if-room-expected.true
 
@@ -42,7 +35,7 @@ unfolding frames_in
 returns-4 c =
     let held = c.before.before.before.before in
     let a = held.args in
-    let begins : a.start ≤ window_start a.channels a.frame = rw (← held.groups-held.ensures.0) c.if-from-start.false in
+    let begins : a.start ≤ window_start a.channels a.frame = omega (arith, c.groups-held.ensures.0) in
     let covers : leb (window_end a.channels a.samples a.frame) (a.start + a.size) ≡ true = rw (← held.groups-held.ensures.1) (sym c.reaches.ensures ∙ c.if-reaches.true) in
     fits a.channels a.samples a.frame a.start a.size a.room held.if-samples-frame.false begins covers c.if-room-expected.false
 
@@ -51,18 +44,22 @@ unfolding frames_in
 returns-5 c =
     let held = c.before.before.before in
     let a = held.args in
-    let begins : a.start ≤ window_start a.channels a.frame = rw (← held.groups-held.ensures.0) c.if-from-start.false in
+    let begins : a.start ≤ window_start a.channels a.frame = omega (arith, c.groups-held.ensures.0) in
     let covers : leb (window_end a.channels a.samples a.frame) (a.start + a.size) ≡ false = rw (← held.groups-held.ensures.1) (sym c.reaches.ensures ∙ c.if-reaches.false) in
     ends_early a.channels a.samples a.frame a.start a.size a.room held.if-samples-frame.false begins covers
 
 pub asked_spec : {M : Type 1} → statement M
+unfolding frames_in
 asked_spec =
     tie.close
     (tie.spec
     (λ c. search rules)
     returns
     groups_requires
-    returns-2
+    (λ c.
+    let a = c.args in
+    let late : window_start a.channels a.frame < a.start = omega (arith, c.groups-held.ensures.0) in
+    begins_late a.channels a.samples a.frame a.start a.size a.room c.if-samples-frame.false late)
     (λ c κs. search rules)
     mul_expected
     returns-3
