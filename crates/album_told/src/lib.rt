@@ -67,6 +67,7 @@ fn frames_of(samples: u64) -> u64
 }
 
 // The numbers that the sentence of a refusal tells of a file, from its first bytes and its length.
+#[tactic(auto, unfolding(crate::specs::Told::said_of, dsf::specs::Dsf::stated_length, dsf::specs::Dsf::channels, dsf::specs::Dsf::samples, dsf::specs::Dsf::frames))]
 pub fn said_of(head: &[u8], length: u64, rate: PcmRate, number: u8) -> Said
     ensures { result ≡ told.said_of head.now «length» rate number }
 {

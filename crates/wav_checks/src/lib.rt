@@ -9,6 +9,7 @@ ghost use Rattle.wav_checks.specs.Places.{too_large, wav_places};
 use reference::{Converter, Limit, PcmError, Verdict};
 
 // Channels and data that a header can tell.
+#[tactic(auto, using(reference::proofs::Refusals::at_first, reference::proofs::Refusals::at_next, reference::proofs::Refusals::at_end), unfolding(crate::specs::Places::too_large))]
 pub fn told(channels: u8, n: usize) -> Verdict
     ensures { decision result ≡ decide (too_large channels n ∷ []) }
 {
