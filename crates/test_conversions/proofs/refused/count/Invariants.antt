@@ -1,5 +1,5 @@
 -- `count`: at turn i it has counted at most i.
-use Rattle.std.proofs.Common.{length, ◌-◌, ◌≤◌, ◌/◌, ◌×◌}
+use Rattle.std.proofs.Common.{length, ◌-◌, ◌≤◌, ◌/◌}
 use Rattle.test_conversions.proofs.refused.count.Given as goal
 
 abbrev pub invariant-loop-i : goal.invariant-loop-i
