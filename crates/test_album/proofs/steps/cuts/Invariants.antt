@@ -1,5 +1,5 @@
 -- `cuts`: each turn leaves less to do, and the lists keep their lengths.
-use Rattle.std.proofs.Common.{length, ◌-◌, ◌≤◌, ◌×◌, ◌≡◌}
+use Rattle.std.proofs.Common.{length, ◌-◌, ◌≤◌, ◌≡◌}
 use Rattle.test_album.proofs.steps.cuts.Given as goal
 
 abbrev pub invariant-loop-k : goal.invariant-loop-k

@@ -1,5 +1,5 @@
 -- `jobs`: each turn leaves less to do, and the lists keep their lengths.
-use Rattle.std.proofs.Common.{length, ◌-◌, ◌≤◌, ◌×◌, ◌≡◌}
+use Rattle.std.proofs.Common.{length, ◌-◌, ◌≤◌, ◌≡◌}
 use Rattle.test_album.proofs.steps.jobs.Given as goal
 
 abbrev pub invariant-loop-j : goal.invariant-loop-j
