@@ -8,7 +8,6 @@
 VERSION = 0.1.0
 PREFIX = /usr/local
 DESTDIR =
-
 CC = cc
 CFLAGS = -std=c17 -O2 -Wall -Wextra -Werror
 CPPFLAGS = -Iinclude -Icommand
