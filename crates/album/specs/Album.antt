@@ -1,10 +1,10 @@
 -- An album: a DSF file that can be a WAV file, as what is wanted of it says.
-use Rattle.std.specs.Prelude.{◌≡◌, ℕ, ◌+◌, ◌-◌, ◌*◌, ◌/◌, ◌≤◌, false, List, [], ◌∷◌, ◌++◌, length, ℤ}
+use Rattle.std.specs.Prelude.{◌≡◌, Result, IfOk, ℕ, ◌+◌, ◌-◌, ◌*◌, ◌/◌, ◌≤◌, None, List, [], ◌∷◌, ◌++◌, length, ℤ}
 use Rattle.std.specs.Float.Ieee.{of_int}
 use Rattle.std.specs.Float.{binary64}
 use Rattle.reference.specs.Frames.{frame_bytes}
 use Rattle.reference.specs.Scaling.{db_to_linear}
-use Rattle.reference.specs.Settings.{built_in, converter_of}
+use Rattle.reference.specs.Settings.{converter_of}
 use Rattle.reference.specs.Refusals.{Place, decide, decision, opening_places, too_many, rack, lent_length}
 use Rattle.reference.specs.Promises.{by_decision}
 use Rattle.reference.specs.declared.PcmRate.{PcmRate}
@@ -12,7 +12,7 @@ use Rattle.reference.specs.declared.Cutoff.{Cutoff}
 use Rattle.reference.specs.declared.Gain.{Gain}
 use Rattle.reference.specs.declared.Settings.{Settings}
 use Rattle.reference.specs.declared.Converter.{Converter}
-use Rattle.reference.specs.declared.Verdict.{Verdict}
+use Rattle.reference.specs.declared.PcmError.{PcmError}
 use Rattle.dsf.specs.Dsf.{channels, samples, frames, frames_in}
 use Rattle.dsf.specs.Reading.{header_places}
 use Rattle.interface.specs.Codes.{hertz}
@@ -21,7 +21,6 @@ use Rattle.wav_format.specs.Wav.{frame_size}
 use Rattle.wav_checks.specs.Places.{too_large}
 use Rattle.album.specs.declared.Wanted.{Wanted}
 use Rattle.album.specs.declared.Album.{Album}
-use Rattle.album.specs.declared.Opened.{Opened}
 
 -- ---- settings
 
@@ -37,7 +36,7 @@ wanted_of rate cutoff z = record { rate = rate; cutoff = cutoff; gain = whole_ga
 
 -- the filter is the built-in one
 abbrev pub settings_for : Wanted → ℕ → Settings
-settings_for w n = record { rate = w.rate; cutoff = w.cutoff; channels = n; gain = w.gain; own = false; filter = built_in }
+settings_for w n = record { rate = w.rate; cutoff = w.cutoff; channels = n; gain = w.gain; filter = None }
 
 -- the converter of an album
 abbrev pub album_converter : Wanted → List ℕ → Converter
@@ -74,20 +73,17 @@ album_of rate n s =
       pieces = pieces f;
     }
 
-unfoldable pub no_album : Album
-no_album = record { channels = 0; samples = 0; frames = 0; bytes = 0; frame = 0; filled = 0; pieces = 0 }
-
 -- what opening promises, from a file's first bytes and its length
-pub record AlbumPromise (head : List ℕ) (n : ℕ) (w : Wanted) (answer : Opened) : Type 0 where
-  pub decided : decision answer.verdict ≡ decide (album_places head n w)
-  pub album : answer.album ≡ by_decision (decide (album_places head n w)) (album_of w.rate (channels head) (samples head)) no_album
+pub record AlbumPromise (head : List ℕ) (n : ℕ) (w : Wanted) (answer : Result Album PcmError) : Type 0 where
+  pub decided : decision answer ≡ decide (album_places head n w)
+  pub album : IfOk answer (λ a. a ≡ album_of w.rate (channels head) (samples head))
 
 -- ---- the WAV file's header, of so many bytes of data: 12, then 7
 
 unfoldable pub head_places : ℕ → ℕ → ℕ → List Place
 head_places n bytes room = too_large n bytes ∷ lent_length 7 room 44 ∷ []
 
-pub record HeaderPromise (rate : PcmRate) (n bytes : ℕ) (out out' : List ℕ) (answer : Verdict) : Type 0 where
+pub record HeaderPromise (rate : PcmRate) (n bytes : ℕ) (out out' : List ℕ) (answer : Result (Unit {0}) PcmError) : Type 0 where
   pub decided : decision answer ≡ decide (head_places n bytes (length out))
   pub written : out' ≡ by_decision (decide (head_places n bytes (length out))) (wav.header (hertz rate) n bytes) out
 

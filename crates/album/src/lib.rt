@@ -1,16 +1,15 @@
 // A DSF album as a WAV file: whether it can be one, and its numbers. The definitions are in specs/.
 #![tactic(auto)]
 
-ghost use Rattle.std.specs.Prelude.{◌≡◌, ◌*◌, ◌≤◌, [], ◌∷◌, ◌++◌};
-ghost use Rattle.reference.specs.Refusals.{decision, decide, opening_places, too_many, rack};
+ghost use Rattle.std.specs.Prelude.{◌≡◌, ◌*◌, ◌≤◌, [], ◌∷◌};
+ghost use Rattle.reference.specs.Refusals.{decision, decide, too_many, rack};
 ghost use Rattle.wav_format.specs.Wav as wav;
 ghost use Rattle.wav_checks.specs.Places.{too_large};
-ghost use Rattle.dsf.specs.Reading.{file_header};
 ghost use Rattle.album.specs.Album as albums;
 ghost use Rattle.album.specs.Album.{settings_for, later_places, AlbumPromise, HeaderPromise};
 
 use dsf::DsfHeader;
-use reference::{Cutoff, Gain, PcmError, PcmRate, Settings, Verdict};
+use reference::{Cutoff, Gain, MOST_FRAMES, PcmError, PcmRate, Settings};
 
 // What is asked of an album: opening's settings, but for the channels, which are the file's.
 #[derive(Clone, Copy)]
@@ -33,152 +32,112 @@ pub struct Album {
     pub pieces: u64,
 }
 
-// A refused album's numbers are 0.
-#[derive(Clone, Copy)]
-pub struct Opened {
-    pub verdict: Verdict,
-    pub album: Album,
-}
-
 // The gain record of whole decibels, in range or not.
+#[tactic(auto, using(numbers::proofs::Machine::wide_fits, numbers::proofs::Machine::wide_is), unfolding(crate::specs::Album::whole_gain))]
 fn whole_gain(db: i32) -> Gain
     ensures { result ≡ albums.whole_gain db }
 {
     let db = std::num::nearest_i64_to_f64(db as i64);
-    let linear = gain::db_to_linear(db);
-    Gain { db, linear }
+    Gain {
+        db,
+        linear: gain::db_to_linear(db),
+    }
 }
 
 // What is wanted, by rate, cutoff and whole decibels.
 pub fn wanted_of(rate: PcmRate, cutoff: Cutoff, db: i32) -> Wanted
     ensures { result ≡ albums.wanted_of rate cutoff db }
 {
-    let gain = whole_gain(db);
-    Wanted { rate, cutoff, gain }
+    Wanted {
+        rate,
+        cutoff,
+        gain: whole_gain(db),
+    }
 }
 
 // Opening's settings, with the file's channels.
 pub fn settings(wanted: Wanted, channels: u8) -> Settings
     ensures { result ≡ settings_for wanted channels }
 {
-    let rate = wanted.rate;
-    let cutoff = wanted.cutoff;
-    let gain = wanted.gain;
-    let filter = reference::built_in();
     Settings {
-        rate,
-        cutoff,
+        rate: wanted.rate,
+        cutoff: wanted.cutoff,
         channels,
-        gain,
-        own: false,
-        filter,
+        gain: wanted.gain,
+        filter: None,
     }
 }
 
 // Bytes of the samples of a frame, all channels.
+#[tactic(auto, using(crate::proofs::Bounds::frame_bound), unfolding(wav_format::specs::Wav::frame_size))]
 pub fn frame_size(rate: PcmRate, channels: u64) -> u64
     requires { channels ≤ 6 }
     ensures { (result ≡ wav.frame_size rate channels) × (result ≤ 84672) }
 {
-    let samples = reference::samples_per_frame(rate) as u64;
-    3 * samples * channels
+    3 * rate.samples_per_frame() as u64 * channels
 }
 
 // Frames, channels and data that a WAV file can hold.
-fn limits(rate: PcmRate, channels: u8, frames: u64) -> Verdict
+#[tactic(auto, using(crate::proofs::Bounds::bytes_bound, crate::proofs::Openings::many_frames, crate::proofs::Openings::next_told))]
+fn limits(rate: PcmRate, channels: u8, frames: u64) -> Result<(), PcmError>
     requires { channels ≤ 6 }
     ensures { decision result ≡ decide (too_many rack frames ∷ too_large channels (frames * wav.frame_size rate channels) ∷ []) }
 {
-    if 540000 < frames {
-        return Verdict::Refused(PcmError::Frames(frames as usize));
+    if frames > MOST_FRAMES as u64 {
+        return Err(PcmError::Frames(frames as usize));
     }
     let bytes = frames * frame_size(rate, channels as u64);
     wav_checks::told(channels, bytes as usize)
 }
 
 // What is tried of a file whose header is accepted.
-fn later(wanted: Wanted, header: DsfHeader) -> Verdict
+#[tactic(auto, using(refusals::proofs::Steps::one_after), unfolding(crate::specs::Album::later_places))]
+fn later(wanted: Wanted, header: DsfHeader) -> Result<(), PcmError>
     requires { header.channels ≤ 6 }
     ensures { decision result ≡ decide (later_places wanted header.channels header.frames) }
 {
     let channels = header.channels as u8;
     let opened = refusals::opening(settings(wanted, channels));
-    if refusals::accepted(opened) {
-        let rate = wanted.rate;
-        return limits(rate, channels, header.frames);
-    }
-    opened
+    opened.and(limits(wanted.rate, channels, header.frames))
 }
 
-fn nothing() -> Album
-    ensures { result ≡ albums.no_album }
-{
-    Album {
-        channels: 0,
-        samples: 0,
-        frames: 0,
-        bytes: 0,
-        frame: 0,
-        filled: 0,
-        pieces: 0,
-    }
-}
-
+#[tactic(auto, using(crate::proofs::Bounds::bytes_bound, crate::proofs::Bounds::frames_cover), unfolding(crate::specs::Album::album_of, crate::specs::Album::pieces))]
 fn numbers(rate: PcmRate, header: DsfHeader) -> Album
     requires { (header.channels ≤ 6) × (header.frames ≤ 540000) × (header.frames ≡ albums.frames_of header.samples) }
     ensures { result ≡ albums.album_of rate header.channels header.samples }
 {
-    let channels = header.channels;
-    let samples = header.samples;
     let frames = header.frames;
-    let frame = frame_size(rate, channels);
+    let frame = frame_size(rate, header.channels);
     Album {
-        channels,
-        samples,
+        channels: header.channels,
+        samples: header.samples,
         frames,
         bytes: frames * frame,
         frame,
-        filled: frames * 4704 - samples / 8,
-        pieces: (frames + 127) / 128,
+        filled: frames * 4704 - header.samples / 8,
+        pieces: frames.div_ceil(128),
     }
 }
 
 // Opens an album: from the file's first bytes and its length, and what is wanted of it.
-pub fn open(head: &[u8], length: u64, wanted: Wanted) -> Opened
+#[tactic(auto, using(crate::proofs::Openings::few_channels, crate::proofs::Openings::few_frames, crate::proofs::Openings::frames_are, crate::proofs::Openings::header_refused, crate::proofs::Openings::later_refused, crate::proofs::Openings::opened))]
+pub fn open(head: &[u8], length: u64, wanted: Wanted) -> Result<Album, PcmError>
     ensures { AlbumPromise head.now «length» wanted result }
 {
-    let opened = dsf::read_header(head, length);
-    let header = opened.header;
-    let first = opened.verdict;
-    if refusals::accepted(first) {
-        let verdict = later(wanted, header);
-        if refusals::accepted(verdict) {
-            let rate = wanted.rate;
-            let album = numbers(rate, header);
-            return Opened { verdict, album };
-        }
-        let album = nothing();
-        return Opened { verdict, album };
-    }
-    let album = nothing();
-    Opened {
-        verdict: first,
-        album,
-    }
+    let header = dsf::read_header(head, length)?;
+    later(wanted, header)?;
+    Ok(numbers(wanted.rate, header))
 }
 
 // The header of a WAV file.
-pub fn header(rate: PcmRate, channels: u8, bytes: u64, out: &mut [u8]) -> Verdict
+#[tactic(auto, using(crate::proofs::Openings::head_refused, crate::proofs::Openings::head_wrong, crate::proofs::Openings::head_written, crate::proofs::Openings::head_fits))]
+pub fn header(rate: PcmRate, channels: u8, bytes: u64, out: &mut [u8]) -> Result<(), PcmError>
     ensures { HeaderPromise rate channels bytes out.old out.new result }
 {
-    let told = wav_checks::told(channels, bytes as usize);
-    if refusals::accepted(told) {
-        let room = out.len();
-        if room != 44 {
-            return Verdict::Refused(PcmError::OutputBytes(room, 44));
-        }
-        wav_format::put_header(rate, channels, bytes as usize, out);
-        return told;
+    wav_checks::told(channels, bytes as usize)?;
+    if out.len() != 44 {
+        return Err(PcmError::OutputBytes(out.len(), 44));
     }
-    told
+    wav_format::put_header(rate, channels, bytes as usize, out);
+    Ok(())
 }

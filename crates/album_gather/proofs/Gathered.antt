@@ -14,7 +14,8 @@ use Rattle.level_lines.specs.Text.{joined, with_text, Printed}
 use Rattle.level_lines.proofs.Printing.{then, joined_last}
 use Rattle.reference.specs.Frames.{frame_length}
 use Rattle.reference.specs.Refusals.{decide, accepted}
-use Rattle.reference.specs.declared.Verdict.{Verdict}
+use Rattle.std.specs.Prelude.{Result}
+use Rattle.reference.specs.declared.PcmError.{PcmError}
 use Rattle.reference.proofs.Refusals.{decide_skip}
 use Rattle.reference.proofs.Promises.{exit_accepted}
 use Rattle.dsf.specs.Dsf.{channels, samples, data_frame}
@@ -35,7 +36,7 @@ unfolding data_frame
 window_frame_length head f window start = length_tabulate _ _ _
 
 -- a frame of an accepted call
-pub taken_frame : (head : List ℕ) (n f start : ℕ) (window : List ℕ) {room : ℕ} {out out' : List ℕ} {answer : Verdict}
+pub taken_frame : (head : List ℕ) (n f start : ℕ) (window : List ℕ) {room : ℕ} {out out' : List ℕ} {answer : Result (Unit {0}) PcmError}
     → Framed (window_places head n f start (length window) room) (window_frame head f window start) out out' answer
     → decide (header_places head n) ≡ accepted → decide (asked_places (channels head) (samples head) f start (length window) (frame_length (channels head))) ≡ accepted
     → room ≡ frame_length (channels head) → out' ≡ window_frame head f window start

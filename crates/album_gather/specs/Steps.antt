@@ -1,23 +1,22 @@
 -- A step: some frames of an album, converted with the frames next to them.
-use Rattle.std.specs.Prelude.{◌≡◌, List, [], ◌∷◌, ◌++◌, Bool, true, false, not, ◌&&◌, ℕ, ◌+◌, ◌-◌, ◌*◌, ◌<◌, ◌^◌, ltb, leb, length}
+use Rattle.std.specs.Prelude.{◌≡◌, Result, IfOk, Option, Some, None, List, [], ◌∷◌, ◌++◌, Bool, true, false, not, ◌&&◌, ℕ, ◌+◌, ◌-◌, ◌*◌, ◌<◌, ◌^◌, ltb, leb, length}
 use Rattle.numbers.specs.Lists.{tabulate}
 use Rattle.level_lines.specs.Text.{joined}
 use Rattle.reference.specs.Frames.{Run, run, frame_length}
 use Rattle.reference.specs.Output.{samples, s24le}
-use Rattle.reference.specs.Promises.{by_decision, Answered}
+use Rattle.reference.specs.Promises.{by_decision, Converted, Answered}
 use Rattle.reference.specs.declared.Converter.{Converter}
-use Rattle.reference.specs.declared.Converted.{Converted}
+use Rattle.reference.specs.declared.PcmError.{PcmError}
 use Rattle.reference.specs.Refusals.{Place, place, decide, decision, accepted, number, lent_length}
 use Rattle.dsf.specs.Dsf.{channels, frames, file_frame}
 use Rattle.dsf.specs.Dsf as dsf
 use Rattle.dsf.specs.Reading.{header_places}
 use Rattle.dsf_frames.specs.Reading.{asked_places, window_frame}
-use Rattle.album.specs.Album.{album_places, album_of, no_album, album_converter}
+use Rattle.album.specs.Album.{album_places, album_of, album_converter}
 use Rattle.album_plan.specs.Plan.{stretch_start, stretch_end}
 use Rattle.album.specs.declared.Wanted.{Wanted}
 use Rattle.album.specs.declared.Album.{Album}
 use Rattle.album_gather.specs.declared.Lent.{Lent}
-use Rattle.album.specs.declared.Opened.{Opened}
 
 -- ---- what is refused
 
@@ -79,6 +78,11 @@ unfoldable pub worked : Bool → List ℕ → List ℕ → List ℕ
 worked true new old = new
 worked false new old = old
 
+-- so for a frame that need not be there
+abbrev pub gathered : (ℕ → List ℕ) → Option ℕ → List ℕ → List ℕ
+gathered frame (Some f) old = frame f
+gathered frame None old = old
+
 pub record Stepped (places : List Place) (conv : Converter) (r : Run) (before before' frames frames' after after' out out' : List ℕ) (answer : Converted) : Type 0 where
   pub answered : Answered places conv r answer
   pub written : out' ≡ by_decision (decide places) (s24le (samples conv r)) out
@@ -95,9 +99,9 @@ StepPromise head n w first count window start before before' frames frames' afte
     before before' frames frames' after after' out
 
 -- what is tried before it, with the album's numbers
-pub record ReadyPromise (head : List ℕ) (n : ℕ) (w : Wanted) (first count start window : ℕ) (lent : Lent) (answer : Opened) : Type 0 where
-  pub decided : decision answer.verdict ≡ decide (step_places head n w first count start window lent)
-  pub album : answer.album ≡ by_decision (decide (album_places head n w)) (album_of w.rate (channels head) (dsf.samples head)) no_album
+pub record ReadyPromise (head : List ℕ) (n : ℕ) (w : Wanted) (first count start window : ℕ) (lent : Lent) (answer : Result Album PcmError) : Type 0 where
+  pub decided : decision answer ≡ decide (step_places head n w first count start window lent)
+  pub album : IfOk answer (λ a. a ≡ album_of w.rate (channels head) (dsf.samples head))
 
 -- ---- what the code asks for
 

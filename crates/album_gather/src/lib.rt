@@ -1,16 +1,25 @@
 // What a step asks of its window and its lists, and frames gathered out of a window.
 #![tactic(auto)]
 
-ghost use Rattle.std.specs.Prelude.{◌≡◌, true, [], ◌∷◌, ◌*◌, ◌≤◌, length};
+ghost use Rattle.std.specs.Prelude.{◌≡◌, [], ◌∷◌, ◌≤◌, length, IfSome};
 ghost use Rattle.reference.specs.Refusals.{decision, decide, lent_length};
 ghost use Rattle.dsf_frames.specs.Reading.{window_frame};
 ghost use Rattle.album.specs.Album.{FitArgs};
-ghost use Rattle.album_gather.specs.Steps.{held_places, lent_places, piece_places, frames_from, worked, ReadyPromise, GatherArgs};
+ghost use Rattle.album_gather.specs.Steps.{held_places, lent_places, piece_places, frames_from, gathered, ReadyPromise, GatherArgs};
 
-use album::{Album, Opened, Wanted, open};
+use album::{Album, Wanted, open};
 use album_plan::stretch;
 use dsf_frames::reaches;
-use reference::{PcmError, Verdict};
+use reference::PcmError;
+
+// A file's first bytes and its length, and bytes of its data with the place in the data where they start.
+#[derive(Clone, Copy)]
+pub struct Window<'a> {
+    pub head: &'a [u8],
+    pub length: u64,
+    pub bytes: &'a [u8],
+    pub start: u64,
+}
 
 // Lengths of the lists that a step is lent: for the frame before, the frames, the frame after, and the bytes.
 #[derive(Clone, Copy)]
@@ -22,132 +31,112 @@ pub struct Lent {
 }
 
 // Whether an album has so many frames from `first` on, and a window holds them and the frames next to them.
-fn held(a: Album, first: u64, count: u64, start: u64, window: usize) -> Verdict
+#[tactic(auto, using(crate::proofs::Fitting::begins_past, crate::proofs::Fitting::ends_past, crate::proofs::Fitting::begins_late, crate::proofs::Fitting::ends_early, crate::proofs::Fitting::all_there))]
+fn held(a: Album, first: u64, count: u64, start: u64, window: usize) -> Result<(), PcmError>
     requires { FitArgs a }
     ensures { decision result ≡ decide (held_places a first count start window) }
 {
-    let frames = a.frames;
-    if frames < first {
-        return Verdict::Refused(PcmError::Frames(first as usize));
+    if first > a.frames {
+        return Err(PcmError::Frames(first as usize));
     }
-    if frames - first < count {
-        return Verdict::Refused(PcmError::Frames(first as usize));
+    if count > a.frames - first {
+        return Err(PcmError::Frames(first as usize));
     }
-    let needed = stretch(a.channels, a.samples, frames, first, count);
+    let needed = stretch(a.channels, a.samples, a.frames, first, count);
     if needed.start < start {
-        return Verdict::Refused(PcmError::DsfLength);
+        return Err(PcmError::DsfLength);
     }
-    if reaches(start, window as u64, needed.end) {
-        return Verdict::Accepted;
+    if !reaches(start, window as u64, needed.end) {
+        return Err(PcmError::DsfLength);
     }
-    Verdict::Refused(PcmError::DsfLength)
+    Ok(())
 }
 
 // A list of so many bytes.
-fn long(n: usize, expected: usize) -> Verdict
+#[tactic(auto, using(refusals::proofs::Steps::wrong_bytes, refusals::proofs::Steps::right_length, refusals::proofs::Steps::nothing))]
+fn long(n: usize, expected: usize) -> Result<(), PcmError>
     ensures { decision result ≡ decide (lent_length 7 n expected ∷ []) }
 {
-    if n != expected {
-        return Verdict::Refused(PcmError::OutputBytes(n, expected));
+    if n == expected {
+        Ok(())
+    } else {
+        Err(PcmError::OutputBytes(n, expected))
     }
-    Verdict::Accepted
 }
 
 // The lists that a step is lent.
-fn room(a: Album, count: u64, lent: Lent) -> Verdict
+#[tactic(auto, using(album::proofs::Bounds::bytes_bound, album_plan::proofs::Stretches::small_room))]
+fn room(a: Album, count: u64, lent: Lent) -> Result<(), PcmError>
     requires { (count ≤ 540000) × FitArgs a }
     ensures { decision result ≡ decide (lent_places a count lent) }
 {
     let frame = 4704 * a.channels as usize;
-    let before = long(lent.before, frame);
-    if !refusals::accepted(before) {
-        return before;
-    }
-    let frames = long(lent.frames, count as usize * frame);
-    if !refusals::accepted(frames) {
-        return frames;
-    }
-    let after = long(lent.after, frame);
-    if !refusals::accepted(after) {
-        return after;
-    }
-    long(lent.out, (count * a.frame) as usize)
+    long(lent.before, frame)
+        .and(long(lent.frames, count as usize * frame))
+        .and(long(lent.after, frame))
+        .and(long(lent.out, (count * a.frame) as usize))
 }
 
 // All that a step tries after the album.
-fn fits(a: Album, first: u64, count: u64, start: u64, window: usize, lent: Lent) -> Verdict
-    requires { FitArgs a }
-    ensures { decision result ≡ decide (piece_places a first count start window lent) }
-{
-    let there = held(a, first, count, start, window);
-    if refusals::accepted(there) {
-        return room(a, count, lent);
-    }
-    there
-}
-
-// All that a step tries, and the album's numbers.
-pub fn ready(
-    head: &[u8],
-    length: u64,
-    wanted: Wanted,
+#[tactic(auto, using(crate::proofs::Fitting::few_held, refusals::proofs::Steps::stops, refusals::proofs::Steps::goes_on), unfolding(crate::specs::Steps::piece_places))]
+fn fits(
+    a: Album,
     first: u64,
     count: u64,
     start: u64,
     window: usize,
     lent: Lent,
-) -> Opened
-    ensures { ReadyPromise head.now «length» wanted first count start window lent result }
+) -> Result<(), PcmError>
+    requires { FitArgs a }
+    ensures { decision result ≡ decide (piece_places a first count start window lent) }
 {
-    let opened = open(head, length, wanted);
-    let album = opened.album;
-    let verdict = opened.verdict;
-    if refusals::accepted(verdict) {
-        let verdict = fits(album, first, count, start, window, lent);
-        return Opened { verdict, album };
-    }
-    Opened { verdict, album }
+    held(a, first, count, start, window)?;
+    room(a, count, lent)
 }
 
-// Frames from `from` on, so many, out of a window of the file's data.
-pub fn gather(
-    head: &[u8],
-    total: u64,
-    size: usize,
-    from: u64,
+// All that a step tries, and the album's numbers.
+#[tactic(auto, using(crate::proofs::Fitting::fit_args, crate::proofs::Fitting::album_refused, crate::proofs::Fitting::piece_refused, crate::proofs::Fitting::is_ready))]
+pub fn ready(
+    window: Window<'_>,
+    wanted: Wanted,
+    first: u64,
     count: u64,
-    window: &[u8],
-    start: u64,
-    out: &mut [u8],
-)
-    requires { GatherArgs head.now total size from count (length window.now) start (length out.old) }
-    ensures { out.new ≡ frames_from (λ f. window_frame head.now f window.now start) from count }
+    lent: Lent,
+) -> Result<Album, PcmError>
+    ensures { ReadyPromise window.entry.head.now window.entry.length wanted first count window.entry.start (length window.entry.bytes.now) lent result }
 {
-    let mut k = 0u64;
-    while k < count {
+    let album = open(window.head, window.length, wanted)?;
+    fits(album, first, count, window.start, window.bytes.len(), lent)?;
+    Ok(album)
+}
+
+// Frames from `from` on, so many of `size` bytes, out of a window of the file's data.
+#[tactic(auto, using(numbers::proofs::Lists::part_end))]
+pub fn gather(window: Window<'_>, size: usize, from: u64, count: u64, out: &mut [u8])
+    requires { GatherArgs window.head.now window.length size from count (length window.bytes.now) window.start (length out.old) }
+    ensures { out.new ≡ frames_from (λ f. window_frame window.entry.head.now f window.entry.bytes.now window.entry.start) from count }
+{
+    for k in 0..count {
         let at = k as usize * size;
-        let end = at + size;
-        dsf_frames::window_frame(head, total, from + k, window, start, &mut out[at..end]);
-        k += 1;
+        let frame = &mut out[at..at + size];
+        let _ = dsf_frames::window_frame(
+            window.head,
+            window.length,
+            from + k,
+            window.bytes,
+            window.start,
+            frame,
+        );
     }
 }
 
-// One frame, if it is there.
-pub fn gather_one(
-    head: &[u8],
-    total: u64,
-    size: usize,
-    there: bool,
-    from: u64,
-    window: &[u8],
-    start: u64,
-    out: &mut [u8],
-)
-    requires { there ≡ true → GatherArgs head.now total size from 1 (length window.now) start (length out.old) }
-    ensures { out.new ≡ worked there (window_frame head.now from window.now start) out.old }
+// A frame, where there is one.
+#[tactic(auto, using(crate::proofs::Sequences::from_one))]
+pub fn gather_one(window: Window<'_>, size: usize, frame: Option<u64>, out: &mut [u8])
+    requires { IfSome frame (λ f. GatherArgs window.head.now window.length size f 1 (length window.bytes.now) window.start (length out.old)) }
+    ensures { out.new ≡ gathered (λ f. window_frame window.entry.head.now f window.entry.bytes.now window.entry.start) frame out.old }
 {
-    if there {
-        gather(head, total, size, from, 1, window, start, out);
-        return;
+    if let Some(f) = frame {
+        gather(window, size, f, 1, out);
     }
 }

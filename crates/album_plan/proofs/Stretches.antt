@@ -6,7 +6,7 @@ use native.Mathlib.Omega.{arith}
 use Rattle.dsf.specs.Dsf.{blocks, frames_in}
 use Rattle.dsf_frames.specs.Reading.{lesser, window_start, window_end, frame_window}
 use Rattle.dsf_frames.specs.declared.FrameWindow.{FrameWindow}
-use Rattle.dsf_frames.proofs.Asked.{window_is}
+use Rattle.dsf_frames.proofs.Asked.{window_is, no_window}
 use Rattle.album_plan.specs.Plan.{stretch_start, stretch_end, StretchArgs}
 use borrow.Author.Tests.{le-leb, le-ltb}
 use mathlib.Core.Logic.{⊎_elim}
@@ -40,7 +40,11 @@ few_more b = omega arith
 -- no window where there is no frame
 window_none : (n s f : ℕ) → n ≤ 6 → frames_in s ≤ f → frame_window n s f ≡ record { start = 0; end = 0 }
 unfolding frame_window
-window_none n s f h l = rw (le-leb n 6 h, le-ltb f (frames_in s) l) refl
+window_none n s f h l = rw (no_window n s f l) refl
+
+window_some : (n s f : ℕ) → n ≤ 6 → f < frames_in s → frame_window n s f ≡ record { start = window_start n f; end = window_end n s f }
+unfolding frame_window
+window_some n s f h l = rw (window_is (record { start = window_start n f; end = window_end n s f }) n s f h l refl refl) refl
 
 starts_at_0 : (n : ℕ) → window_start n 0 ≡ 0
 unfolding window_start
@@ -61,7 +65,7 @@ module _ (n s f first c : ℕ) (a : StretchArgs n s f first c) where
       some : 0 < f → (frame_window n s from).start ≡ window_start n (first - 1)
       some h =
           let within : from < frames_in s = omega (arith, a.is, a.within) in
-          sym (ap (λ (w : FrameWindow). w.start) (window_is (record { start = window_start n from; end = window_end n s from }) n s from a.few within (refl, refl))) ∙ ap (window_start n) e
+          ap (λ (w : FrameWindow). w.start) (window_some n s from a.few within) ∙ ap (window_start n) e
 
       none : f ≤ 0 → (frame_window n s from).start ≡ window_start n (first - 1)
       none h =
@@ -75,7 +79,7 @@ module _ (n s f first c : ℕ) (a : StretchArgs n s f first c) where
       some : 0 < f → (frame_window n s last).end ≡ window_end n s (lesser (first + c) (f - 1))
       some h =
           let within : last < frames_in s = omega (arith, a.is) in
-          sym (ap (λ (w : FrameWindow). w.end) (window_is (record { start = window_start n last; end = window_end n s last }) n s last a.few within (refl, refl))) ∙ ap (window_end n s) e
+          ap (λ (w : FrameWindow). w.end) (window_some n s last a.few within) ∙ ap (window_end n s) e
 
       none : f ≤ 0 → (frame_window n s last).end ≡ window_end n s (lesser (first + c) (f - 1))
       none h =

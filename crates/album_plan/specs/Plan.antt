@@ -1,5 +1,5 @@
 -- The plan: pieces of at most 128 frames (147 groups of blocks), and parts of whole pieces.
-use Rattle.std.specs.Prelude.{cond, ◌&&◌, ℕ, ◌+◌, ◌-◌, ◌*◌, ◌/◌, ◌≤◌, ◌<◌, ltb, leb, ◌≡◌}
+use Rattle.std.specs.Prelude.{Option, Some, None, unwrap_or, cond, ◌&&◌, ℕ, ◌+◌, ◌-◌, ◌*◌, ◌/◌, ◌≤◌, ◌<◌, ltb, leb, ◌≡◌}
 use Rattle.reference.specs.Frames.{frame_length}
 use Rattle.reference.specs.declared.PcmRate.{PcmRate}
 use Rattle.dsf.specs.Dsf.{frames_in}
@@ -14,14 +14,18 @@ use Rattle.album_plan.specs.declared.Piece.{Piece}
 unfoldable pub part_first : ℕ → ℕ → ℕ → ℕ
 part_first n jobs j = n * j / jobs
 
-unfoldable pub part : ℕ → ℕ → ℕ → Part
-part f jobs j =
+unfoldable pub part_at : ℕ → ℕ → ℕ → Option Part
+part_at f jobs j =
     cond (leb f 540000 && (leb jobs 64 && ltb j jobs))
-    (record { first = part_first (pieces f) jobs j; end = part_first (pieces f) jobs (j + 1) })
-    (record { first = 0; end = 0 })
+    (Some (record { first = part_first (pieces f) jobs j; end = part_first (pieces f) jobs (j + 1) }))
+    None
 
-abbrev pub less_one : ℕ → ℕ
-less_one n = n - 1
+abbrev pub no_part : Part
+no_part = record { first = 0; end = 0 }
+
+-- with no pieces for no part
+unfoldable pub part : ℕ → ℕ → ℕ → Part
+part f jobs j = unwrap_or (part_at f jobs j) no_part
 
 -- frames of the piece that begins at a frame
 unfoldable pub piece_count : ℕ → ℕ → ℕ
@@ -29,7 +33,7 @@ piece_count f first = lesser 128 (f - first)
 
 -- the stretch of the data that holds so many frames from `first` on, and the frames next to them
 unfoldable pub stretch_start : ℕ → ℕ → ℕ
-stretch_start channels first = window_start channels (less_one first)
+stretch_start channels first = window_start channels (first - 1)
 
 unfoldable pub stretch_end : ℕ → ℕ → ℕ → ℕ → ℕ
 stretch_end channels samples first count = window_end channels samples (lesser (first + count) (frames_in samples - 1))
@@ -55,11 +59,15 @@ unfoldable pub no_piece : Piece
 no_piece = record { first = 0; count = 0; start = 0; window = 0; place = 0; bytes = 0; room = 0 }
 
 -- piece i of an album with these numbers
-unfoldable pub piece : PcmRate → ℕ → ℕ → ℕ → Piece
-piece rate channels samples i =
+unfoldable pub piece_at : PcmRate → ℕ → ℕ → ℕ → Option Piece
+piece_at rate channels samples i =
     cond (leb channels 6 && (leb (frames_in samples) 540000 && ltb i (pieces (frames_in samples))))
-    (some_piece rate channels samples (i * 128))
-    no_piece
+    (Some (some_piece rate channels samples (i * 128)))
+    None
+
+-- with no frames for no piece
+unfoldable pub piece : PcmRate → ℕ → ℕ → ℕ → Piece
+piece rate channels samples i = unwrap_or (piece_at rate channels samples i) no_piece
 
 -- the plan cuts an album of f frames: each piece ends where the next begins, the last with the album; the parts are all pieces in turn. Proved in
 -- proofs/Cutting, `plan_cuts`
@@ -69,7 +77,7 @@ pub record PlanCuts (f : ℕ) : Type 0 where
   pub parts_begin : (jobs : ℕ) → 0 < jobs → part_first (pieces f) jobs 0 ≡ 0
   pub parts_end : (jobs : ℕ) → 0 < jobs → part_first (pieces f) jobs jobs ≡ pieces f
 
--- what `some` asks for
+-- what `piece_from` asks for
 pub record PieceArgs (channels samples f first : ℕ) : Type 0 where
   pub few : channels ≤ 6
   pub is : f ≡ frames_in samples

@@ -1,12 +1,12 @@
 // The plan: an album's frames cut into pieces, and the pieces into parts.
 #![tactic(auto)]
 
-ghost use Rattle.std.specs.Prelude.{◌≡◌, ◌≤◌, ◌<◌};
+ghost use Rattle.std.specs.Prelude.{◌≡◌};
 ghost use Rattle.album_plan.specs.Plan as plan;
 
 use album::frame_size;
-use dsf_frames::{FrameWindow, lesser_of};
-use reference::PcmRate;
+use dsf_frames::FrameWindow;
+use reference::{MOST_FRAMES, PcmRate};
 
 // Pieces from `first` on, `end` not among them.
 #[derive(Clone, Copy)]
@@ -28,69 +28,42 @@ pub struct Piece {
     pub room: u64,
 }
 
-// Part j of so many: none of more than 540,000 frames, or where there is no such part.
-pub fn part_of(frames: u64, jobs: u64, j: u64) -> Part
-    ensures { result ≡ plan.part frames jobs j }
+// Part j of so many: none of more than 540,000 frames or 64 parts, or where there is no such part.
+#[tactic(auto, using(crate::proofs::Stretches::small_share), unfolding(crate::specs::Plan::part_at, crate::specs::Plan::part_first, album::specs::Album::pieces))]
+pub fn part_of(frames: u64, jobs: u64, j: u64) -> Option<Part>
+    ensures { result ≡ plan.part_at frames jobs j }
 {
-    if 540000 < frames {
-        return Part { first: 0, end: 0 };
-    }
-    if 64 < jobs {
-        return Part { first: 0, end: 0 };
-    }
-    if jobs <= j {
-        return Part { first: 0, end: 0 };
+    if frames > MOST_FRAMES as u64 || jobs > 64 || j >= jobs {
+        return None;
     }
     let pieces = (frames + 127) / 128;
-    Part {
+    Some(Part {
         first: pieces * j / jobs,
         end: pieces * (j + 1) / jobs,
-    }
+    })
 }
 
-fn none() -> Piece
-    ensures { result ≡ plan.no_piece }
-{
-    Piece {
-        first: 0,
-        count: 0,
-        start: 0,
-        window: 0,
-        place: 0,
-        bytes: 0,
-        room: 0,
-    }
-}
-
-// One less, or 0.
-pub fn less_one(n: u64) -> u64
-    ensures { result ≡ plan.less_one n }
-{
-    if n == 0 {
-        return 0;
-    }
-    n - 1
-}
-
-// The stretch of the data that holds so many frames and the frames next to them.
+// The stretch of the data that holds so many frames and the frames next to them; no bytes of no frames.
 pub fn stretch(channels: u64, samples: u64, frames: u64, first: u64, count: u64) -> FrameWindow
     requires { plan.StretchArgs channels samples frames first count }
     ensures { plan.Stretch channels samples first count result }
 {
-    let from = dsf_frames::window(channels, samples, less_one(first));
-    let last = lesser_of(first + count, less_one(frames));
-    let to = dsf_frames::window(channels, samples, last);
+    let none = FrameWindow { start: 0, end: 0 };
+    let last = (first + count).min(frames.saturating_sub(1));
+    let from = dsf_frames::window(channels, samples, first.saturating_sub(1)).unwrap_or(none);
+    let to = dsf_frames::window(channels, samples, last).unwrap_or(none);
     FrameWindow {
         start: from.start,
         end: to.end,
     }
 }
 
-fn some(rate: PcmRate, channels: u64, samples: u64, frames: u64, first: u64) -> Piece
+// The piece from a frame on.
+fn piece_from(rate: PcmRate, channels: u64, samples: u64, frames: u64, first: u64) -> Piece
     requires { plan.PieceArgs channels samples frames first }
     ensures { result ≡ plan.some_piece rate channels samples first }
 {
-    let count = lesser_of(128, frames - first);
+    let count = 128.min(frames - first);
     let held = stretch(channels, samples, frames, first, count);
     let frame = frame_size(rate, channels);
     Piece {
@@ -105,18 +78,13 @@ fn some(rate: PcmRate, channels: u64, samples: u64, frames: u64, first: u64) -> 
 }
 
 // Piece i of an album with these numbers: none of more than six channels or 540,000 frames, or where there is no such piece.
-pub fn piece_of(rate: PcmRate, channels: u64, samples: u64, i: u64) -> Piece
-    ensures { result ≡ plan.piece rate channels samples i }
+#[tactic(auto, unfolding(crate::specs::Plan::piece_at, album::specs::Album::pieces, dsf::specs::Dsf::frames_in))]
+pub fn piece_of(rate: PcmRate, channels: u64, samples: u64, i: u64) -> Option<Piece>
+    ensures { result ≡ plan.piece_at rate channels samples i }
 {
     let frames = (samples / 8 + 4703) / 4704;
-    if 6 < channels {
-        return none();
+    if channels > 6 || frames > MOST_FRAMES as u64 || i >= (frames + 127) / 128 {
+        return None;
     }
-    if 540000 < frames {
-        return none();
-    }
-    if (frames + 127) / 128 <= i {
-        return none();
-    }
-    some(rate, channels, samples, frames, i * 128)
+    Some(piece_from(rate, channels, samples, frames, i * 128))
 }

@@ -1,6 +1,6 @@
 -- Laws of an accepted step.
 use mathlib.Core.Path.{◌≡◌, refl, sym, ap, subst, ◌∙◌}
-use mathlib.Core.Bool.{Bool, true, false}
+use mathlib.Core.Bool.{Bool, true, false, true≢false}
 use mathlib.Core.List.{List, []}
 use Prim.Native.Nat.{ℕ, ◌+◌, ◌-◌, ◌*◌, ◌≤◌, ◌<◌}
 use native.Mathlib.Omega.{arith}
@@ -9,15 +9,15 @@ use lib.ListN.{length}
 use borrow.Author.Tests.{ltb-true, eqb-true, not-false}
 use Rattle.reference.specs.Frames.{Run, run, frame_length}
 use Rattle.reference.specs.Settings.{converter_of}
-use Rattle.reference.specs.Refusals.{rack, decide, decision, is_accepted, accepted, opening_places, lent_length, convert_places}
-use Rattle.reference.specs.Promises.{by_decision, ConvertPromise}
-use Rattle.reference.specs.Statistics.{no_stats}
-use Rattle.reference.specs.declared.Settings.{Settings}
-use Rattle.reference.specs.declared.Verdict.{Verdict}
+use Rattle.reference.specs.Refusals.{rack, decide, decision, error_decision, is_accepted, accepted, opening_places, lent_length, convert_places}
+use Rattle.reference.specs.Output.{stats}
+use Rattle.std.specs.Prelude.{Option, Ok, Err, IfSome}
+use Rattle.std.specs.Bool.{then_some}
+use Rattle.reference.specs.Promises.{Converted, stats_told, ConvertPromise}
+use Rattle.reference.specs.declared.PcmError.{PcmError}
 use Rattle.reference.specs.declared.ConvertStats.{ConvertStats}
 use Rattle.reference.specs.declared.Converter.{Converter}
-use Rattle.reference.specs.declared.Converted.{Converted}
-use Rattle.reference.proofs.Refusals.{decide_first, decide_skip, pass, some_channel}
+use Rattle.reference.proofs.Refusals.{decide_first, decide_skip, pass, some_channel, error_refuses}
 use Rattle.reference.proofs.Promises.{exit_accepted, exit_refused}
 use Rattle.reference.proofs.Opening.{held_as_opened}
 use Rattle.dsf.specs.Dsf.{channels, frames, frames_in}
@@ -25,8 +25,8 @@ use Rattle.dsf.specs.Dsf as dsf
 use Rattle.dsf.specs.Reading.{header_places}
 use Rattle.dsf_frames.specs.Reading.{window_frame}
 use Rattle.wav_format.specs.Wav.{frame_size}
-use Rattle.album.specs.Album.{settings_for, later_places, album_places, album_of, no_album, album_converter}
-use Rattle.album_gather.specs.Steps.{held_places as step-held, lent_places, piece_places, step_places, frames_from, there, worked, run_from, window_run, lent_lists, StepPromise, GatherArgs}
+use Rattle.album.specs.Album.{settings_for, later_places, album_places, album_of, album_converter}
+use Rattle.album_gather.specs.Steps.{held_places as step-held, lent_places, piece_places, step_places, frames_from, there, worked, gathered, run_from, window_run, lent_lists, StepPromise, GatherArgs}
 use Rattle.album.specs.declared.Wanted.{Wanted}
 use Rattle.album.specs.declared.Album.{Album}
 use Rattle.album.proofs.Openings.{few_frames, album_fits}
@@ -45,6 +45,18 @@ unfolding there worked
 worked_there true x y = refl
 worked_there false x y = refl
 
+-- a frame that is asked for by a flag
+pub gathered_is : (b : Bool) (F : ℕ → List ℕ) (f : ℕ) (old : List ℕ) → gathered F (then_some b f) old ≡ worked b (F f) old
+unfolding worked
+gathered_is true F f old = refl
+gathered_is false F f old = refl
+
+-- an accepted conversion's answer
+is_ok : (answer : Converted) (s : ConvertStats) → decision answer ≡ accepted → stats_told answer ≡ s → answer ≡ Ok s
+unfolding stats_told is_accepted
+is_ok (Ok x) s d e = ap Ok e
+is_ok (Err e) s d h = absurd (true≢false (ap is_accepted (sym d) ∙ error_refuses e))
+
 module _ (head : List ℕ) (n : ℕ) (conv : Converter) (total first count : ℕ) (window : List ℕ) (start : ℕ) (before lent after out : List ℕ)
     (a : StepArgs head n conv total first count window start before lent after out) where
   abbrev F : ℕ → List ℕ
@@ -53,7 +65,7 @@ module _ (head : List ℕ) (n : ℕ) (conv : Converter) (total first count : ℕ
   size_is : 4704 * conv.channels ≡ frame_length (channels head)
   size_is = ap (λ (c : ℕ). 4704 * c) a.same
 
-  pub one_before : ltb 0 first ≡ true → GatherArgs head n (4704 * conv.channels) (first - 1) 1 (length window) start (length before)
+  one_before : ltb 0 first ≡ true → GatherArgs head n (4704 * conv.channels) (first - 1) 1 (length window) start (length before)
   one_before e =
       let some : 0 < first = ltb-true 0 first e in
       record {
@@ -73,7 +85,7 @@ module _ (head : List ℕ) (n : ℕ) (conv : Converter) (total first count : ℕ
     each = λ k h. a.each (first + k) (omega arith) (omega arith) (omega (arith, a.within));
   }
 
-  pub one_after : ltb (first + count) total ≡ true → GatherArgs head n (4704 * conv.channels) (first + count) 1 (length window) start (length after)
+  one_after : ltb (first + count) total ≡ true → GatherArgs head n (4704 * conv.channels) (first + count) 1 (length window) start (length after)
   one_after e =
       let more : first + count < total = ltb-true (first + count) total e in
       record {
@@ -83,6 +95,20 @@ module _ (head : List ℕ) (n : ℕ) (conv : Converter) (total first count : ℕ
         small = omega (arith, a.within, a.few);
         each = λ k h. a.each (first + count + k) (omega arith) (omega arith) (omega arith);
       }
+
+  -- the frame before, and the frame after, as they are asked for
+  abbrev Asked : Option ℕ → ℕ → Type 0
+  Asked frame out = IfSome frame (λ f. GatherArgs head n (4704 * conv.channels) f 1 (length window) start out)
+
+  if_asked : (b : Bool) (f out : ℕ) → (b ≡ true → GatherArgs head n (4704 * conv.channels) f 1 (length window) start out) → Asked (then_some b f) out
+  if_asked true f out h = h refl
+  if_asked false f out h = _
+
+  pub asks_before : Asked (then_some (ltb 0 first) (first - 1)) (length before)
+  asks_before = if_asked (ltb 0 first) (first - 1) (length before) one_before
+
+  pub asks_after : Asked (then_some (ltb (first + count) total) (first + count)) (length after)
+  asks_after = if_asked (ltb (first + count) total) (first + count) (length after) one_after
 
   abbrev r : Run
   r = window_run head window start first count
@@ -98,13 +124,13 @@ module _ (head : List ℕ) (n : ℕ) (conv : Converter) (total first count : ℕ
     run_is = rw (ep, eb, there_worked (ltb 0 first) (F (first - 1)) before, ef, eq, ea, there_worked (ltb (first + count) total) (F (first + count)) after, a.total_is) refl
 
     pub done : {counts' out' : List ℕ} (answer : Converted) → ConvertPromise conv (run (ltb 0 first) p f' (ltb (first + count) total) q) false out [] out' counts' answer
-        → Worked conv r before b' f' after a' out' answer.stats
+        → Worked conv r before b' f' after a' out' answer
     unfolding run_from
     done {counts'} {out'} answer promise =
         let made : ConvertPromise conv r false out [] out' counts' answer = subst (λ (x : Run). ConvertPromise conv x false out [] out' counts' answer) run_is promise in
         record {
           written = made.written ∙ exit_accepted _ _ _ ok;
-          counted = made.answered.counted ∙ exit_accepted _ _ _ ok;
+          counted = is_ok answer (stats conv r) (made.answered.decided ∙ ok) (made.answered.counted ∙ exit_accepted _ _ _ ok);
           in_before = eb ∙ worked_there (ltb 0 first) (F (first - 1)) before;
           in_frames = ef;
           in_after = ea ∙ rw a.total_is (worked_there (ltb (first + count) (frames head)) (F (first + count)) after);
@@ -177,37 +203,40 @@ module _ (head : List ℕ) (n : ℕ) (w : Wanted) (first count : ℕ) (window : 
   unfolding album_of
   numbers_fit = (album_fits head n w opened).few
 
-  pub few_channels : {x : Album} → x ≡ by_decision (decide (album_places head n w)) numbers no_album → x.channels ≤ 6
+  pub few_channels : (x : Album) → x ≡ numbers → x.channels ≤ 6
   unfolding album_of
-  few_channels e = rw (e ∙ exit_accepted _ _ _ opened) numbers_fit
+  few_channels x e = rw e numbers_fit
 
-  pub converter_is : {x : Album} {s : Settings} {c : Converter} → x ≡ by_decision (decide (album_places head n w)) numbers no_album → s ≡ settings_for w x.channels → c ≡ converter_of s
-      → c ≡ album_converter w head
+  pub converter_is : (x : Album) (c : Converter) → x ≡ numbers → c ≡ converter_of (settings_for w x.channels) → c ≡ album_converter w head
   unfolding album_of
-  converter_is e f g = g ∙ ap converter_of (f ∙ rw (e ∙ exit_accepted _ _ _ opened) refl)
+  converter_is x c e g = g ∙ rw e refl
 
-  pub frames_are : {x : Album} → x ≡ by_decision (decide (album_places head n w)) numbers no_album → x.frames ≡ frames head
+  pub frames_are : (x : Album) → x ≡ numbers → x.frames ≡ frames head
   unfolding album_of frames
-  frames_are e = ap (λ (a : Album). a.frames) (e ∙ exit_accepted _ _ _ opened)
+  frames_are x e = ap (λ (a : Album). a.frames) e
 
-  pub stepped : {v : Verdict} {stats : ConvertStats} {before' lent' after' out' : List ℕ} → decision v ≡ accepted → (c : Converter) → c ≡ album_converter w head → Worked c (window_run head window start first count) before before' lent' after after' out' stats
-      → StepPromise head n w first count window start before before' lent lent' after after' out out' (record { verdict = v; stats = stats })
-  stepped {stats = stats} {before' = before'} {lent' = lent'} {after' = after'} {out' = out'} d c p given = let k = subst (λ (x : Converter). Worked x (window_run head window start first count) before before' lent' after after' out' stats) p given in record {
-    answered = record { decided = d ∙ sym e; counted = k.counted ∙ sym (exit_accepted _ _ _ e) };
-    written = k.written ∙ sym (exit_accepted _ _ _ e);
-    in_before = k.in_before ∙ sym (exit_accepted _ _ _ e);
-    in_frames = k.in_frames ∙ sym (exit_accepted _ _ _ e);
-    in_after = k.in_after ∙ sym (exit_accepted _ _ _ e);
-  }
+  pub stepped : {answer : Converted} {before' lent' after' out' : List ℕ} (c : Converter) → c ≡ album_converter w head → Worked c (window_run head window start first count) before before' lent' after after' out' answer
+      → StepPromise head n w first count window start before before' lent lent' after after' out out' answer
+  unfolding stats_told
+  stepped {answer = answer} {before' = before'} {lent' = lent'} {after' = after'} {out' = out'} c p given =
+      let k = subst (λ (x : Converter). Worked x (window_run head window start first count) before before' lent' after after' out' answer) p given in
+      record {
+        answered = record { decided = ap decision k.counted ∙ sym e; counted = ap stats_told k.counted ∙ sym (exit_accepted _ _ _ e) };
+        written = k.written ∙ sym (exit_accepted _ _ _ e);
+        in_before = k.in_before ∙ sym (exit_accepted _ _ _ e);
+        in_frames = k.in_frames ∙ sym (exit_accepted _ _ _ e);
+        in_after = k.in_after ∙ sym (exit_accepted _ _ _ e);
+      }
 
 -- ---- a refused step
-pub not_stepped : (head : List ℕ) (n : ℕ) (w : Wanted) (first count : ℕ) (window : List ℕ) (start : ℕ) (before lent after out : List ℕ) {v : Verdict} {stats : ConvertStats}
-    → decision v ≡ decide (step_places head n w first count start (length window) (lent_lists before lent after out)) → is_accepted (decision v) ≡ false → stats ≡ no_stats
-    → StepPromise head n w first count window start before before lent lent after after out out (record { verdict = v; stats = stats })
-not_stepped head n w first count window start before lent after out d r k =
-    let refused = ap is_accepted (sym d) ∙ r in
+pub not_stepped : (head : List ℕ) (n : ℕ) (w : Wanted) (first count : ℕ) (window : List ℕ) (start : ℕ) (before lent after out : List ℕ) (e : PcmError)
+    → error_decision e ≡ decide (step_places head n w first count start (length window) (lent_lists before lent after out))
+    → StepPromise head n w first count window start before before lent lent after after out out (Err e)
+unfolding stats_told
+not_stepped head n w first count window start before lent after out e d =
+    let refused = ap is_accepted (sym d) ∙ error_refuses e in
     record {
-      answered = record { decided = d; counted = k ∙ sym (exit_refused _ _ _ refused) };
+      answered = record { decided = d; counted = sym (exit_refused _ _ _ refused) };
       written = sym (exit_refused _ _ _ refused);
       in_before = sym (exit_refused _ _ _ refused);
       in_frames = sym (exit_refused _ _ _ refused);

@@ -1,10 +1,10 @@
 -- What the work of an accepted step asks for and gives. No promise speaks of it.
-use Rattle.std.specs.Prelude.{◌≡◌, List, ℕ, ◌+◌, ◌-◌, ◌*◌, ◌≤◌, ◌<◌, length}
+use Rattle.std.specs.Prelude.{◌≡◌, Ok, List, ℕ, ◌+◌, ◌-◌, ◌*◌, ◌≤◌, ◌<◌, length}
 use Rattle.reference.specs.Frames.{Run, frame_length}
 use Rattle.reference.specs.Output.{samples, stats, s24le}
 use Rattle.reference.specs.Refusals.{decide, accepted, held_places}
 use Rattle.reference.specs.declared.Converter.{Converter}
-use Rattle.reference.specs.declared.ConvertStats.{ConvertStats}
+use Rattle.reference.specs.Promises.{Converted}
 use Rattle.dsf.specs.Dsf.{channels, frames}
 use Rattle.dsf.specs.Dsf as dsf
 use Rattle.dsf.specs.Reading.{header_places}
@@ -25,9 +25,9 @@ pub record StepArgs (head : List ℕ) (n : ℕ) (conv : Converter) (total first 
   pub room_after : length after ≡ frame_length (channels head)
   pub room_out : length out ≡ count * frame_size conv.rate (channels head)
 
-pub record Worked (conv : Converter) (r : Run) (before before' frames' after after' out' : List ℕ) (answer : ConvertStats) : Type 0 where
+pub record Worked (conv : Converter) (r : Run) (before before' frames' after after' out' : List ℕ) (answer : Converted) : Type 0 where
   pub written : out' ≡ s24le (samples conv r)
-  pub counted : answer ≡ stats conv r
+  pub counted : answer ≡ Ok (stats conv r)
   pub in_before : before' ≡ worked r.has_before r.before before
   pub in_frames : frames' ≡ r.frames
   pub in_after : after' ≡ worked r.has_after r.after after

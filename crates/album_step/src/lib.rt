@@ -2,92 +2,69 @@
 #![tactic(auto)]
 
 ghost use Rattle.std.specs.Prelude.{◌≡◌};
-ghost use Rattle.album_gather.specs.Steps.{StepPromise, Stepped, window_run};
-ghost use Rattle.reference.specs.Output.{samples, stats, s24le};
+ghost use Rattle.album_gather.specs.Steps.{StepPromise, window_run};
 ghost use Rattle.album_gather.specs.Steps as steps;
 ghost use Rattle.album_step.specs.Steps.{StepArgs, Worked};
 
 use album::Wanted;
-use album_gather::{Lent, gather, gather_one};
-use album_plan::less_one;
-use reference::{ConvertStats, Converted, Converter};
+use album_gather::{Lent, Window, gather, gather_one};
+use reference::{ConvertStats, Converter, PcmError, Run};
 
 // A neighbour's list, or an empty part of it where there is none.
+#[tactic(auto, unfolding(album_gather::specs::Steps::there))]
 fn present<'a>(there: bool, bytes: &'a [u8]) -> &'a [u8]
     ensures { result.now ≡ steps.there there bytes.now }
 {
-    if there {
-        return bytes;
-    }
-    &bytes[0..0]
+    if there { bytes } else { &bytes[0..0] }
 }
 
-// The step once it is accepted; the album has `total` frames of `size` bytes.
+// The step once it is accepted; the album has `total` frames. The lists cannot travel as one struct: two `&mut` of one
+// are not lent to two calls.
 fn work(
-    head: &[u8],
-    length: u64,
+    window: Window<'_>,
     conv: Converter,
     total: u64,
     first: u64,
     count: u64,
-    window: &[u8],
-    start: u64,
     before: &mut [u8],
     frames: &mut [u8],
     after: &mut [u8],
     out: &mut [u8],
-) -> ConvertStats
-    requires { StepArgs head.now «length» conv total first count window.now start before.old frames.old after.old out.old }
-    ensures { Worked conv (window_run head.now window.now start first count) before.old before.new frames.new after.old after.new out.new result }
+) -> Result<ConvertStats, PcmError>
+    requires { StepArgs window.head.now window.length conv total first count window.bytes.now window.start before.old frames.old after.old out.old }
+    ensures { Worked conv (window_run window.entry.head.now window.entry.bytes.now window.entry.start first count) before.old before.new frames.new after.old after.new out.new result }
 {
     let size = 4704 * conv.channels as usize;
     let has_before = 0 < first;
     let has_after = first + count < total;
-    let previous = less_one(first);
-    gather_one(
-        head, length, size, has_before, previous, window, start, before,
-    );
-    gather(head, length, size, first, count, window, start, frames);
-    gather_one(
-        head,
-        length,
-        size,
-        has_after,
-        first + count,
-        window,
-        start,
-        after,
-    );
-    let mut counts = [0u64; 1];
-    let made = scarletbook_pcm::convert_parts(
-        conv,
+    let previous = has_before.then_some(first.saturating_sub(1));
+    let next = has_after.then_some(first + count);
+    gather_one(window, size, previous, before);
+    gather(window, size, first, count, frames);
+    gather_one(window, size, next, after);
+    let mut counts = [0u64; 0];
+    let run = Run {
         has_before,
-        present(has_before, before),
+        before: present(has_before, before),
         frames,
         has_after,
-        present(has_after, after),
-        false,
-        out,
-        &mut counts[..0],
-    );
-    made.stats
+        after: present(has_after, after),
+    };
+    scarletbook_pcm::convert(conv, run, false, out, &mut counts)
 }
 
 // A step. The lists `before`, `frames` and `after` are places to work in.
 pub fn step(
-    head: &[u8],
-    length: u64,
+    window: Window<'_>,
     wanted: Wanted,
     first: u64,
     count: u64,
-    window: &[u8],
-    start: u64,
     before: &mut [u8],
     frames: &mut [u8],
     after: &mut [u8],
     out: &mut [u8],
-) -> Converted
-    ensures { StepPromise head.now «length» wanted first count window.now start before.old before.new frames.old frames.new after.old after.new out.old out.new result }
+) -> Result<ConvertStats, PcmError>
+    ensures { StepPromise window.entry.head.now window.entry.length wanted first count window.entry.bytes.now window.entry.start before.old before.new frames.old frames.new after.old after.new out.old out.new result }
 {
     let lent = Lent {
         before: before.len(),
@@ -95,25 +72,17 @@ pub fn step(
         after: after.len(),
         out: out.len(),
     };
-    let ready = album_gather::ready(
-        head,
-        length,
-        wanted,
+    let album = album_gather::ready(window, wanted, first, count, lent)?;
+    let conv = album::settings(wanted, album.channels as u8).converter();
+    work(
+        window,
+        conv,
+        album.frames,
         first,
         count,
-        start,
-        window.len(),
-        lent,
-    );
-    let verdict = ready.verdict;
-    if refusals::accepted(verdict) {
-        let a = ready.album;
-        let conv = reference::converter_of(album::settings(wanted, a.channels as u8));
-        let stats = work(
-            head, length, conv, a.frames, first, count, window, start, before, frames, after, out,
-        );
-        return Converted { verdict, stats };
-    }
-    let stats = reference::no_stats();
-    Converted { verdict, stats }
+        before,
+        frames,
+        after,
+        out,
+    )
 }

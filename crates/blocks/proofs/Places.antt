@@ -2,7 +2,7 @@
 use mathlib.Core.Path.{◌≡◌, refl, ◌∙◌, ap}
 use mathlib.Core.Bool.{Bool, true, false}
 use mathlib.Core.List.{List}
-use Prim.Native.Nat.{ℕ, ◌+◌, ◌*◌, ◌%◌, ◌^◌, ◌≤◌, ◌<◌}
+use Prim.Native.Nat.{ℕ, ◌+◌, ◌*◌, ◌/◌, ◌^◌, ◌≤◌, ◌<◌}
 use native.Mathlib.Omega.{arith}
 use lib.Dec.{lit≤}
 use lib.IntN.{ℤ}
@@ -19,23 +19,14 @@ use Rattle.routes.proofs.Filters.{halves_length}
 
 -- ---- blocks
 
--- a frame is a whole number of blocks: where one starts in the frame, it ends there
-pub next_block : (rate : PcmRate) (cutoff : Cutoff) (k : ℕ) → k % block_length rate cutoff ≡ 0 → k < samples_per_frame rate
-    → (k + block_length rate cutoff ≤ samples_per_frame rate) × ((k + block_length rate cutoff) % block_length rate cutoff ≡ 0)
+-- a frame is a whole number of blocks
+pub whole_blocks : (rate : PcmRate) (cutoff : Cutoff) → samples_per_frame rate / block_length rate cutoff * block_length rate cutoff ≡ samples_per_frame rate
 unfolding samples_per_frame block_length
-next_block Hz88200 cutoff k e l = (omega arith, omega arith)
-next_block Hz176400 Standard k e l = (omega arith, omega arith)
-next_block Hz176400 Low k e l = (omega arith, omega arith)
-next_block Hz176400 Wide k e l = (omega arith, omega arith)
-next_block Hz352800 cutoff k e l = (omega arith, omega arith)
-
-pub no_block : (rate : PcmRate) (cutoff : Cutoff) → 0 % block_length rate cutoff ≡ 0
-unfolding block_length
-no_block Hz88200 cutoff = refl
-no_block Hz176400 Standard = refl
-no_block Hz176400 Low = refl
-no_block Hz176400 Wide = refl
-no_block Hz352800 cutoff = refl
+whole_blocks Hz88200 cutoff = refl
+whole_blocks Hz176400 Standard = refl
+whole_blocks Hz176400 Low = refl
+whole_blocks Hz176400 Wide = refl
+whole_blocks Hz352800 cutoff = refl
 
 -- ---- taps
 

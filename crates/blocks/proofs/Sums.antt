@@ -1,44 +1,45 @@
 -- Samples to blocks, blocks to a channel of a frame: what the loops add up.
 use mathlib.Core.Path.{◌≡◌, refl, sym, ap, ◌∙◌, subst}
 use mathlib.Core.Logic.{⊎_elim}
-use mathlib.Core.Bool.{Bool, true, false, true≢false}
+use mathlib.Core.Bool.{Bool, true, false}
 use mathlib.Core.List.{List}
-use Prim.Native.Nat.{ℕ, ◌+◌, ◌-◌, ◌*◌, ◌%◌, ◌^◌, ◌≤◌, ◌<◌}
-use native.Mathlib.Nat.{mul-le-mul, mul-le-mul_right}
+use Prim.Native.Nat.{ℕ, ◌+◌, ◌*◌, ◌/◌, ◌%◌, ◌^◌, ◌≤◌, ◌<◌}
+use native.Mathlib.Nat.{mul-le-mul}
 use native.Mathlib.Omega.{arith}
+use lib.Arith.{digits_div}
 use borrow.Author.Tests.{ne_eqb}
 use lib.Dec.{eqb}
+use lib.Seq.{get_or-take}
 use lib.IntN.{ℤ, pos, nat_abs}
-use lib.Ieee.{Float}
-use lib.ListN.{length, take, replicate, length-replicate, get_or-replicate}
-use lib.Seq.{length-take-le, get_or-take}
+use lib.ListN.{length, take, length-take, replicate, length-replicate, get_or-replicate}
 use Rattle.numbers.specs.Sums.{at0}
 use Rattle.numbers.specs.Lists.{Held}
-use Rattle.numbers.proofs.Lists.{below_or, held_some}
-use Rattle.reference.specs.Frames.{Run, frame_count}
+use Rattle.numbers.proofs.Lists.{below_or}
+use Rattle.reference.specs.Frames.{Run, frame_length, frame_count}
 use Rattle.reference.specs.Scaling.{scaled, clamp}
 use Rattle.reference.specs.Stages.{taps_of, M, y}
-use Rattle.reference.specs.Output.{samples_per_frame, unclamped, sample, channel_samples, all_samples}
+use Rattle.reference.specs.Statistics.{no_samples, joined_channel}
+use Rattle.reference.specs.Output.{samples_per_frame, unclamped, sample, channel_samples}
 use Rattle.reference.specs.declared.PcmRate.{PcmRate}
 use Rattle.reference.specs.declared.PcmRate.TheVariants.{Hz88200, Hz176400, Hz352800}
 use Rattle.reference.specs.declared.Cutoff.{Cutoff}
 use Rattle.reference.specs.declared.Cutoff.TheVariants.{Standard, Low, Wide}
 use Rattle.reference.specs.declared.Converter.{Converter}
+use Rattle.reference.specs.declared.ChannelStats.{ChannelStats}
 use Rattle.reference.proofs.Frames.{frame_samples}
 use Rattle.channel_bytes.specs.Lent.{Lent, lent_run, byte_at}
 use Rattle.filters.specs.Filters.{Small}
 use Rattle.filters.proofs.Signals.{past}
 use Rattle.routes.specs.Routes.{last_of, y_of, stride, around, first_byte, block_length, fresh, margin_from, Kept, State}
 use Rattle.routes.proofs.Routes.{a_frame, y_of_is, y_of_size}
-use Rattle.gain.specs.Scale.{ScaledBlock}
-use Rattle.gain.specs.Tallies.{tally, none, joined, Joins}
-use Rattle.gain.specs.declared.Tally.{Tally}
-use Rattle.gain.proofs.Tallies.{tally_none, tally_join, tally_same, tally_fits, tally_few}
-use Rattle.output.specs.Fills.{FillsItems, FillsBytes, Drawn, Room}
-use Rattle.output.proofs.Boxes.{no_rows, no_cols, rows, cols}
-use Rattle.kernel.proofs.Blocks.{front_held, Margined, Blocked}
-use Rattle.blocks.proofs.Places.{next_block, no_block, few_taps, last_place, first_byte_more, margin_low, block_byte_near, block_byte_next}
+use Rattle.gain.specs.Tallies.{tally}
+use Rattle.gain.proofs.Tallies.{tally_none, tally_join, tally_same, tally_few}
+use Rattle.output.specs.Fills.{Layout, Drawn}
+use Rattle.output.proofs.Boxes.{no_rows, rows}
+use Rattle.kernel.proofs.Blocks.{Margined, Blocked}
+use Rattle.blocks.proofs.Places.{whole_blocks, few_taps, last_place, first_byte_more, margin_low, block_byte_near, block_byte_next}
 use Rattle.blocks.specs.Blocks.{Ready, Made}
+use Rattle.blocks.specs.declared.job.Job.{Job}
 
 -- ---- numbers of a rate
 
@@ -59,9 +60,20 @@ even_frames f Hz352800 = omega arith
 pub few_samples : (rate : PcmRate) (n : ℕ) → n ≤ 540000 → n * samples_per_frame rate ≤ 540000 * 4704
 few_samples rate n l = mul-le-mul l (frame_samples rate)
 
-pub run_samples : (conv : Converter) {b f a : List ℕ} → Lent conv.channels (frame_count conv.channels f) b f a → channel_samples conv (lent_run b f a) ≤ 540000 * 4704
-unfolding channel_samples lent_run
-run_samples conv {f = f} l = few_samples conv.rate (frame_count conv.channels f) l.limit
+module _ (conv : Converter) {count : ℕ} {b f a : List ℕ} (slices : Lent conv.channels count b f a) where
+  -- the slices of a run of `count` frames hold so many
+  counted : frame_count conv.channels f ≡ count
+  unfolding frame_count
+  counted =
+      let z : count * frame_length conv.channels ≡ count * frame_length conv.channels + 0 = omega arith in
+      rw (slices.whole, z) (digits_div count (omega (arith, slices.some)))
+
+  pub run_samples : channel_samples conv (lent_run b f a) ≡ count * samples_per_frame conv.rate
+  unfolding channel_samples lent_run
+  run_samples = ap (λ z. z * samples_per_frame conv.rate) counted
+
+  pub run_few : count * samples_per_frame conv.rate ≤ 540000 * 4704
+  run_few = few_samples conv.rate count slices.limit
 
 -- ---- a block of y, from sample k of channel c on
 
@@ -80,158 +92,57 @@ module _ {conv : Converter} {count : ℕ} {b f a : List ℕ} {tables taps : List
       ∙ ap (y conv.rate conv.cutoff (taps_of conv.filter) (byte_at conv.channels b f a c)) e)
 
   -- scaled and stored
-  pub block_made : {packed : Bool} {l : List ℤ} {told : Tally} {o o' : List ℤ} {w w' : List ℕ} → Held (pos 0) (λ i. clamp (scaled conv.gain.linear (at0 ys i))) 0 m l
+  pub block_made : {A : Type 0} {o : Layout A} {l : List ℤ} {told : ChannelStats} {x x' : List A} → ((i : ℕ) → i < m → at0 l i ≡ clamp (scaled conv.gain.linear (at0 ys i)))
       → told ≡ tally (λ i. scaled conv.gain.linear (at0 ys i)) 0 m
-      → ((S : ℕ → ℕ → ℤ) → Held (pos 0) (S c) k m l → Drawn packed S conv.channels k (k + m) c (c + 1) o o' w w')
-      → Made packed conv (lent_run b f a) c k m told o o' w w'
+      → ((S : ℕ → ℕ → ℤ) → Held (pos 0) (S c) k m l → Drawn o S conv.channels k (k + m) c (c + 1) x x')
+      → Made o conv (lent_run b f a) c k m told x x'
   unfolding sample
   block_made s t d =
       record {
-        box = λ S same. d S (record { is = λ i l. let z : 0 + i ≡ i = omega arith in s.is i l ∙ ap clamp (rw z (value_is i l)) ∙ sym (same i l) });
+        box = λ S same. d S (record { is = λ i l. s i l ∙ ap clamp (value_is i l) ∙ sym (same i l) });
         is_told = t ∙ tally_same _ (unclamped conv (lent_run b f a) c) 0 k m (λ i l. let z : 0 + i ≡ i = omega arith in rw z (value_is i l));
       }
 
--- ---- boxes, in the form that is asked for
-
-module _ {packed : Bool} {S : ℕ → ℕ → ℤ} {ch : ℕ} {x : List ℤ} {u : List ℕ} where
-  pub none_drawn : {lo hi left right : ℕ} → hi ≤ lo → Drawn packed S ch lo hi left right x x u u
-  none_drawn e = record { same = refl; same_bytes = refl; items = λ h. no_rows e; bytes = λ h. no_rows e; no_items = λ h. refl; no_bytes = λ h. refl }
-
-  pub no_columns : {lo hi n : ℕ} → Drawn packed S ch lo hi n n x x u u
-  no_columns = record { same = refl; same_bytes = refl; items = λ h. no_cols; bytes = λ h. no_cols; no_items = λ h. refl; no_bytes = λ h. refl }
-
-  -- the room is there after the box, too
-  pub room_same : {lo hi left right n : ℕ} {y : List ℤ} {v : List ℕ} → Drawn packed S ch lo hi left right x y u v → Room packed n (length x) (length u) → Room packed n (length y) (length v)
-  room_same d o = record { items = λ h. d.same ∙ o.items h; bytes = λ h. d.same_bytes ∙ o.bytes h }
-
-  module _ {y z : List ℤ} {v w : List ℕ} where
-    pub drawn_rows : {lo mid hi left right : ℕ} → Drawn packed S ch lo mid left right x y u v → Drawn packed S ch mid hi left right y z v w → Drawn packed S ch lo hi left right x z u w
-    drawn_rows f g =
-        record {
-          same = g.same ∙ f.same;
-          same_bytes = g.same_bytes ∙ f.same_bytes;
-          items = λ h. rows (f.items h) (g.items h);
-          bytes = λ h. rows (f.bytes h) (g.bytes h);
-          no_items = λ h. g.no_items h ∙ f.no_items h;
-          no_bytes = λ h. g.no_bytes h ∙ f.no_bytes h;
-        }
-
-    pub drawn_cols : {lo hi left mid right : ℕ} → Drawn packed S ch lo hi left mid x y u v → Drawn packed S ch lo hi mid right y z v w → Drawn packed S ch lo hi left right x z u w
-    drawn_cols f g =
-        record {
-          same = g.same ∙ f.same;
-          same_bytes = g.same_bytes ∙ f.same_bytes;
-          items = λ h. cols (f.items h) (g.items h);
-          bytes = λ h. cols (f.bytes h) (g.bytes h);
-          no_items = λ h. g.no_items h ∙ f.no_items h;
-          no_bytes = λ h. g.no_bytes h ∙ f.no_bytes h;
-        }
-
--- ---- the front of an array, scaled, and stored
-
-pub front_length : {A : Type 0} (m : ℕ) (l : List A) → m ≤ length l → length (take (m - 0) l) ≡ m
-front_length m l room = length-take-le (m - 0) l (omega arith) ∙ omega arith
-
-module _ (factor : Float) (m : ℕ) (y : List ℤ) (room : m ≤ length y) {old new : List ℤ} {told : Tally} (s : ScaledBlock factor (take (m - 0) y) old new told) where
-  pub part_scaled : Held (pos 0) (λ k. clamp (scaled factor (at0 y k))) 0 m new
-  part_scaled =
-      record {
-        is = λ k q.
-            let z : 0 + k ≡ k = omega arith in
-            rw z (s.samples k (omega (arith, front_length m y room)) ∙ ap (λ v. clamp (scaled factor v)) (get_or-take (m - 0) y k (pos 0) (omega arith)));
-      }
-
-  pub part_told : told ≡ tally (λ k. scaled factor (at0 y k)) 0 m
-  part_told =
-      s.is_told ∙ rw (front_length m y room) (tally_same _ (λ k. scaled factor (at0 y k)) 0 0 m (λ k q. ap (scaled factor) (get_or-take (m - 0) y (0 + k) (pos 0) (omega arith))))
-
-held_part : {S : ℕ → ℤ} {n m : ℕ} {l : List ℤ} → m ≤ length l → Held (pos 0) S n m l → Held (pos 0) S n (length (take (m - 0) l)) (take (m - 0) l)
-held_part {m = m} {l} room h = held_some _ (omega (arith, front_length m l room)) (front_held h (m - 0) (omega arith))
-
-module _ {packed : Bool} {ch n c : ℕ} (m : ℕ) (l : List ℤ) (room : m ≤ length l) where
-  pub part_items : {x y : List ℤ} {u : List ℕ} → packed ≡ false → length y ≡ length x
-      → ((S : ℕ → ℕ → ℤ) → Held (pos 0) (S c) n (length (take (m - 0) l)) (take (m - 0) l) → FillsItems S ch n (n + length (take (m - 0) l)) c (c + 1) x y)
-      → (S : ℕ → ℕ → ℤ) → Held (pos 0) (S c) n m l → Drawn packed S ch n (n + m) c (c + 1) x y u u
-  part_items e k g S h =
-      record {
-        same = k;
-        same_bytes = refl;
-        items = λ w. rw (front_length m l room) at (g S (held_part room h));
-        bytes = λ w. absurd (true≢false (sym w ∙ e));
-        no_items = λ w. absurd (true≢false (sym w ∙ e));
-        no_bytes = λ w. refl;
-      }
-
-  pub part_bytes : {x : List ℤ} {u v : List ℕ} → packed ≡ true → length v ≡ length u
-      → ((S : ℕ → ℕ → ℤ) → Held (pos 0) (S c) n (length (take (m - 0) l)) (take (m - 0) l) → FillsBytes S ch n (n + length (take (m - 0) l)) c (c + 1) u v)
-      → (S : ℕ → ℕ → ℤ) → Held (pos 0) (S c) n m l → Drawn packed S ch n (n + m) c (c + 1) x x u v
-  part_bytes e k g S h =
-      record {
-        same = refl;
-        same_bytes = k;
-        items = λ w. absurd (true≢false (sym e ∙ w));
-        bytes = λ w. rw (front_length m l room) at (g S (held_part room h));
-        no_items = λ w. refl;
-        no_bytes = λ w. absurd (true≢false (sym e ∙ w));
-      }
-
-module _ {packed : Bool} {conv : Converter} {r : Run} {c n : ℕ} where
+module _ {A : Type 0} {o : Layout A} {conv : Converter} {r : Run} {c n : ℕ} where
   -- ---- blocks of a channel
 
-  pub made_none : {told : Tally} {x : List ℤ} {u : List ℕ} → told ≡ none → Made packed conv r c n 0 told x x u u
+  pub made_none : {told : ChannelStats} {x : List A} → told ≡ no_samples → Made o conv r c n 0 told x x
   made_none t =
       record {
-        box = λ S h. none_drawn (omega arith);
+        box = λ S h. no_rows (omega arith);
         is_told = t ∙ sym (tally_none (unclamped conv r c) n);
       }
 
-  pub made_drawn : {m : ℕ} {told : Tally} {x y : List ℤ} {u v : List ℕ} → Made packed conv r c n m told x y u v → Drawn packed (sample conv r) conv.channels n (n + m) c (c + 1) x y u v
+  pub made_drawn : {m : ℕ} {told : ChannelStats} {x y : List A} → Made o conv r c n m told x y → Drawn o (sample conv r) conv.channels n (n + m) c (c + 1) x y
   made_drawn f = f.box (sample conv r) (λ k l. refl)
 
-  pub made_few : {m : ℕ} {told : Tally} {x y : List ℤ} {u v : List ℕ} → Made packed conv r c n m told x y u v → told.clipped ≤ m
+  pub made_few : {m : ℕ} {told : ChannelStats} {x y : List A} → Made o conv r c n m told x y → told.clipped ≤ m
   made_few {m} f = rw f.is_told (tally_few (unclamped conv r c) n m)
 
-  module _ {a b : ℕ} {s t : Tally} {x y z : List ℤ} {u v w : List ℕ} (f : Made packed conv r c n a s x y u v) (g : Made packed conv r c (n + a) b t y z v w) where
-    pub made_fits : a + b < 2 ^ 64 → Joins s t
-    made_fits l = rw (f.is_told, g.is_told) (tally_fits (unclamped conv r c) (unclamped conv r c) n (n + a) a b l)
-
-    pub made_join : {both : Tally} → both ≡ joined s t → Made packed conv r c n (a + b) both x z u w
-    made_join j =
-        record {
-          box = λ S h.
-              let e : n + a + b ≡ n + (a + b) = omega arith in
-              subst (λ (hi : ℕ). Drawn packed S conv.channels n hi c (c + 1) x z u w) e
-              (drawn_rows (f.box S (λ k l. h k (omega arith))) (g.box S (λ k l. let i : n + a + k ≡ n + (a + k) = omega arith in rw i (h (a + k) (omega arith)))));
-          is_told = j ∙ rw (f.is_told, g.is_told) (tally_join (unclamped conv r c) n a b);
-        }
+  pub made_join : {a b : ℕ} {s t both : ChannelStats} {x y z : List A} → Made o conv r c n a s x y → Made o conv r c (n + a) b t y z → a + b < 2 ^ 64 → both ≡ joined_channel s t
+      → Made o conv r c n (a + b) both x z
+  made_join {a} {b} {x = x} {z = z} f g l j =
+      record {
+        box = λ S h.
+            let e : n + a + b ≡ n + (a + b) = omega arith in
+            subst (λ (hi : ℕ). Drawn o S conv.channels n hi c (c + 1) x z) e
+            (rows (f.box S (λ k l. h k (omega arith))) (g.box S (λ k l. let i : n + a + k ≡ n + (a + k) = omega arith in rw i (h (a + k) (omega arith)))));
+        is_told = j ∙ rw (f.is_told, g.is_told) (tally_join (unclamped conv r c) n a b l);
+      }
 
 -- ---- the loop over the blocks
-
--- the arrays
-pub record Sized (bytes : List ℕ) (odd x kept y samples : List ℤ) : Type 0 where
-  pub of_bytes : length bytes ≡ 512
-  pub of_odd : length odd ≡ 247
-  pub of_x : length x ≡ 512
-  pub of_kept : length kept ≡ 184
-  pub of_y : length y ≡ 336
-  pub of_samples : length samples ≡ 336
-
--- the numbers in the arrays that go on to the next block are small
-pub record Smalls (x kept : List ℤ) : Type 0 where
-  pub x_small : Small (2 ^ 27) x
-  pub kept_small : Small (2 ^ 29) kept
 
 -- the arrays and the position before the block at sample n of channel c; the kernel counts from the frame before the run
 pub record Staged (conv : Converter) (β : ℕ → ℕ) (first : Bool) (n at : ℕ) (x kept : List ℤ) : Type 0 where
   pub position : at ≡ first_byte conv.cutoff (margin_from conv.rate conv.cutoff (M (last_of conv)) first (samples_per_frame conv.rate + n) + 2 * M (last_of conv))
   pub state : State conv.rate conv.cutoff (last_of conv) first β (samples_per_frame conv.rate + n) x kept
 
--- the blocks below sample k of a frame's channel are done
-pub record Blocks (packed : Bool) (conv : Converter) (b f a : List ℕ) (c n k at : ℕ) (told : Tally) (x kept o o' : List ℤ) (w w' : List ℕ) : Type 0 where
-  pub within : k ≤ samples_per_frame conv.rate
-  pub aligned : k % block_length conv.rate conv.cutoff ≡ 0
-  pub staged : Staged conv (byte_at conv.channels b f a c) (eqb k 0) (n + k) at x kept
-  pub made : Made packed conv (lent_run b f a) c n k told o o' w w'
+-- b blocks of m samples of a frame's channel are done; the numbers in the arrays that go on to the next one are small
+pub record Blocks {A : Type 0} (o : Layout A) (conv : Converter) (r : Run) (β : ℕ → ℕ) (c n b m at : ℕ) (told : ChannelStats) (x kept : List ℤ) (out out' : List A) : Type 0 where
+  pub x_small : Small (2 ^ 27) x
+  pub kept_small : Small (2 ^ 29) kept
+  pub staged : Staged conv β (eqb b 0) (n + b * m) at x kept
+  pub made : Made o conv r c n (b * m) told out out'
 
 pub zeros_small : (n : ℕ) {B : ℕ} → Small B (replicate n (pos 0))
 zeros_small n {B} =
@@ -291,30 +202,40 @@ module _ {conv : Converter} {count : ℕ} {b f a : List ℕ} {tables taps : List
   pub staged_near : {first : Bool} {at : ℕ} {x kept : List ℤ} → Staged conv β first n at x kept → samples_per_frame rate + n < 2 ^ 50 → at < 2 ^ 62
   staged_near {first} s l = rw s.position (block_byte_near (M (last_of conv)) (samples_per_frame rate + n) few late rate cutoff first l)
 
-module _ {packed : Bool} {conv : Converter} {b f a : List ℕ} {c n : ℕ} {x kept o : List ℤ} {w : List ℕ} where
-  pub blocks_none : {at : ℕ} {told : Tally} → Staged conv (byte_at conv.channels b f a c) true n at x kept → told ≡ none → Blocks packed conv b f a c n 0 at told x kept o o w w
-  blocks_none s e =
+-- ---- a job
+
+-- what it goes by
+pub ready_of : (j : Job) → Ready j.conv j.slices.count j.slices.before.now j.slices.frames.now j.slices.after.now j.tables.now j.taps.now
+ready_of j = record { slices = rw j.same at j.slices.lent; first = j.first; last = j.last; factor = j.factor }
+
+-- ---- blocks of a frame's channel
+
+module _ {A : Type 0} {o : Layout A} {conv : Converter} {r : Run} {β : ℕ → ℕ} {c n m : ℕ} {x kept : List ℤ} {out : List A} where
+  pub blocks_none : {at : ℕ} {told : ChannelStats} → Small (2 ^ 27) x → Small (2 ^ 29) kept → Staged conv β true n at x kept → told ≡ no_samples → Blocks o conv r β c n 0 m at told x kept out out
+  blocks_none p q s e =
+      let z : 0 * m ≡ 0 = omega arith in
       let i : n + 0 ≡ n = omega arith in
-      record { within = omega arith; aligned = no_block conv.rate conv.cutoff; staged = rw i s; made = made_none e }
+      record { x_small = p; kept_small = q; staged = rw (z, i) s; made = rw z (made_none e) }
 
-  -- a block of m samples more
-  pub blocks_more : {k at at' : ℕ} {told more both : Tally} {x' kept' o' o'' : List ℤ} {w' w'' : List ℕ} (m : ℕ) → m ≡ block_length conv.rate conv.cutoff → 0 < m
-      → Blocks packed conv b f a c n k at told x kept o o' w w' → k < samples_per_frame conv.rate
-      → Staged conv (byte_at conv.channels b f a c) false (n + k + block_length conv.rate conv.cutoff) at' x' kept'
-      → Made packed conv (lent_run b f a) c (n + k) m more o' o'' w' w'' → both ≡ joined told more
-      → Blocks packed conv b f a c n (k + m) at' both x' kept' o o'' w w''
-  blocks_more {k} m is some d l s g j =
-      let e = next_block conv.rate conv.cutoff k d.aligned l in
-      let i : n + k + block_length conv.rate conv.cutoff ≡ n + (k + m) = omega arith in
-      let later : eqb (k + m) 0 ≡ false = ne_eqb (k + m) 0 (λ z. omega arith) in
-      record { within = omega arith; aligned = rw is e.1; staged = rw later (rw i at s); made = made_join d.made g j }
+  -- one more
+  pub blocks_more : {b at at' : ℕ} {told more both : ChannelStats} {x' kept' : List ℤ} {out' out'' : List A} → Blocks o conv r β c n b m at told x kept out out' → m ≡ block_length conv.rate conv.cutoff
+      → Small (2 ^ 27) x' → Small (2 ^ 29) kept' → Staged conv β false (n + b * m + block_length conv.rate conv.cutoff) at' x' kept'
+      → Made o conv r c (n + b * m) m more out' out'' → b * m + m < 2 ^ 64 → both ≡ joined_channel told more → Blocks o conv r β c n (b + 1) m at' both x' kept' out out''
+  blocks_more {b} d is p q s g l j =
+      let next : b * m + m ≡ (b + 1) * m = omega arith in
+      let i : n + b * m + block_length conv.rate conv.cutoff ≡ n + (b + 1) * m = omega arith in
+      let later : eqb (b + 1) 0 ≡ false = ne_eqb (b + 1) 0 (λ z. omega arith) in
+      record { x_small = p; kept_small = q; staged = rw later (rw i at s); made = rw next at (made_join d.made g l j) }
 
--- the room for the samples below e
-module _ {packed : Bool} (conv : Converter) (r : Run) {out raw : ℕ} (o : Room packed (all_samples conv r) out raw) {e : ℕ} (l : e ≤ channel_samples conv r) where
-  pub room_items : packed ≡ false → e * conv.channels ≤ out
-  unfolding all_samples
-  room_items h = omega (arith, o.items h, mul-le-mul_right conv.channels l)
+-- the front of what is held
+pub front_of : {f : ℕ → ℤ} {a n : ℕ} {l : List ℤ} (m : ℕ) → m ≤ n → Held (pos 0) f a n l → Held (pos 0) f a (length (take m l)) (take m l)
+front_of {l = l} m s held = record { is = λ k q. get_or-take m l k (pos 0) (omega (arith, length-take m l)) ∙ held.is k (omega (arith, length-take m l)) }
 
-  pub room_bytes : packed ≡ true → 3 * (e * conv.channels) ≤ raw
-  unfolding all_samples
-  room_bytes h = omega (arith, o.bytes h, mul-le-mul_right conv.channels l)
+-- samples that are stored, their number by another name
+pub stored : {A : Type 0} (o : Layout A) (ch : ℕ) {n c : ℕ} {l : List ℤ} {x z : List A} (a b : ℕ) → a ≡ b → ((S : ℕ → ℕ → ℤ) → Held (pos 0) (S c) n a l → Drawn o S ch n (n + a) c (c + 1) x z)
+    → (S : ℕ → ℕ → ℤ) → Held (pos 0) (S c) n b l → Drawn o S ch n (n + b) c (c + 1) x z
+stored o ch {n} {c} {l} {x} {z} a b e = subst (λ (m : ℕ). (S : ℕ → ℕ → ℤ) → Held (pos 0) (S c) n m l → Drawn o S ch n (n + m) c (c + 1) x z) e
+
+-- blocks up to the end of a frame
+pub at_end : (rate : PcmRate) (cutoff : Cutoff) {b spf m : ℕ} → spf ≡ samples_per_frame rate → m ≡ block_length rate cutoff → b ≡ spf / m → b * m ≡ samples_per_frame rate
+at_end rate cutoff e f h = rw (h, e, f) (whole_blocks rate cutoff)

@@ -1,14 +1,14 @@
 -- What the loops over blocks go by, and what they give.
-use Rattle.std.specs.Prelude.{◌≡◌, List, Bool, ℕ, ◌+◌, ◌<◌, T, ℤ}
+use Rattle.std.specs.Prelude.{◌≡◌, List, ℕ, ◌+◌, ◌<◌, T, ℤ}
 use Rattle.reference.specs.Frames.{Run}
 use Rattle.reference.specs.Output.{unclamped, sample}
 use Rattle.reference.specs.declared.Converter.{Converter}
+use Rattle.reference.specs.declared.ChannelStats.{ChannelStats}
 use Rattle.channel_bytes.specs.Lent.{Lent}
 use Rattle.routes.specs.Routes.{FirstTables, Taps, last_of}
 use Rattle.gain.specs.Scale.{bounded}
 use Rattle.gain.specs.Tallies.{tally}
-use Rattle.gain.specs.declared.Tally.{Tally}
-use Rattle.output.specs.Fills.{Drawn}
+use Rattle.output.specs.Fills.{Layout, Drawn}
 
 -- an accepted converter, the slices of a run of `count` frames, and the tables and taps of the converter's route
 pub record Ready (conv : Converter) (count : ℕ) (b f a : List ℕ) (tables taps : List ℤ) : Type 0 where
@@ -19,6 +19,6 @@ pub record Ready (conv : Converter) (count : ℕ) (b f a : List ℕ) (tables tap
 
 -- m samples of channel c from sample n on, written to the output, and what they tell. S is any signal that has these samples at their places, so
 -- that every other place keeps what it held
-pub record Made (packed : Bool) (conv : Converter) (r : Run) (c n m : ℕ) (told : Tally) (x y : List ℤ) (u v : List ℕ) : Type 0 where
-  pub box : (S : ℕ → ℕ → ℤ) → ((k : ℕ) → k < m → S c (n + k) ≡ sample conv r c (n + k)) → Drawn packed S conv.channels n (n + m) c (c + 1) x y u v
+pub record Made {A : Type 0} (o : Layout A) (conv : Converter) (r : Run) (c n m : ℕ) (told : ChannelStats) (x y : List A) : Type 0 where
+  pub box : (S : ℕ → ℕ → ℤ) → ((k : ℕ) → k < m → S c (n + k) ≡ sample conv r c (n + k)) → Drawn o S conv.channels n (n + m) c (c + 1) x y
   pub is_told : told ≡ tally (unclamped conv r c) n m

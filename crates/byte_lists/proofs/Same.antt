@@ -35,12 +35,10 @@ pub no_true : {A : Type 0} (a : Bool) → a ≡ true → a ≡ false → A
 no_true a e f = absurd (true≢false (sym e ∙ f))
 
 pub same_self : (xs : List ℕ) → same xs xs ≡ true
-unfolding same
 same_self [] = refl
 same_self (x ∷ xs) = and_both (eqb x x) (same xs xs) (eq-eqb x x refl) (same_self xs)
 
 pub same_is : (xs ys : List ℕ) → same xs ys ≡ true → xs ≡ ys
-unfolding same
 same_is [] [] e = refl
 same_is [] (y ∷ ys) e = absurd (true≢false (sym e))
 same_is (x ∷ xs) [] e = absurd (true≢false (sym e))
@@ -48,15 +46,12 @@ same_is (x ∷ xs) (y ∷ ys) e = ap₂ (λ (a : ℕ) (l : List ℕ). a ∷ l) (
 
 module _ (xs ys : List ℕ) (k : ℕ) (h : k < length xs) (i : k < length ys) where
   pub same_next : get_or xs k 0 ≡ get_or ys k 0 → same (drop k xs) (drop k ys) ≡ same (drop (suc k) xs) (drop (suc k) ys)
-  unfolding same
   same_next e = rw (drop-cons xs k 0 h, drop-cons ys k 0 i) (and_then _ _ (eq-eqb _ _ e))
 
   pub same_differ : get_or xs k 0 ≢ get_or ys k 0 → same (drop k xs) (drop k ys) ≡ false
-  unfolding same
   same_differ e = rw (drop-cons xs k 0 h, drop-cons ys k 0 i) (and_not _ _ (ne_eqb _ _ e))
 
 pub same_longer : (xs ys : List ℕ) → length xs ≢ length ys → same xs ys ≡ false
-unfolding same
 same_longer [] [] n = absurd (n refl)
 same_longer [] (y ∷ ys) n = refl
 same_longer (x ∷ xs) [] n = refl

@@ -1,16 +1,16 @@
--- Lists of bytes: where one holds a byte, and whether two are the same.
-use Rattle.std.specs.Prelude.{◌≡◌, List, [], ◌∷◌, Bool, true, false, ◌&&◌, ℕ, ◌≤◌, ◌<◌, eqb, length, get_or}
+-- Lists of bytes: cut at the first of a byte, and whether two are the same.
+use Rattle.std.specs.Prelude.{◌≡◌, List, ◌∷◌, ◌++◌, Bool, ℕ, ◌<◌, Option, length, get_or, MatchOption}
+use Rattle.std.specs.Str.{bytes_eq}
+use denote.Ref.{Bor}
 
--- the first place from `at` on that holds `end`, or the length
-pub record EndAt (t : List ℕ) (at end r : ℕ) : Type 0 where
-  pub from : at ≤ r
-  pub within : r ≤ length t
-  pub none_before : (k : ℕ) → at ≤ k → k < r → get_or t k 0 ≡ end → ⊥
-  pub holds : r < length t → get_or t r 0 ≡ end
+-- no byte of a text is this one
+pub record Without (byte : ℕ) (t : List ℕ) : Type 0 where
+  pub none : (k : ℕ) → k < length t → get_or t k 0 ≡ byte → ⊥
 
--- two lists are the same
-unfoldable pub same : List ℕ → List ℕ → Bool
-same [] [] = true
-same [] (y ∷ ys) = false
-same (x ∷ xs) [] = false
-same (x ∷ xs) (y ∷ ys) = eqb x y && same xs ys
+-- a text's part in front of the first of a byte, and the part after it; nothing where the text has none
+abbrev pub SplitOnce : ℕ → List ℕ → Option (Bor (List ℕ) × Bor (List ℕ)) → Type 0
+SplitOnce byte t r = MatchOption r (Without byte t) (λ p. Without byte p.0.now × (t ≡ p.0.now ++ (byte ∷ p.1.now)))
+
+-- two lists are the same, byte by byte: what `==` answers
+abbrev pub same : List ℕ → List ℕ → Bool
+same = bytes_eq

@@ -1,37 +1,20 @@
-// Lists of bytes: where one holds a byte, and whether two are the same.
+// Lists of bytes: cut at the first of a byte.
 #![tactic(auto)]
 
-ghost use Rattle.std.specs.Prelude.{◌≡◌, ◌≤◌, length};
-ghost use Rattle.byte_lists.specs.Lists.{EndAt, same};
+ghost use Rattle.std.specs.Prelude.{◌≡◌, position, nat_eq};
+ghost use Rattle.byte_lists.specs.Lists.{SplitOnce};
 
-// The first place from `at` on that holds a byte, or the length.
-pub fn end_at(text: &[u8], at: usize, end: u8) -> usize
-    requires { at ≤ length text.now }
-    ensures { EndAt text.now at end result }
+// The first place of a byte.
+fn place(text: &[u8], byte: u8) -> Option<usize>
+    ensures { result ≡ position (λ b. nat_eq b byte) text.now }
 {
-    let mut k = at;
-    while k < text.len() {
-        if text[k] == end {
-            return k;
-        }
-        k += 1;
-    }
-    k
+    text.iter().position(|item| *item == byte)
 }
 
-// Whether a list is this one.
-pub fn is(list: &[u8], this: &[u8]) -> bool
-    ensures { result ≡ same list.now this.now }
+// What is in front of the first of a byte, and what is after it.
+pub fn split_once(text: &[u8], byte: u8) -> Option<(&[u8], &[u8])>
+    ensures { SplitOnce byte text.now result }
 {
-    if list.len() != this.len() {
-        return false;
-    }
-    let mut k = 0usize;
-    while k < this.len() {
-        if list[k] != this[k] {
-            return false;
-        }
-        k += 1;
-    }
-    true
+    let end = place(text, byte)?;
+    Some((&text[..end], &text[end + 1..]))
 }

@@ -6,34 +6,34 @@ ghost use Rattle.reference.specs.Settings.{converter_of, held_settings};
 ghost use Rattle.reference.specs.Changes as changes;
 ghost use Rattle.reference.specs.Changes.{with_wanted, ChangePromise};
 
-use reference::{Converter, Cutoff, Gain, Opened, PcmRate, Settings};
+use reference::{Converter, Cutoff, Gain, PcmError, PcmRate, Settings};
 
 // What opening gives for the wanted settings, the held channels and the held filter.
+#[tactic(auto, unfolding(reference::specs::Changes::with_wanted))]
 fn wanted(conv: Converter, rate: PcmRate, cutoff: Cutoff, gain: Gain) -> Converter
     ensures { result ≡ converter_of (with_wanted (held_settings conv) (changes.change rate cutoff gain)) }
 {
-    let filter = conv.filter;
-    reference::converter_of(Settings {
+    let held = conv.settings();
+    let settings = Settings {
         rate,
         cutoff,
-        channels: conv.channels,
         gain,
-        own: true,
-        filter,
-    })
+        ..held
+    };
+    settings.converter()
 }
 
-// A refused change gives the record as held.
-pub fn change(conv: Converter, rate: PcmRate, cutoff: Cutoff, gain: Gain) -> Opened
-    ensures { ChangePromise conv (changes.change rate cutoff gain) result }
+// A refused change leaves the record as held.
+#[tactic(auto, using(crate::proofs::Changing::changed_promise, crate::proofs::Changing::kept_promise))]
+pub fn change(
+    conv: &mut Converter,
+    rate: PcmRate,
+    cutoff: Cutoff,
+    gain: Gain,
+) -> Result<(), PcmError>
+    ensures { ChangePromise conv.old (changes.change rate cutoff gain) conv.new result }
 {
-    let verdict = refusals::change(conv, rate, cutoff, gain);
-    let converter = wanted(conv, rate, cutoff, gain);
-    if refusals::accepted(verdict) {
-        return Opened { verdict, converter };
-    }
-    Opened {
-        verdict,
-        converter: conv,
-    }
+    refusals::change(*conv, rate, cutoff, gain)?;
+    *conv = wanted(*conv, rate, cutoff, gain);
+    Ok(())
 }

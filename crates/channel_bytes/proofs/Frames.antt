@@ -11,7 +11,8 @@ use lib.Arith.{digits_lt}
 use lib.Dec.{ltb, leb, eqb}
 use lib.ListN.{length, get_or, take, drop, length-append, length-drop, length-replicate, get_or-replicate, get_or-append, get_or-eq_default}
 use lib.Seq.{get_or-append-add, get_or-take, get_or-drop, length-take-le}
-use Rattle.numbers.specs.Lists.{Held, Wrote}
+use borrow.Rule.Slice.PartMut.{put_mid}
+use Rattle.numbers.specs.Lists.{Held}
 use Rattle.numbers.proofs.Lists.{below_or, part_end}
 use Rattle.reference.specs.Frames.{frame_length, frame, neighbour, sequence, channel_byte}
 use Rattle.channel_bytes.specs.Lent.{lent_run, Lent, frame_part, byte_at}
@@ -103,15 +104,24 @@ module _ {ch count : ℕ} {b f a : List ℕ} (lent : Lent ch count b f a) where
       go false d false g true = lent.last
       go false d false g false = λ some. absurd (omega arith)
 
-  -- m bytes more, of the frame that holds position p + k
-  pub gathered : (c p k m : ℕ) {part x y : List ℕ} → c < ch → (p + k) % 4704 + m ≤ 4704 → part ≡ frame_part ch count b f a ((p + k) / 4704)
-      → Held 0 (byte_at ch b f a c) p k x → Wrote 0 (λ j. get_or part (((p + k) % 4704 + j) * ch + c) 0x69) k m x y → Held 0 (byte_at ch b f a c) p (k + m) y
-  gathered c p k m {part} {x} {y} l room e old w = record { is = λ j s. ⊎_elim (λ t. w.kept j t ∙ old.is j t) (more j s) (below_or j k) }
+  -- m bytes more, of the frame that holds position p + k, to the places from k on
+  pub gathered : (c p k m : ℕ) {part x y : List ℕ} → c < ch → (p + k) % 4704 + m ≤ 4704 → k + m ≤ length x → length y ≡ m → part ≡ frame_part ch count b f a ((p + k) / 4704)
+      → Held 0 (byte_at ch b f a c) p k x → Held 0 (λ j. get_or part (j * ch + c) 0x69) ((p + k) % 4704) m y → Held 0 (byte_at ch b f a c) p (k + m) (put_mid k m x y)
+  gathered c p k m {part} {x} {y} l room within long e old new = record { is = λ j s. ⊎_elim (before j) (more j s) (below_or j k) }
     where
-      more : (j : ℕ) → j < k + m → k ≤ j → get_or y j 0 ≡ byte_at ch b f a c (p + j)
+      front : length (take k x) ≡ k
+      front = length-take-le k x (omega arith)
+
+      before : (j : ℕ) → j < k → get_or (put_mid k m x y) j 0 ≡ byte_at ch b f a c (p + j)
+      before j t = get_or-append (take k x) _ 0 j (omega (arith, front)) ∙ get_or-take k x j 0 t ∙ old.is j t
+
+      more : (j : ℕ) → j < k + m → k ≤ j → get_or (put_mid k m x y) j 0 ≡ byte_at ch b f a c (p + j)
       more j s t =
-          let i : k + (j - k) ≡ j = omega arith in
+          let i : length (take k x) + (j - k) ≡ j = omega (arith, front) in
           let n : p + j ≡ (p + k) / 4704 * 4704 + ((p + k) % 4704 + (j - k)) = omega arith in
-          (rw i at (w.done (j - k) (omega arith)))
+          ap (λ z. get_or (put_mid k m x y) z 0) (sym i)
+          ∙ get_or-append-add (take k x) _ (j - k) 0
+          ∙ get_or-append y _ 0 (j - k) (omega arith)
+          ∙ new.is (j - k) (omega arith)
           ∙ ap (λ (z : List ℕ). get_or z (((p + k) % 4704 + (j - k)) * ch + c) 0x69) e
           ∙ sym (ap (byte_at ch b f a c) n ∙ held c ((p + k) / 4704) ((p + k) % 4704 + (j - k)) l (omega arith))

@@ -1,36 +1,45 @@
 -- Laws of columns: what is put after its blanks, and entries that fit.
-use mathlib.Core.Path.{◌≡◌, refl, ◌∙◌}
+use mathlib.Core.Path.{◌≡◌, refl}
 use mathlib.Core.Bool.{Bool, true, false, ◌||◌}
-use mathlib.Core.List.{List, [], ◌∷◌, append-nil}
+use mathlib.Core.List.{List, [], ◌∷◌}
 use Prim.Native.Nat.{ℕ, ◌+◌, ◌-◌, ◌≤◌}
 use native.Mathlib.Omega.{arith}
-use borrow.Author.Tests.{ltb-false}
+use borrow.Author.Tests.{ltb-false, le-ltb}
 use lib.Dec.{ltb}
-use lib.IntN.{ℤ}
-use lib.ListN.{length, replicate, length-replicate}
-use Rattle.level_lines.specs.Text.{text, signed, Printed}
-use Rattle.level_lines.proofs.Printing.{then}
-use Rattle.columns.specs.Columns.{Entry, entry, column, level, too_wide}
+use lib.IntN.{ℤ, pos, negsuc, nat_abs}
+use lib.Signed.{lt_z}
+use mir.Val.{bool_byte}
+use lib.ListN.{length, replicate, length-append, length-replicate}
+use Rattle.level_lines.specs.Text.{text, decimal, signed}
+use Rattle.std.specs.Prelude.{Some, None}
+use Rattle.level_lines.specs.Writing.{Prints}
+use Rattle.level_lines.specs.declared.text.Text.{Text}
+use Rattle.level_lines.proofs.Writing.{both}
+use Rattle.columns.specs.Columns.{Entry, entry, column, level_text, too_wide}
 
 -- a text of k characters after its blanks
-pub in_column : {w k : ℕ} {t old mid new : List ℕ} {at m n : ℕ} → k ≡ length t → length t ≤ w → Printed (replicate (w - k) 32) old at mid m → Printed t mid m new n
-    → Printed (column (entry w t)) old at new n × (n ≡ at + w)
+pub in_column : {w k : ℕ} {t : List ℕ} {a b c : Text} → k ≡ length t → length t ≤ w → Prints (replicate (w - k) 32) a b → Prints t b c → Prints (column (entry w t)) a c
 unfolding column
-in_column {w} {k} {t} {at = at} e h p q =
-    let r = then p q in (rw e at r, q.after ∙ omega (arith, p.after, length-replicate {A = ℕ} (w - k) 32))
+in_column e h p q = rw e at (both p q)
 
--- blanks alone
-pub only_blanks : (w : ℕ) {old new : List ℕ} {at n : ℕ} → Printed (replicate w 32) old at new n → Printed (column (entry w [])) old at new n × (n ≡ at + w)
+-- it ends where the column does
+pub column_end : {w : ℕ} (t : List ℕ) {a b : Text} → Prints (column (entry w t)) a b → length t ≤ w → b.at ≡ a.at + w
 unfolding column
-only_blanks w p = let e : w - 0 ≡ w = omega arith in (rw (append-nil, e) p, p.after ∙ omega (arith, length-replicate {A = ℕ} w 32))
+column_end {w} t p h = omega (arith, p.printed.after, length-append (replicate {A = ℕ} (w - length t) 32) t, length-replicate {A = ℕ} (w - length t) 32)
 
-pub no_level : (b : Bool) (z : ℤ) → b ≡ true → level b z ≡ 45 ∷ []
-unfolding level text
-no_level b z e = rw e
+pub no_level : level_text None ≡ 45 ∷ []
+unfolding level_text text
+no_level = refl
 
-pub some_level : (b : Bool) (z : ℤ) → b ≡ false → level b z ≡ signed z
-unfolding level
-some_level b z e = rw e
+pub some_level : (z : ℤ) → level_text (Some z) ≡ signed z
+unfolding level_text
+some_level z = refl
+
+-- the digits of the size, and one character more below 0
+pub with_sign : (z : ℤ) → length (decimal (nat_abs z)) + bool_byte (lt_z z (pos 0)) ≡ length (signed z)
+unfolding signed
+with_sign (pos n) = rw (le-ltb n 0 (omega arith)) (omega arith)
+with_sign (negsuc n) = let e : bool_byte true ≡ 1 = refl in omega arith
 
 pub or_left : (a b : Bool) → a || b ≡ false → (a ≡ false) × (b ≡ false)
 or_left true b e = let z : ◌≡◌ {A = ℕ} 0 1 = cc in absurd (omega arith)

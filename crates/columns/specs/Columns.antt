@@ -1,5 +1,5 @@
 -- Columns: entries of a line, each right-aligned with blanks.
-use Rattle.std.specs.Prelude.{List, [], ◌∷◌, ◌++◌, map, Bool, true, false, ◌||◌, ℕ, ◌-◌, ltb, ℤ, length, replicate}
+use Rattle.std.specs.Prelude.{List, [], ◌∷◌, ◌++◌, map, Bool, false, ◌||◌, ℕ, ◌-◌, ltb, ℤ, Option, Some, None, length, replicate}
 use Rattle.level_lines.specs.Text.{text, signed}
 use Rattle.level_lines.specs.Lines.{printed}
 
@@ -25,6 +25,6 @@ too_wide [] = false
 too_wide (e ∷ es) = ltb e.width (length e.shown) || too_wide es
 
 -- lowest or highest; a single hyphen where there are no samples
-unfoldable pub level : Bool → ℤ → List ℕ
-level true z = text "-"
-level false z = signed z
+unfoldable pub level_text : Option ℤ → List ℕ
+level_text None = text "-"
+level_text (Some z) = signed z

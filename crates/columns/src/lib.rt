@@ -3,68 +3,57 @@
 
 ghost use Rattle.std.specs.Prelude.{◌≡◌, ◌+◌, ◌≤◌, length, replicate};
 ghost use Rattle.level_lines.specs.Text as texts;
-ghost use Rattle.level_lines.specs.Text.{Printed};
-ghost use Rattle.columns.specs.Columns.{column, entry};
-ghost use Rattle.columns.specs.Columns as defs;
+ghost use Rattle.level_lines.specs.Writing.{Prints};
+ghost use Rattle.columns.specs.Columns.{column, entry, level_text};
 
-use level_lines::text;
+use level_lines::Text;
 
 // How many digits n has.
 pub fn digits(n: u64) -> usize
     ensures { (result ≡ length (texts.decimal n)) × (result ≤ 20) }
 {
-    let mut rest = n;
-    let mut k = 1usize;
-    while rest >= 10 {
-        rest = rest / 10;
-        k += 1;
-    }
-    k
+    if n < 10 { 1 } else { digits(n / 10) + 1 }
 }
 
 // How many characters a channel's lowest or highest has, its sign counted.
-pub fn level_width(none: bool, z: i64) -> usize
-    ensures { result ≡ length (defs.level none z) }
+pub fn width_of(level: Option<i64>) -> usize
+    ensures { result ≡ length (level_text level) }
 {
-    if none {
-        return 1;
+    match level {
+        None => 1,
+        Some(z) => digits(z.unsigned_abs()) + usize::from(z < 0),
     }
-    let n = digits(text::size(z));
-    if z < 0 { n + 1 } else { n }
 }
 
 // n blanks.
-pub fn blanks(out: &mut [u8], at: usize, n: usize) -> usize
-    requires { at + n ≤ length out.old }
-    ensures { Printed (replicate n 32) out.old at out.new result }
+pub fn put_blanks(text: &mut Text, n: usize)
+    requires { text.old.at + n ≤ length text.old.out.now }
+    ensures { Prints (replicate n 32) text.old text.new }
 {
-    let mut k = 0usize;
-    while k < n {
-        out[at + k] = b' ';
-        k += 1;
-    }
-    at + n
+    let end = text.at + n;
+    text.out[text.at..end].fill(b' ');
+    text.at = end;
 }
 
 // A number in a column.
-pub fn number(out: &mut [u8], at: usize, width: usize, n: u64) -> usize
-    requires { (length (texts.decimal n) ≤ width) × (at + width ≤ length out.old) }
-    ensures printed { Printed (column (entry width (texts.decimal n))) out.old at out.new result }
-    ensures value { result ≡ at + width }
+pub fn put_number(text: &mut Text, width: usize, n: u64)
+    requires { (length (texts.decimal n) ≤ width) × (text.old.at + width ≤ length text.old.out.now) }
+    ensures printed { Prints (column (entry width (texts.decimal n))) text.old text.new }
+    ensures value { text.new.at ≡ text.old.at + width }
 {
-    let next = blanks(out, at, width - digits(n));
-    text::decimal(out, next, n)
+    put_blanks(text, width - digits(n));
+    text.decimal(n);
 }
 
 // A channel's lowest or highest in a column of twelve; a hyphen where it has no samples.
-pub fn level(out: &mut [u8], at: usize, empty: bool, z: i64) -> usize
-    requires { (length (defs.level «empty» z) ≤ 12) × (at + 12 ≤ length out.old) }
-    ensures printed { Printed (column (entry 12 (defs.level «empty» z))) out.old at out.new result }
-    ensures value { result ≡ at + 12 }
+pub fn put_level(text: &mut Text, level: Option<i64>)
+    requires { (length (level_text level) ≤ 12) × (text.old.at + 12 ≤ length text.old.out.now) }
+    ensures printed { Prints (column (entry 12 (level_text level))) text.old text.new }
+    ensures value { text.new.at ≡ text.old.at + 12 }
 {
-    let next = blanks(out, at, 12 - level_width(empty, z));
-    if empty {
-        return text::put(out, next, b"-");
+    put_blanks(text, 12 - width_of(level));
+    match level {
+        None => text.put(b"-"),
+        Some(z) => text.signed(z),
     }
-    text::signed(out, next, z)
 }

@@ -1,15 +1,14 @@
 -- The examples hold.
 use mathlib.Core.List.{flat_map}
 use Rattle.level_lines.specs.Text.{text}
-use Rattle.level_settings.specs.Settings.{rate_text, cutoff_text}
-use Rattle.byte_lists.specs.Lists.{same}
+use Rattle.level_settings.specs.Settings.{rate_text, cutoff_text, rate_named, cutoff_named}
 use Rattle.command_words.specs.Words.{name}
 use Rattle.command_grammar.specs.Examples.{Examples}
-use Rattle.command_grammar.specs.Reading.{option, plain, lasting, rate, cutoff, sheet, input, output, after, line_of}
+use Rattle.command_grammar.specs.Reading.{option, plain, value, sheet_of, input, output, after, line_of}
 use Rattle.command_grammar.proofs.Promise.{line_read}
 
 pub examples : Examples
-unfolding line_of after option plain lasting rate rate_text cutoff cutoff_text sheet input output name same text flat_map
+unfolding line_of after option plain value rate_named rate_text cutoff_named cutoff_text sheet_of input output name text flat_map
 examples =
     record {
       two_names = line_read _;

@@ -1,9 +1,10 @@
 -- What the words read so far are, by what is expected next.
-use mathlib.Core.Path.{◌≡◌, refl, sym, ap, ◌∙◌}
+use mathlib.Core.Path.{◌≡◌, refl, sym, ◌∙◌}
 use mathlib.Core.List.{List, [], ◌∷◌, ◌++◌, flat_map, append_assoc, append-nil}
-use mathlib.Core.Bool.{Bool, true, false, true≢false}
+use mathlib.Core.Bool.{Bool, true, false}
 use Prim.Native.Nat.{ℕ, ◌+◌, ◌<◌}
 use native.Mathlib.Omega.{arith}
+use lib.IntN.{pos}
 use lib.ListN.{length, length-append}
 use lib.Seq.{take-append-le}
 use Rattle.reference.specs.declared.PcmRate.TheVariants.{Hz88200}
@@ -11,13 +12,14 @@ use Rattle.reference.specs.declared.Cutoff.TheVariants.{Low}
 use Rattle.level_lines.specs.Text.{text, decimal, signed}
 use Rattle.level_settings.specs.Settings.{rate_text, cutoff_text}
 use Rattle.command_words.specs.Words.{Word, name}
-use Rattle.command_grammar.specs.Grammar.{db_at, Option, option_words, Allowed, AllAllowed, Command, Right, mark, command_words, command_line, After_options, Taken, Continues, FaultAt}
-use Rattle.command_grammar.specs.Reading.{fault, start, after, line_of}
-use Rattle.command_grammar.specs.declared.Options.{Options}
+use Rattle.command_grammar.specs.Grammar.{Option, option_words, Allowed, AllAllowed, Command, Right, mark, command_words, command_line, After_options, Taken, Continues, FaultAt}
+use Rattle.command_grammar.specs.Reading.{start, after, line_of}
 use Rattle.command_grammar.specs.declared.Line.{Line}
-use Rattle.command_grammar.specs.declared.Asked.TheVariants.{Usage}
-use Rattle.command_grammar.specs.declared.Expect.{Expect}
-use Rattle.command_grammar.specs.declared.Expect.TheVariants as expect
+use Rattle.command_grammar.specs.declared.Line.TheVariants.{Usage}
+use Rattle.command_grammar.specs.declared.Valued.{Valued}
+use Rattle.command_grammar.specs.declared.Valued.TheVariants as valued
+use Rattle.command_grammar.specs.declared.State.{State}
+use Rattle.command_grammar.specs.declared.State.TheVariants as state
 use Rattle.command_grammar.proofs.Taking.{after_append, stays, taken_read}
 
 -- ---- options, and then some words
@@ -61,17 +63,17 @@ prefix ws more c = record { more = more ++ c.more; line = c.line; all = rw (sym 
 complete : {ws : List Word} {line : Line} → Taken ws line → Continues ws
 complete {ws} {line} t = record { more = []; line = line; all = rw (append-nil ws) t }
 
-pub not_usage : {ws : List Word} {line : Line} → Taken ws line → line.asked ≡ Usage → ⊥
+pub not_usage : {ws : List Word} {line : Line} {k : ℕ} → Taken ws line → line ≡ Usage k → ⊥
 unfolding command_line
 not_usage (Taken.command c r q) e = let z : ◌≡◌ {A = ℕ} 0 1 = cc in omega arith
 not_usage (Taken.help h) e = let z : ◌≡◌ {A = ℕ} 0 1 = cc in omega arith
 not_usage (Taken.version h) e = let z : ◌≡◌ {A = ℕ} 0 1 = cc in omega arith
 
-pub dead : (us : List Word) (o : Options) (k : ℕ) → after start 0 us ≡ fault o k → Continues us → ⊥
+pub dead : (us : List Word) (k : ℕ) → after start 0 us ≡ state.Fault k → Continues us → ⊥
 unfolding line_of
-dead us o k q c =
-    let ends : after start 0 (us ++ c.more) ≡ fault o k = after_append start 0 us c.more ∙ rw q (stays (fault o k) (λ j w. refl) (0 + length us) c.more) in
-    not_usage c.all (ap (λ (l : Line). l.asked) (sym (taken_read c.all)) ∙ rw ends refl)
+dead us k q c =
+    let ends : after start 0 (us ++ c.more) ≡ state.Fault k = after_append start 0 us c.more ∙ rw q (stays (state.Fault k) (λ j w. refl) (0 + length us) c.more) in
+    not_usage {k = k} c.all (sym (taken_read c.all) ∙ rw ends refl)
 
 pub goes_on : {ws : List Word} → Past ws [] → Continues ws
 goes_on p = record { more = text "--help" ∷ []; line = _; all = Taken.help (record { options = p.options; allowed = p.allowed; rest = []; is = (and_word p (text "--help")).is }) }
@@ -89,20 +91,22 @@ pub record Whole (ws : List Word) : Type 0 where
   pub right : Right command
   pub is : ws ≡ command_words command
 
-abbrev pub Reached : Expect → List Word → ℕ → Type 0
-Reached expect.Option ws k = Past ws []
-Reached expect.Rate ws k = Past ws (text "-r" ∷ [])
-Reached expect.Cutoff ws k = Past ws (text "-c" ∷ [])
-Reached expect.Gain ws k = Past ws (text "-g" ∷ [])
-Reached expect.Sheet ws k = Past ws (text "-s" ∷ [])
-Reached expect.Jobs ws k = Past ws (text "-j" ∷ [])
-Reached expect.Input ws k = Past ws (text "--" ∷ [])
-Reached expect.Output ws k = Named ws false
-Reached expect.MarkedOutput ws k = Named ws true
-Reached expect.Nothing ws k = Whole ws
-Reached expect.Help ws k = After_options ws (text "--help")
-Reached expect.Version ws k = After_options ws (text "--version")
-Reached expect.Fault ws k = (k < length ws) × FaultAt ws k
+abbrev pub valued_word : Valued → Word
+valued_word valued.Rate = text "-r"
+valued_word valued.Cutoff = text "-c"
+valued_word valued.Gain = text "-g"
+valued_word valued.Sheet = text "-s"
+valued_word valued.Jobs = text "-j"
+
+abbrev pub Reached : State → List Word → Type 0
+Reached (state.Option o) ws = Past ws []
+Reached (state.Value v o) ws = Past ws (valued_word v ∷ [])
+Reached (state.Input o) ws = Past ws (text "--" ∷ [])
+Reached (state.Output o first marked) ws = Named ws marked
+Reached (state.Names o first second) ws = Whole ws
+Reached state.Help ws = After_options ws (text "--help")
+Reached state.Version ws = After_options ws (text "--version")
+Reached (state.Fault k) ws = (k < length ws) × FaultAt ws k
 
 -- ---- one more word
 
@@ -133,42 +137,22 @@ module _ (ws : List Word) (w : Word) where
         at = λ _. rw (take-append-le (k + 1) ws (w ∷ []) (omega arith)) (f.at h);
       }
 
-whole_goes_on : {ws : List Word} → Whole ws → Continues ws
+pub whole_goes_on : {ws : List Word} → Whole ws → Continues ws
 whole_goes_on h = complete (Taken.command h.command h.right h.is)
 
-named_goes_on : {ws : List Word} (m : Bool) → Named ws m → Continues ws
+pub named_goes_on : {ws : List Word} (m : Bool) → Named ws m → Continues ws
 unfolding name text
 named_goes_on {ws} true n = prefix ws _ (whole_goes_on (pair ws (text "a") true n refl))
 named_goes_on {ws} false n = prefix ws _ (whole_goes_on (pair ws (text "a") false n refl))
 
--- all but a fault
-abbrev pub live : Expect → Bool
-live expect.Option = true
-live expect.Rate = true
-live expect.Cutoff = true
-live expect.Gain = true
-live expect.Sheet = true
-live expect.Jobs = true
-live expect.Input = true
-live expect.Output = true
-live expect.MarkedOutput = true
-live expect.Nothing = true
-live expect.Help = true
-live expect.Version = true
-live expect.Fault = false
+pub value_goes_on : (ws : List Word) (v : Valued) → Past ws (valued_word v ∷ []) → Continues ws
+unfolding option_words Allowed text
+value_goes_on ws valued.Rate p = prefix ws _ (goes_on (value ws (rate_text Hz88200) p (Option.rate Hz88200) tt refl))
+value_goes_on ws valued.Cutoff p = prefix ws _ (goes_on (value ws (cutoff_text Low) p (Option.cutoff Low) tt refl))
+value_goes_on ws valued.Gain p = prefix ws _ (goes_on (value ws (signed (pos 0)) p (Option.gain (pos 0)) (record { le = tt }, record { le = tt }) refl))
+value_goes_on ws valued.Sheet p = prefix ws _ (goes_on (value ws (text "-") p (Option.sheet (text "-")) (omega arith) refl))
+value_goes_on ws valued.Jobs p = prefix ws _ (goes_on (value ws (decimal 1) p (Option.jobs 1) (omega arith, omega arith) refl))
 
-pub alive : (ws : List Word) (k : ℕ) (e : Expect) → live e ≡ true → Reached e ws k → Continues ws
-unfolding option_words Allowed mark name text
-alive ws k expect.Option n p = goes_on p
-alive ws k expect.Rate n p = prefix ws _ (goes_on (value ws (rate_text Hz88200) p (Option.rate Hz88200) tt refl))
-alive ws k expect.Cutoff n p = prefix ws _ (goes_on (value ws (cutoff_text Low) p (Option.cutoff Low) tt refl))
-alive ws k expect.Gain n p = prefix ws _ (goes_on (value ws (signed (db_at 0)) p (Option.gain 0) (omega arith) refl))
-alive ws k expect.Sheet n p = prefix ws _ (goes_on (value ws (text "-") p (Option.sheet (text "-")) (omega arith) refl))
-alive ws k expect.Jobs n p = prefix ws _ (goes_on (value ws (decimal 1) p (Option.jobs 1) (omega arith, omega arith) refl))
-alive ws k expect.Input n p = prefix ws (text "a" ∷ []) (named_goes_on true (record { word = text "a"; is = refl; past = and_word p (text "a") }))
-alive ws k expect.Output n p = named_goes_on false p
-alive ws k expect.MarkedOutput n p = named_goes_on true p
-alive ws k expect.Nothing n p = whole_goes_on p
-alive ws k expect.Help n p = complete (Taken.help p)
-alive ws k expect.Version n p = complete (Taken.version p)
-alive ws k expect.Fault n p = absurd (true≢false (sym n))
+pub input_goes_on : (ws : List Word) → Past ws (text "--" ∷ []) → Continues ws
+unfolding mark name text
+input_goes_on ws p = prefix ws (text "a" ∷ []) (named_goes_on true (record { word = text "a"; is = refl; past = and_word p (text "a") }))

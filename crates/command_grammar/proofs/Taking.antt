@@ -1,28 +1,24 @@
 -- What the grammar takes is read as that.
 use mathlib.Core.Path.{◌≡◌, refl, sym, ap, ◌∙◌}
 use mathlib.Core.List.{List, [], ◌∷◌, ◌++◌, flat_map}
-use mathlib.Core.Bool.{Bool, true, false, true≢false}
+use mathlib.Core.Bool.{Bool, true, false, ◌&&◌, true≢false}
 use Prim.Native.Nat.{ℕ, suc, ◌+◌, ◌-◌, ◌<◌}
 use native.Mathlib.Nat.{add-zero, zero-add}
 use native.Mathlib.Numerals.{add-one}
 use native.Mathlib.Omega.{arith}
 use lib.Dec.{eqb, ltb}
 use lib.ListN.{length, length-append}
-use borrow.Author.Tests.{lt-ltb, le-ltb, not-true}
-use Rattle.reference.specs.declared.PcmRate.TheVariants.{Hz88200, Hz176400, Hz352800}
-use Rattle.reference.specs.declared.Cutoff.TheVariants.{Standard, Low, Wide}
+use borrow.Author.Tests.{lt-ltb, not-true}
 use Rattle.level_lines.specs.Text.{text}
-use Rattle.level_settings.specs.Settings.{rate_text, cutoff_text}
-use Rattle.byte_lists.specs.Lists.{same}
+use Rattle.level_settings.proofs.Fields.{rate_back, cutoff_back}
 use Rattle.command_words.specs.Words.{Word, name}
-use Rattle.byte_lists.proofs.Same.{and_right}
 use Rattle.command_grammar.specs.Grammar as grammar
 use Rattle.command_grammar.specs.Grammar.{Option, option_words, Allowed, AllAllowed, defaults, taken, all_taken, Command, mark, command_words, command_line, Taken}
-use Rattle.command_grammar.specs.Reading.{state, on, start, option, plain, lasting, rate, cutoff, gain, sheet, jobs, input, output, next, after, line_of}
+use Rattle.command_grammar.specs.Reading.{start, sheet_of, value, option, plain, input, output, next, after, line_of}
 use Rattle.command_grammar.specs.declared.Options.{Options}
 use Rattle.command_grammar.specs.declared.Line.{Line}
 use Rattle.command_grammar.specs.declared.State.{State}
-use Rattle.command_grammar.specs.declared.Expect.TheVariants as expect
+use Rattle.command_grammar.specs.declared.State.TheVariants as state
 use Rattle.command_grammar.proofs.Values.{jobs_back, gain_back}
 
 -- ---- words one after the other
@@ -45,40 +41,40 @@ pub some_name : (w : Word) → 0 < length w → name true w ≡ true
 unfolding name
 some_name w h = rw (lt-ltb 0 (length w) h) refl
 
-option_read : (x : Option) (k : ℕ) (o : Options) → Allowed x → after (on o) k (option_words x) ≡ on (taken k x o)
-unfolding after option_words taken Allowed option plain same text rate rate_text cutoff cutoff_text gain sheet jobs
-option_read (Option.rate Hz88200) k o h = refl
-option_read (Option.rate Hz176400) k o h = refl
-option_read (Option.rate Hz352800) k o h = refl
-option_read (Option.cutoff Standard) k o h = refl
-option_read (Option.cutoff Low) k o h = refl
-option_read (Option.cutoff Wide) k o h = refl
-option_read (Option.gain n) k o h = rw (gain_back n h, le-ltb 144 n h) refl
+option_read : (x : Option) (k : ℕ) (o : Options) → Allowed x → after (state.Option o) k (option_words x) ≡ state.Option (taken k x o)
+unfolding after option_words taken Allowed option plain text value sheet_of
+option_read (Option.rate r) k o h = rw (rate_back r) refl
+option_read (Option.cutoff c) k o h = rw (cutoff_back c) refl
+option_read (Option.gain z) k o h = rw (gain_back z h.0 h.1) refl
 option_read (Option.sheet w) k o h = rw (some_name w h, add-one) refl
-option_read (Option.jobs n) k o h = rw (jobs_back n h.1, le-ltb n 1 h.0, le-ltb 64 n h.1) refl
+option_read (Option.jobs n) k o h = rw (jobs_back n h.0 h.1) refl
 option_read Option.force k o h = refl
 
-options_read : (xs : List Option) (k : ℕ) (o : Options) → AllAllowed xs → after (on o) k (flat_map option_words xs) ≡ on (all_taken k xs o)
+options_read : (xs : List Option) (k : ℕ) (o : Options) → AllAllowed xs → after (state.Option o) k (flat_map option_words xs) ≡ state.Option (all_taken k xs o)
 unfolding after AllAllowed all_taken flat_map
 options_read [] k o h = refl
 options_read (x ∷ xs) k o h =
-    after_append (on o) k (option_words x) (flat_map option_words xs)
+    after_append (state.Option o) k (option_words x) (flat_map option_words xs)
     ∙ rw (option_read x k o h.0) (options_read xs (k + length (option_words x)) (taken k x o) h.1)
 
 pub past_options : (xs : List Option) (rest : List Word) → AllAllowed xs
-    → after start 0 (flat_map option_words xs ++ rest) ≡ after (on (all_taken 0 xs defaults)) (length (flat_map option_words xs)) rest
+    → after start 0 (flat_map option_words xs ++ rest) ≡ after (state.Option (all_taken 0 xs defaults)) (length (flat_map option_words xs)) rest
 past_options xs rest h = after_append start 0 (flat_map option_words xs) rest ∙ rw (options_read xs 0 defaults h, zero-add) refl
 
 -- ---- names
 
-pub first_name : (o : Options) (k : ℕ) (w : Word) → name false w ≡ true → option o k w ≡ state expect.Output o k 0
-unfolding option plain lasting same text name
+second_true : (a b : Bool) → a && b ≡ true → b ≡ true
+second_true true b e = e
+second_true false b e = absurd (true≢false (sym e))
+
+pub first_name : (o : Options) (k : ℕ) (w : Word) → name false w ≡ true → option o k w ≡ state.Output o k false
+unfolding option plain text name
 first_name o k [] e = absurd (true≢false (sym e))
-first_name o k (x ∷ xs) e = rw (not-true (eqb x 45) (and_right (ltb 0 (suc (length xs))) _ e), lt-ltb 0 (suc (length xs)) (omega arith)) refl
+first_name o k (x ∷ xs) e = rw (not-true (eqb x 45) (second_true (ltb 0 (suc (length xs))) _ e), lt-ltb 0 (suc (length xs)) (omega arith)) refl
 
 names_read : (m : Bool) (v w : Word) (o : Options) (k : ℕ) → name m v ≡ true → name m w ≡ true
-    → after (on o) k (mark m ++ (v ∷ w ∷ [])) ≡ state expect.Nothing o (k + length (mark m)) (suc (k + length (mark m)))
-unfolding after mark option plain same text input output
+    → after (state.Option o) k (mark m ++ (v ∷ w ∷ [])) ≡ state.Names o (k + length (mark m)) (suc (k + length (mark m)))
+unfolding after mark option plain text input output
 names_read true v w o k p q = rw (p, q, add-one) refl
 names_read false v w o k p q = rw (first_name o k v p, q, add-zero) refl
 
@@ -92,7 +88,7 @@ module _ (c : Command) (r : grammar.Right c) where
   unfolding command_words
   all_words = simp length-append (omega arith)
 
-  reached : after start 0 (command_words c) ≡ state expect.Nothing (all_taken 0 c.options defaults) before_names (suc before_names)
+  reached : after start 0 (command_words c) ≡ state.Names (all_taken 0 c.options defaults) before_names (suc before_names)
   unfolding command_words
   reached =
       past_options c.options (mark c.marked ++ (c.input ∷ c.output ∷ [])) r.options
@@ -106,16 +102,16 @@ module _ (c : Command) (r : grammar.Right c) where
       rw (reached, all_words, first, second) refl
 
 -- a word after the options that ends the reading
-ended : {ws : List Word} {w : Word} (s : Options → State) → ((o : Options) (k : ℕ) → option o k w ≡ s o) → ((o : Options) (k : ℕ) (v : Word) → next (s o) k v ≡ s o)
-    → (h : grammar.After_options ws w) → after start 0 ws ≡ s (all_taken 0 h.options defaults)
+ended : {ws : List Word} {w : Word} (s : State) → ((o : Options) (k : ℕ) → option o k w ≡ s) → ((k : ℕ) (v : Word) → next s k v ≡ s)
+    → grammar.After_options ws w → after start 0 ws ≡ s
 unfolding after
 ended s to end h =
     let o = all_taken 0 h.options defaults in
     let n = length (flat_map option_words h.options) in
-    rw h.is (past_options h.options (_ ∷ h.rest) h.allowed ∙ rw (to o n) (stays (s o) (end o) (suc n) h.rest))
+    rw h.is (past_options h.options (_ ∷ h.rest) h.allowed ∙ rw (to o n) (stays s end (suc n) h.rest))
 
 pub taken_read : {ws : List Word} {line : Line} → Taken ws line → line_of ws ≡ line
-unfolding line_of option plain lasting same text
+unfolding line_of option plain text
 taken_read (Taken.command c r e) = rw e (command_read c r)
-taken_read (Taken.help h) = rw (ended (λ o. state expect.Help o 0 0) (λ o k. refl) (λ o k v. refl) h) refl
-taken_read (Taken.version h) = rw (ended (λ o. state expect.Version o 0 0) (λ o k. refl) (λ o k v. refl) h) refl
+taken_read (Taken.help h) = rw (ended state.Help (λ o k. refl) (λ k v. refl) h) refl
+taken_read (Taken.version h) = rw (ended state.Version (λ o k. refl) (λ k v. refl) h) refl

@@ -1,5 +1,5 @@
 -- The command's grammar: [-r RATE] [-c CUTOFF] [-g DB] [-s SHEET] [-j JOBS] [-f] [--] IN OUT, --help, --version.
-use Rattle.std.specs.Prelude.{◌≡◌, Bool, true, false, ℕ, ◌+◌, ◌-◌, ◌≤◌, ◌<◌, ℤ, pos, negsuc, ◌+ℤ◌, length, take}
+use Rattle.std.specs.Prelude.{◌≡◌, Bool, true, false, ℕ, ◌+◌, ◌-◌, ◌≤◌, ◌<◌, ℤ, pos, negsuc, ◌≤ℤ◌, Some, None, length, take}
 use mathlib.Core.List.{List, [], ◌∷◌, ◌++◌, flat_map}
 use Rattle.reference.specs.declared.PcmRate.{PcmRate}
 use Rattle.reference.specs.declared.PcmRate.TheVariants.{Hz88200}
@@ -9,20 +9,15 @@ use Rattle.level_lines.specs.Text.{text, decimal, signed}
 use Rattle.level_settings.specs.Settings.{rate_text, cutoff_text}
 use Rattle.command_words.specs.Words.{Word, name}
 use Rattle.command_grammar.specs.declared.Options.{Options}
-use Rattle.command_grammar.specs.declared.Asked.{Asked}
-use Rattle.command_grammar.specs.declared.Asked.TheVariants.{Convert, Help, Version, Usage}
 use Rattle.command_grammar.specs.declared.Line.{Line}
+use Rattle.command_grammar.specs.declared.Line.TheVariants.{Convert, Help, Version, Usage}
 
 -- ---- options
-
--- decibels by number: 0 is -120, 120 is 0, 144 is 24
-abbrev pub db_at : ℕ → ℤ
-db_at n = pos n +ℤ negsuc 119
 
 pub data Option : Type 0 where
   rate : PcmRate → Option
   cutoff : Cutoff → Option
-  gain : ℕ → Option
+  gain : ℤ → Option
   sheet : Word → Option
   jobs : ℕ → Option
   force : Option
@@ -30,7 +25,7 @@ pub data Option : Type 0 where
 unfoldable pub option_words : Option → List Word
 option_words (rate r) = text "-r" ∷ rate_text r ∷ []
 option_words (cutoff c) = text "-c" ∷ cutoff_text c ∷ []
-option_words (gain n) = text "-g" ∷ signed (db_at n) ∷ []
+option_words (gain z) = text "-g" ∷ signed z ∷ []
 option_words (sheet w) = text "-s" ∷ w ∷ []
 option_words (jobs n) = text "-j" ∷ decimal n ∷ []
 option_words force = text "-f" ∷ []
@@ -39,7 +34,7 @@ option_words force = text "-f" ∷ []
 unfoldable pub Allowed : Option → Type 0
 Allowed (rate r) = Unit {0}
 Allowed (cutoff c) = Unit {0}
-Allowed (gain n) = n ≤ 144
+Allowed (gain z) = (negsuc 119 ≤ℤ z) × (z ≤ℤ pos 24)
 Allowed (sheet w) = 0 < length w
 Allowed (jobs n) = (1 ≤ n) × (n ≤ 64)
 Allowed force = Unit {0}
@@ -52,16 +47,16 @@ AllAllowed (o ∷ os) = Allowed o × AllAllowed os
 
 -- 88,200 Hz, Standard, 0 dB
 abbrev pub defaults : Options
-defaults = record { rate = Hz88200; cutoff = Standard; gain = 120; force = false; jobs = 0; sheet = 0 }
+defaults = record { rate = Hz88200; cutoff = Standard; gain = pos 0; force = false; jobs = None; sheet = None }
 
 -- what an option changes, its first word being word k: so the last of its kind counts
 unfoldable pub taken : ℕ → Option → Options → Options
-taken k (rate r) o = record { rate = r; cutoff = o.cutoff; gain = o.gain; force = o.force; jobs = o.jobs; sheet = o.sheet }
-taken k (cutoff c) o = record { rate = o.rate; cutoff = c; gain = o.gain; force = o.force; jobs = o.jobs; sheet = o.sheet }
-taken k (gain n) o = record { rate = o.rate; cutoff = o.cutoff; gain = n; force = o.force; jobs = o.jobs; sheet = o.sheet }
-taken k (sheet w) o = record { rate = o.rate; cutoff = o.cutoff; gain = o.gain; force = o.force; jobs = o.jobs; sheet = k + 1 }
-taken k (jobs n) o = record { rate = o.rate; cutoff = o.cutoff; gain = o.gain; force = o.force; jobs = n; sheet = o.sheet }
-taken k force o = record { rate = o.rate; cutoff = o.cutoff; gain = o.gain; force = true; jobs = o.jobs; sheet = o.sheet }
+taken k (rate r) o = record o { rate = r }
+taken k (cutoff c) o = record o { cutoff = c }
+taken k (gain z) o = record o { gain = z }
+taken k (sheet w) o = record o { sheet = Some (k + 1) }
+taken k (jobs n) o = record o { jobs = Some n }
+taken k force o = record o { force = true }
 
 -- options one after the other, the first word being word k
 unfoldable pub all_taken : ℕ → List Option → Options → Options
@@ -93,11 +88,7 @@ pub record Right (c : Command) : Type 0 where
 unfoldable pub command_line : Command → Line
 command_line c =
     let n = length (command_words c) in
-    record { asked = Convert; options = all_taken 0 c.options defaults; input = n - 2; output = n - 1; fault = 0 }
-
--- no options, no names
-abbrev pub without : Asked → ℕ → Line
-without asked fault = record { asked = asked; options = defaults; input = 0; output = 0; fault = fault }
+    Convert (all_taken 0 c.options defaults) (n - 2) (n - 1)
 
 -- words that have options and then this one
 pub record After_options (ws : List Word) (w : Word) : Type 0 where
@@ -109,8 +100,8 @@ pub record After_options (ws : List Word) (w : Word) : Type 0 where
 -- what a line of words is taken for
 pub data Taken (ws : List Word) : Line → Type 0 where
   command : (c : Command) → Right c → ws ≡ command_words c → Taken ws (command_line c)
-  help : After_options ws (text "--help") → Taken ws (without Help 0)
-  version : After_options ws (text "--version") → Taken ws (without Version 0)
+  help : After_options ws (text "--help") → Taken ws Help
+  version : After_options ws (text "--version") → Taken ws Version
 
 -- words that some more words can follow so that all are taken
 pub record Continues (ws : List Word) : Type 0 where
@@ -127,6 +118,5 @@ pub record FaultAt (ws : List Word) (k : ℕ) : Type 0 where
 -- what reading promises, in both directions: it takes what is taken, as that, and nothing else; of any other line it tells the fault alone
 pub record LineRead (ws : List Word) (answer : Line) : Type 0 where
   pub takes : (line : Line) → Taken ws line → answer ≡ line
-  pub takes_only : (answer.asked ≡ Usage → ⊥) → Taken ws answer
-  pub refused : answer.asked ≡ Usage → answer ≡ without Usage answer.fault
-  pub fault : answer.asked ≡ Usage → FaultAt ws answer.fault
+  pub takes_only : ((k : ℕ) → answer ≡ Usage k → ⊥) → Taken ws answer
+  pub fault : (k : ℕ) → answer ≡ Usage k → FaultAt ws k

@@ -3,59 +3,62 @@
 
 use reference::{Cutoff, PcmRate};
 
-// What the options ask for. The gain is its whole decibels above -120: 120 is 0 dB. Words are counted from 0; jobs and sheet are 0 where they
-// are not given.
+// What the options ask for: the gain in whole decibels; the jobs, and the sheet's word, where they are given. Words are counted from 0.
 #[derive(Clone, Copy)]
 pub struct Options {
     pub rate: PcmRate,
     pub cutoff: Cutoff,
-    pub gain: u64,
+    pub gain: i32,
     pub force: bool,
-    pub jobs: u64,
-    pub sheet: u64,
-}
-
-#[derive(Clone, Copy)]
-pub enum Asked {
-    Convert,
-    Help,
-    Version,
-    Usage,
+    pub jobs: Option<u32>,
+    pub sheet: Option<u64>,
 }
 
 // What a command line asks for: of a conversion the options and the two names' words, of a wrong use the word at fault.
 #[derive(Clone, Copy)]
-pub struct Line {
-    pub asked: Asked,
-    pub options: Options,
-    pub input: u64,
-    pub output: u64,
-    pub fault: u64,
+pub enum Line {
+    Convert {
+        options: Options,
+        input: u64,
+        output: u64,
+    },
+    Help,
+    Version,
+    Usage {
+        word: u64,
+    },
 }
 
-// What the next word is: an option or the first name; an option's value; a name; nothing more. Help, Version and Fault end the reading.
+// The options that have a value.
 #[derive(Clone, Copy)]
-pub enum Expect {
-    Option,
+pub enum Valued {
     Rate,
     Cutoff,
     Gain,
     Sheet,
     Jobs,
-    Input,
-    Output,
-    MarkedOutput,
-    Nothing,
-    Help,
-    Version,
-    Fault,
 }
 
-// `input` is the first name's word, `last` the second name's or the word at fault.
+// What the words so far ask for, by what may come next: an option or the first name; an option's value; the first name, after the mark;
+// the second name; nothing more. No word changes Help, Version and Fault.
 #[derive(Clone, Copy)]
-pub struct State {
-    pub expect: Expect,
-    pub options: Options,
-    pub input: u64,
-    pub last: u64,
+pub enum State {
+    Option(Options),
+    Value(Valued, Options),
+    Input(Options),
+    Output {
+        options: Options,
+        input: u64,
+        marked: bool,
+    },
+    Names {
+        options: Options,
+        input: u64,
+        output: u64,
+    },
+    Help,
+    Version,
+    Fault {
+        word: u64,
+    },
 }

@@ -4,25 +4,26 @@
 ghost use Rattle.command_words.specs.Words.{words_of};
 ghost use Rattle.command_grammar.specs.Grammar.{LineRead};
 
-use byte_lists::end_at;
 use command_grammar::Line;
+use command_words::first_word;
 
 mod reading;
+mod telling;
 
 use reading::{finish, next, start};
+pub use telling::{kind, numbers};
 
 // Reads the words, each of which is followed by a zero byte.
 pub fn read(words: &[u8]) -> Line
     ensures { LineRead (words_of words.now) result }
 {
-    let mut s = start();
+    let mut state = start();
     let mut k = 0u64;
-    let mut at = 0usize;
-    while at < words.len() {
-        let end = end_at(words, at, 0);
-        s = next(s, k, &words[at..end]);
+    let mut left = words;
+    while let Some((word, rest)) = first_word(left) {
+        state = next(state, k, word);
         k += 1;
-        at = end + 1;
+        left = rest;
     }
-    finish(s, k)
+    finish(state, k)
 }

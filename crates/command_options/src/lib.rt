@@ -1,221 +1,150 @@
-// One word of the command line: an option, an option's value, a name; and what is expected after it.
+// One word of the command line: an option, an option's value, a name; and what may come after it.
 #![tactic(auto)]
 
 ghost use Rattle.std.specs.Prelude.{◌≡◌};
 ghost use Rattle.command_grammar.specs.Reading as reading;
 
-use byte_lists::is;
-use command_grammar::{Expect, Options, State};
+use command_grammar::{Options, State, Valued};
 use command_words::name;
-use reference::{Cutoff, PcmRate};
-
-pub fn state(expect: Expect, options: Options, input: u64, last: u64) -> State
-    ensures { result ≡ reading.state expect options input last }
-{
-    State {
-        expect,
-        options,
-        input,
-        last,
-    }
-}
-
-// The options with another rate, and so on.
-fn with_rate(o: Options, rate: PcmRate) -> State
-    ensures { result ≡ reading.on (reading.with_rate rate o) }
-{
-    let cutoff = o.cutoff;
-    let options = Options {
-        rate,
-        cutoff,
-        gain: o.gain,
-        force: o.force,
-        jobs: o.jobs,
-        sheet: o.sheet,
-    };
-    state(Expect::Option, options, 0, 0)
-}
-
-fn with_cutoff(o: Options, cutoff: Cutoff) -> State
-    ensures { result ≡ reading.on (reading.with_cutoff cutoff o) }
-{
-    let rate = o.rate;
-    let options = Options {
-        rate,
-        cutoff,
-        gain: o.gain,
-        force: o.force,
-        jobs: o.jobs,
-        sheet: o.sheet,
-    };
-    state(Expect::Option, options, 0, 0)
-}
-
-fn with_numbers(o: Options, gain: u64, force: bool, jobs: u64, sheet: u64) -> State
-    ensures { result ≡ reading.on (reading.with_numbers gain force jobs sheet o) }
-{
-    let rate = o.rate;
-    let cutoff = o.cutoff;
-    let options = Options {
-        rate,
-        cutoff,
-        gain,
-        force,
-        jobs,
-        sheet,
-    };
-    state(Expect::Option, options, 0, 0)
-}
+use level_settings::{cutoff_named, decibels, number, rate_named};
 
 // ---- word k, where an option or the first name is expected
 
-fn lasting(o: Options, k: u64, word: &[u8]) -> State
-    ensures { result ≡ reading.lasting o k word.now }
+#[tactic(auto, unfolding(command_grammar::specs::Reading::plain, level_lines::specs::Text::text))]
+fn plain(options: Options, k: u64, word: &[u8]) -> State
+    ensures { result ≡ reading.plain options k word.now }
 {
-    if is(word, b"--help") {
-        return state(Expect::Help, o, 0, 0);
+    if word == b"-f".as_slice() {
+        State::Option(Options {
+            force: true,
+            ..options
+        })
+    } else if word == b"--".as_slice() {
+        State::Input(options)
+    } else if word == b"--help".as_slice() {
+        State::Help
+    } else if word == b"--version".as_slice() {
+        State::Version
+    } else if name(false, word) {
+        State::Output {
+            options,
+            input: k,
+            marked: false,
+        }
+    } else {
+        State::Fault { word: k }
     }
-    if is(word, b"--version") {
-        return state(Expect::Version, o, 0, 0);
-    }
-    if name(false, word) {
-        return state(Expect::Output, o, k, 0);
-    }
-    state(Expect::Fault, o, 0, k)
 }
 
-fn plain(o: Options, k: u64, word: &[u8]) -> State
-    ensures { result ≡ reading.plain o k word.now }
+#[tactic(auto, unfolding(command_grammar::specs::Reading::option, level_lines::specs::Text::text))]
+pub fn option(options: Options, k: u64, word: &[u8]) -> State
+    ensures { result ≡ reading.option options k word.now }
 {
-    if is(word, b"-j") {
-        return state(Expect::Jobs, o, 0, 0);
+    if word == b"-r".as_slice() {
+        State::Value(Valued::Rate, options)
+    } else if word == b"-c".as_slice() {
+        State::Value(Valued::Cutoff, options)
+    } else if word == b"-g".as_slice() {
+        State::Value(Valued::Gain, options)
+    } else if word == b"-s".as_slice() {
+        State::Value(Valued::Sheet, options)
+    } else if word == b"-j".as_slice() {
+        State::Value(Valued::Jobs, options)
+    } else {
+        plain(options, k, word)
     }
-    if is(word, b"-f") {
-        return with_numbers(o, o.gain, true, o.jobs, o.sheet);
-    }
-    if is(word, b"--") {
-        return state(Expect::Input, o, 0, 0);
-    }
-    lasting(o, k, word)
-}
-
-pub fn option(o: Options, k: u64, word: &[u8]) -> State
-    ensures { result ≡ reading.option o k word.now }
-{
-    if is(word, b"-r") {
-        return state(Expect::Rate, o, 0, 0);
-    }
-    if is(word, b"-c") {
-        return state(Expect::Cutoff, o, 0, 0);
-    }
-    if is(word, b"-g") {
-        return state(Expect::Gain, o, 0, 0);
-    }
-    if is(word, b"-s") {
-        return state(Expect::Sheet, o, 0, 0);
-    }
-    plain(o, k, word)
 }
 
 // ---- word k, where an option's value is expected
 
-pub fn rate(o: Options, k: u64, word: &[u8]) -> State
-    ensures { result ≡ reading.rate o k word.now }
-{
-    if is(word, b"88200") {
-        return with_rate(o, PcmRate::Hz88200);
-    }
-    if is(word, b"176400") {
-        return with_rate(o, PcmRate::Hz176400);
-    }
-    if is(word, b"352800") {
-        return with_rate(o, PcmRate::Hz352800);
-    }
-    state(Expect::Fault, o, 0, k)
-}
-
-pub fn cutoff(o: Options, k: u64, word: &[u8]) -> State
-    ensures { result ≡ reading.cutoff o k word.now }
-{
-    if is(word, b"standard") {
-        return with_cutoff(o, Cutoff::Standard);
-    }
-    if is(word, b"low") {
-        return with_cutoff(o, Cutoff::Low);
-    }
-    if is(word, b"wide") {
-        return with_cutoff(o, Cutoff::Wide);
-    }
-    state(Expect::Fault, o, 0, k)
-}
-
-// Decibels above -120, and 145 for a word that is none.
-fn gain_of(word: &[u8]) -> u64
+// A gain in decibels.
+fn gain(word: &[u8]) -> Option<i32>
     ensures { result ≡ reading.gain_of word.now }
 {
-    let db = level_settings::decibels(word);
-    (db + 120) as u64
+    decibels(word)
 }
 
-pub fn gain(o: Options, k: u64, word: &[u8]) -> State
-    ensures { result ≡ reading.gain o k word.now }
+// The place of a sheet's name.
+#[tactic(auto, unfolding(command_grammar::specs::Reading::sheet_of))]
+fn sheet(k: u64, word: &[u8]) -> Option<u64>
+    ensures { result ≡ reading.sheet_of k word.now }
 {
-    let n = gain_of(word);
-    if 144 < n {
-        return state(Expect::Fault, o, 0, k);
-    }
-    with_numbers(o, n, o.force, o.jobs, o.sheet)
+    if name(true, word) { Some(k) } else { None }
 }
 
-pub fn sheet(o: Options, k: u64, word: &[u8]) -> State
-    ensures { result ≡ reading.sheet o k word.now }
-{
-    if name(true, word) {
-        return with_numbers(o, o.gain, o.force, o.jobs, k);
-    }
-    state(Expect::Fault, o, 0, k)
-}
-
-// Jobs, and 65 for a word that is no number up to 64.
-fn jobs_of(word: &[u8]) -> u64
+// 1 to 64 jobs.
+fn jobs(word: &[u8]) -> Option<u32>
     ensures { result ≡ reading.jobs_of word.now }
 {
-    let n = level_settings::number(word);
-    if 64 < n {
-        return 65;
-    }
-    n as u64
+    let n = number(word)?;
+    if 1 <= n && n <= 64 { Some(n) } else { None }
 }
 
-pub fn jobs(o: Options, k: u64, word: &[u8]) -> State
-    ensures { result ≡ reading.jobs o k word.now }
+// The options with an option's value.
+fn with_value(option: Valued, options: Options, k: u64, word: &[u8]) -> Option<Options>
+    ensures { reading.set_options result k ≡ reading.value option options k word.now }
 {
-    let n = jobs_of(word);
-    if n < 1 {
-        return state(Expect::Fault, o, 0, k);
+    Some(match option {
+        Valued::Rate => Options {
+            rate: rate_named(word)?,
+            ..options
+        },
+        Valued::Cutoff => Options {
+            cutoff: cutoff_named(word)?,
+            ..options
+        },
+        Valued::Gain => Options {
+            gain: gain(word)?,
+            ..options
+        },
+        Valued::Sheet => Options {
+            sheet: Some(sheet(k, word)?),
+            ..options
+        },
+        Valued::Jobs => Options {
+            jobs: Some(jobs(word)?),
+            ..options
+        },
+    })
+}
+
+pub fn value(option: Valued, options: Options, k: u64, word: &[u8]) -> State
+    ensures { result ≡ reading.value option options k word.now }
+{
+    match with_value(option, options, k, word) {
+        Some(options) => State::Option(options),
+        None => State::Fault { word: k },
     }
-    if 64 < n {
-        return state(Expect::Fault, o, 0, k);
-    }
-    with_numbers(o, o.gain, o.force, n, o.sheet)
 }
 
 // ---- word k, where a name is expected
 
-pub fn input(o: Options, k: u64, word: &[u8]) -> State
-    ensures { result ≡ reading.input o k word.now }
+#[tactic(auto, unfolding(command_grammar::specs::Reading::input))]
+pub fn input(options: Options, k: u64, word: &[u8]) -> State
+    ensures { result ≡ reading.input options k word.now }
 {
     if name(true, word) {
-        return state(Expect::MarkedOutput, o, k, 0);
+        State::Output {
+            options,
+            input: k,
+            marked: true,
+        }
+    } else {
+        State::Fault { word: k }
     }
-    state(Expect::Fault, o, 0, k)
 }
 
-pub fn output(o: Options, first: u64, marked: bool, k: u64, word: &[u8]) -> State
-    ensures { result ≡ reading.output o k word.now first marked }
+#[tactic(auto, unfolding(command_grammar::specs::Reading::output))]
+pub fn output(options: Options, input: u64, marked: bool, k: u64, word: &[u8]) -> State
+    ensures { result ≡ reading.output options k word.now input marked }
 {
     if name(marked, word) {
-        return state(Expect::Nothing, o, first, k);
+        State::Names {
+            options,
+            input,
+            output: k,
+        }
+    } else {
+        State::Fault { word: k }
     }
-    state(Expect::Fault, o, 0, k)
 }

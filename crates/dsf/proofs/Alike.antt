@@ -1,13 +1,15 @@
 -- Laws of `alike`, `any` and `all`, and of tests joined.
 use mathlib.Core.Path.{◌≡◌, refl, sym, ap, ap₂, ◌∙◌}
-use mathlib.Core.List.{List, [], ◌∷◌, ◌++◌, append-nil}
+use mathlib.Core.List.{List, [], ◌∷◌, ◌++◌, append-nil, map}
 use mathlib.Core.Bool.{Bool, true, false, cond, not, ◌&&◌, ◌||◌}
-use mathlib.Core.Logic.{◌≢◌}
-use Prim.Native.Nat.{ℕ, zero, suc, ◌+◌, ◌≤◌, ◌<◌}
+use mathlib.Core.Logic.{◌⊎◌, ⊎_elim}
+use Prim.Native.Nat.{ℕ, zero, suc, ◌+◌, ◌-◌, ◌≤◌, ◌<◌, min}
 use native.Mathlib.Omega.{arith}
 use lib.Dec.{T, eqb, eqb→eq, eqb_refl, leb, leb→le}
-use lib.ListN.{length, get_or, take, drop, length-drop, drop_of_length-le}
-use lib.Seq.{drop-nil, drop-drop, drop-append-le, drop-cons}
+use lib.ListN.{length, take, drop, length-drop, drop_of_length-le}
+use lib.Seq.{drop-nil, drop-drop, drop-append-le, take_all}
+use Rattle.numbers.proofs.Lists.{below_or}
+use Rattle.std.specs.List.{list_all, list_any, zip}
 use Rattle.numbers.specs.Lists.{Each}
 use Rattle.dsf.specs.Dsf.{Field, fixed, alike, any, all, fits}
 
@@ -184,20 +186,49 @@ fits_longer p q n l f e h =
     any_map_where (alike (drop f.start p)) (alike (drop f.start (p ++ q))) (λ v. leb (f.start + length v) n) f.values
     (λ v m k. alike_longer_at f.start p q v (omega (arith, leb→le (f.start + length v) n m)) k) e h
 
--- ---- one step of a comparison
+-- ---- as the code tests them
 pub alike_nil : (l : List ℕ) → alike l [] ≡ true
 unfolding alike
 alike_nil [] = refl
 alike_nil (x ∷ l) = refl
 
-pub alike_past : (l v : List ℕ) (at : ℕ) → length l ≤ at → alike (drop at l) v ≡ true
+pub alike_zip : (l v : List ℕ) → list_all (λ (p : ℕ × ℕ). eqb p.0 p.1) (zip l v) ≡ alike l v
 unfolding alike
-alike_past l v at h = rw (drop_of_length-le l h)
+alike_zip [] v = refl
+alike_zip (x ∷ l) [] = refl
+alike_zip (x ∷ l) (y ∷ v) = ap (λ (b : Bool). eqb x y && b) (alike_zip l v)
 
-pub alike_same : (l v : List ℕ) (at k : ℕ) → at < length l → k < length v → get_or l at 0 ≡ get_or v k 0 → alike (drop at l) (drop k v) ≡ alike (drop (suc at) l) (drop (suc k) v)
-unfolding alike
-alike_same l v at k h i e = rw (drop-cons l at 0 h, drop-cons v k 0 i, e, T_is {b = eqb (get_or v k 0) (get_or v k 0)} (eqb_refl (get_or v k 0)))
+pub any_of_map : {A B : Type 0} (f : B → Bool) (g : A → B) (l : List A) → list_any (λ x. f (g x)) l ≡ any f (map g l)
+unfolding any
+any_of_map f g [] = refl
+any_of_map f g (x ∷ l) = ap (λ (b : Bool). f (g x) || b) (any_of_map f g l)
 
-pub alike_differ : (l v : List ℕ) (at k : ℕ) → at < length l → k < length v → get_or l at 0 ≢ get_or v k 0 → alike (drop at l) (drop k v) ≡ false
-unfolding alike
-alike_differ l v at k h i e = rw (drop-cons l at 0 h, drop-cons v k 0 i, not_T_is {b = eqb (get_or l at 0) (get_or v k 0)} (λ t. e (eqb→eq _ _ t)))
+pub all_of_map : {A B : Type 0} (f : B → Bool) (g : A → B) (l : List A) → list_all (λ x. f (g x)) l ≡ all f (map g l)
+unfolding all
+all_of_map f g [] = refl
+all_of_map f g (x ∷ l) = ap (λ (b : Bool). f (g x) && b) (all_of_map f g l)
+
+-- ---- what is left of a list from a place on, also from one past its end
+pub rest_is : (l : List ℕ) (a m : ℕ) → m ≡ min a (length l) → take (length l - m) (drop m l) ≡ drop a l
+rest_is l a m e = ⊎_elim (λ h. inside h) (λ h. past h) (below_or a (length l))
+  where
+    inside : a < length l → take (length l - m) (drop m l) ≡ drop a l
+    inside h = let q : m ≡ a = omega arith in rw q (take_all (length l - a) (drop a l) (omega (arith, length-drop a l)))
+
+    past : length l ≤ a → take (length l - m) (drop m l) ≡ drop a l
+    past h = let q : m ≡ length l = omega arith in rw (q, drop_of_length-le l {i = a} h, drop_of_length-le l {i = length l} (omega arith)) (take_all (length l - length l) [] (omega arith))
+
+-- so many of them
+pub piece_is : (l : List ℕ) (a s m n : ℕ) → m ≡ min a (length l) → n ≡ min (a + s) (length l) → take (n - m) (drop m l) ≡ take s (drop a l)
+piece_is l a s m n e f = ⊎_elim (λ h. inside h (below_or (length l) (a + s))) (λ h. past h) (below_or a (length l))
+  where
+    inside : a < length l → (length l < a + s) ⊎ (a + s ≤ length l) → take (n - m) (drop m l) ≡ take s (drop a l)
+    inside h k =
+        let q : m ≡ a = omega arith in
+        let size = length-drop a l in
+        rw q (⊎_elim (λ x. take_all (n - a) (drop a l) (omega arith) ∙ sym (take_all s (drop a l) (omega arith))) (λ y. let z : n - a ≡ s = omega arith in ap (λ (i : ℕ). take i (drop a l)) z) k)
+
+    past : length l ≤ a → take (n - m) (drop m l) ≡ take s (drop a l)
+    past h =
+        let q : m ≡ length l = omega arith in
+        rw (q, drop_of_length-le l {i = a} h, drop_of_length-le l {i = length l} (omega arith)) (take_all (n - length l) [] (omega arith) ∙ sym (take_all s [] (omega arith)))

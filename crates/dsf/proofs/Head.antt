@@ -94,14 +94,14 @@ module _ (l m : List ℕ) (e : take 92 l ≡ take 92 m) where
 -- a whole file as its own head
 pub whole_head : (file : List ℕ) → decide (header_places file (length file)) ≡ decide (file_places file)
 unfolding header_places file_places
-whole_head file = ⊎_elim (λ l. at_first _ _ (lt-ltb (length file) 92 l) ∙ too_short file (length file) l) (λ l. at_next _ _ (le-ltb (length file) 92 l)) (below_or (length file) 92)
+whole_head file = ⊎_elim (λ l. at_first _ _ (lt-ltb (length file) 92 l) ∙ sym (too_short file (length file) l)) (λ l. at_next _ _ (le-ltb (length file) 92 l)) (below_or (length file) 92)
 
 -- what is answered from the first bytes and the length holds of every file that has them
 pub header_right : (file head : List ℕ) (n : ℕ) → HeadOf file head n → (decide (header_places head n) ≡ decide (file_places file)) × (file_header head ≡ file_header file)
 unfolding header_places file_places
 header_right file head n h =
     let same = places_same head file (sym h.begins) in (
-      ⊎_elim (λ l. at_first _ _ (lt-ltb (length head) 92 l) ∙ too_short file (length file) (omega (arith, shorter l))) (λ l. at_next _ _ (le-ltb (length head) 92 l) ∙ ap decide (rw h.long (same n))) (below_or (length head) 92),
+      ⊎_elim (λ l. at_first _ _ (lt-ltb (length head) 92 l) ∙ sym (too_short file (length file) (omega (arith, shorter l)))) (λ l. at_next _ _ (le-ltb (length head) 92 l) ∙ ap decide (rw h.long (same n))) (below_or (length head) 92),
       header_same head file (sym h.begins),
     )
   where

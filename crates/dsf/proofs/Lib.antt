@@ -4,3 +4,4 @@ pub mod Accepted
 pub mod Tests
 pub mod Head
 pub mod Headers
+pub mod Sizes

@@ -7,6 +7,7 @@ use native.Mathlib.Omega.{arith}
 use lib.Dec.{T, eqb, eqb_refl, ltb, ltb→lt}
 use lib.ListN.{length, get_or, take, drop, replicate, length-drop, take-append-drop}
 use lib.Seq.{get_or-drop, drop-append-le, take-append-le, length-take-le}
+use Rattle.std.specs.Int.{w64, from_le_bytes, to_le_bytes}
 use Rattle.dsf.specs.Dsf.{Bytes, number_of, number_at, bytes, alike, all}
 use Rattle.dsf.proofs.Alike.{both, left, right, alike_self}
 
@@ -142,16 +143,32 @@ field_alike file at s b h =
     let w : part ++ drop s (drop at file) ≡ drop at file = take-append-drop s (drop at file) in
     rw e (rw w at (alike_self part (drop s (drop at file))))
 
--- ---- one byte more of a number
-pub number_step : (file : List ℕ) (at s : ℕ) → number_at file at (suc s) ≡ get_or file at 0 + 256 * number_at file (suc at) s
-unfolding number_at number_of
-number_step [] zero zero = refl
-number_step [] zero (suc s) = refl
-number_step [] (suc at) zero = refl
-number_step [] (suc at) (suc s) = refl
-number_step (x ∷ file) zero s = refl
-number_step (x ∷ file) (suc at) s = number_step file at s
+-- ---- as the code reads and writes it
 
-pub number_none : (file : List ℕ) (at : ℕ) → number_at file at 0 ≡ 0
-unfolding number_at number_of
-number_none file at = refl
+-- eight bytes that begin with these, and are 0 after them
+pub number_eight : (l : List ℕ) → length l ≤ 8 → from_le_bytes w64 (l ++ drop (length l) (replicate 8 0)) ≡ number_of l
+unfolding number_of
+number_eight [] h = refl
+number_eight (a ∷ []) h = omega arith
+number_eight (a ∷ b ∷ []) h = omega arith
+number_eight (a ∷ b ∷ c ∷ []) h = omega arith
+number_eight (a ∷ b ∷ c ∷ d ∷ []) h = omega arith
+number_eight (a ∷ b ∷ c ∷ d ∷ e ∷ []) h = omega arith
+number_eight (a ∷ b ∷ c ∷ d ∷ e ∷ f ∷ []) h = omega arith
+number_eight (a ∷ b ∷ c ∷ d ∷ e ∷ f ∷ g ∷ []) h = omega arith
+number_eight (a ∷ b ∷ c ∷ d ∷ e ∷ f ∷ g ∷ i ∷ []) h = omega arith
+number_eight (a ∷ b ∷ c ∷ d ∷ e ∷ f ∷ g ∷ i ∷ j ∷ l) h = absurd (omega arith)
+
+pub number_filled : (l p : List ℕ) → l ≡ p → length p ≤ 8 → from_le_bytes w64 (l ++ drop (length p) (replicate 8 0)) ≡ number_of p
+number_filled l p e h = rw e (number_eight p h)
+
+pub eight_bytes : (n : ℕ) → to_le_bytes w64 n ≡ bytes 8 n
+unfolding bytes
+eight_bytes n =
+    let b : n / 256 / 256 ≡ n / 256 ^ 2 = omega arith in
+    let c : n / 256 ^ 2 / 256 ≡ n / 256 ^ 3 = omega arith in
+    let d : n / 256 ^ 3 / 256 ≡ n / 256 ^ 4 = omega arith in
+    let e : n / 256 ^ 4 / 256 ≡ n / 256 ^ 5 = omega arith in
+    let f : n / 256 ^ 5 / 256 ≡ n / 256 ^ 6 = omega arith in
+    let g : n / 256 ^ 6 / 256 ≡ n / 256 ^ 7 = omega arith in
+    rw (b, c, d, e, f, g)

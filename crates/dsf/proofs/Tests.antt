@@ -1,41 +1,25 @@
 -- The tests of the header, as the code puts them together.
-use mathlib.Core.Path.{◌≡◌, refl, sym, ap, ap₂, ◌∙◌}
+use mathlib.Core.Path.{◌≡◌, sym, ap, ◌∙◌}
 use mathlib.Core.List.{List, [], ◌∷◌}
-use mathlib.Core.Bool.{Bool, true, false, not, ◌&&◌, ◌||◌, or-false, and-true}
-use Prim.Native.Nat.{ℕ, ◌+◌, ◌%◌, ◌≤◌, ◌<◌}
+use mathlib.Core.Bool.{Bool, true, false, not, ◌&&◌, or-false, and-false}
+use mathlib.Core.Logic.{⊎_elim}
+use Prim.Native.Nat.{ℕ, ◌≤◌, ◌<◌}
 use native.Mathlib.Omega.{arith}
 use lib.Dec.{T, eqb, leb, eqb→eq, lit≤}
 use lib.ListN.{length, take, drop, length-drop}
 use lib.Seq.{drop-drop}
-use borrow.Author.Tests.{le-leb, lt-leb}
+use borrow.Author.Tests.{le-leb, lt-leb, lt-ltb, le-ltb}
+use Rattle.numbers.proofs.Lists.{below_or}
 use Rattle.reference.specs.Refusals.{Decision, accepted, refused, place, decide}
-use Rattle.dsf.specs.Dsf.{number_of, number_at, bytes, pair, fixed, pairs, orders, layout, frequency, alike, any, all, fits, stated_length, channels, samples, data_size, needed, places_at}
-use Rattle.level_lines.specs.Text.{text}
+use Rattle.reference.proofs.Refusals.{at_first, at_next}
+use Rattle.dsf.specs.Dsf.{number_of, number_at, bytes, pair, fixed, pairs, layout, alike, any, all, fits, channels, right_format, right_lengths, places_at}
+use Rattle.dsf.specs.Reading.{header_places}
 use Rattle.dsf.proofs.Alike.{T_of, left, right, alike_after, alike_take, any_elim, all_each}
 use Rattle.dsf.proofs.Numbers.{number_bytes}
 
 pub fits_fixed : (file : List ℕ) (start : ℕ) (v : List ℕ) → alike (drop start file) v ≡ fits file (fixed start v)
 unfolding fits any
 fits_fixed file start v = sym (or-false (alike (drop start file) v))
-
-module _ (file : List ℕ) where
-  pub orders_is : {a b : Bool} → a ≡ alike (drop 60 file) (bytes 4 1) → b ≡ alike (drop 60 file) (bytes 4 8) → (a || b) ≡ fits file orders
-  unfolding fits any orders
-  orders_is {a} {b} p q = rw (← p, ← q) (ap (λ (x : Bool). a || x) (sym (or-false b)))
-
-  pub pairs_is : {a b c d e f g : Bool} → a ≡ alike (drop 48 file) (pair 1 1) → b ≡ alike (drop 48 file) (pair 2 2) → c ≡ alike (drop 48 file) (pair 3 3) → d ≡ alike (drop 48 file) (pair 4 4)
-      → e ≡ alike (drop 48 file) (pair 5 4) → f ≡ alike (drop 48 file) (pair 6 5) → g ≡ alike (drop 48 file) (pair 7 6) → (a || (b || (c || (d || (e || (f || g)))))) ≡ fits file pairs
-  unfolding fits any pairs
-  pairs_is {a} {b} {c} {d} {e} {f} {g} p q r s t u v =
-      rw (← p, ← q, ← r, ← s, ← t, ← u, ← v) (ap (λ (x : Bool). a || (b || (c || (d || (e || (f || x)))))) (sym (or-false g)))
-
-  pub layout_is : {a b c d e f g h i j k : Bool} → a ≡ fits file (fixed 0 (text "DSD ")) → b ≡ fits file (fixed 4 (bytes 8 28)) → c ≡ fits file (fixed 28 (text "fmt ")) → d ≡ fits file (fixed 32 (bytes 8 52))
-      → e ≡ fits file (fixed 40 (bytes 4 1)) → f ≡ fits file (fixed 44 (bytes 4 0)) → g ≡ fits file pairs → h ≡ fits file orders → i ≡ fits file (fixed 72 (bytes 4 4096)) → j ≡ fits file (fixed 76 (bytes 4 0))
-      → k ≡ fits file (fixed 80 (text "data")) → (a && (b && (c && (d && (e && (f && (g && (h && (i && (j && k)))))))))) ≡ all (fits file) layout
-  unfolding all layout
-  layout_is {a} {b} {c} {d} {e} {f} {g} {h} {i} {j} {k} pa pb pc pd pe pf pg ph pi pj pk =
-      rw (← pa, ← pb, ← pc, ← pd, ← pe, ← pf, ← pg, ← ph, ← pi, ← pj, ← pk)
-      (ap (λ (x : Bool). a && (b && (c && (d && (e && (f && (g && (h && (i && (j && x)))))))))) (sym (and-true k)))
 
 -- ---- what the places decide
 module _ (x y z : Bool) where
@@ -58,48 +42,49 @@ module _ (x y z : Bool) where
   unfolding decide
   none e f g = rw (e, f, g)
 
+-- of a file, or of its first bytes, and of n bytes in all
 module _ (file : List ℕ) (n : ℕ) where
   abbrev x : Bool
   x = leb 92 n && all (fits file) layout
 
-  abbrev y : Bool
-  y = fits file frequency && eqb (samples file % 8) 0
-
-  abbrev z : Bool
-  z = eqb (stated_length file) n && (eqb (data_size file) (12 + needed file) && leb (80 + data_size file) n)
-
-  pub too_short : n < 92 → refused 9 [] ≡ decide (places_at file n)
+  pub too_short : n < 92 → decide (places_at file n) ≡ refused 9 []
   unfolding places_at
-  too_short l = sym (nine x y z (rw (lt-leb 92 n l)))
+  too_short l = nine x (right_format file) (right_lengths file n) (rw (lt-leb 92 n l))
 
-  pub wrong_layout : 92 ≤ n → all (fits file) layout ≡ false → refused 9 [] ≡ decide (places_at file n)
+  pub short_head : length file < 92 → decide (header_places file n) ≡ refused 9 []
+  unfolding header_places
+  short_head l = at_first _ _ (lt-ltb _ _ l)
+
+  long_head : 92 ≤ length file → decide (header_places file n) ≡ decide (places_at file n)
+  unfolding header_places
+  long_head l = at_next _ _ (le-ltb _ _ l)
+
+  -- whatever the head's length
+  either_head : decide (places_at file n) ≡ refused 9 [] → decide (header_places file n) ≡ refused 9 []
+  either_head e = ⊎_elim (λ l. short_head l) (λ l. long_head l ∙ e) (below_or (length file) 92)
+
+  pub short_file : n < 92 → decide (header_places file n) ≡ refused 9 []
+  short_file l = either_head (too_short l)
+
+  pub wrong_layout : all (fits file) layout ≡ false → decide (header_places file n) ≡ refused 9 []
   unfolding places_at
-  wrong_layout l e = sym (nine x y z (rw (le-leb 92 n l, e)))
+  wrong_layout e = either_head (nine x (right_format file) (right_lengths file n) (rw e (and-false (leb 92 n))))
 
-  module _ (l : 92 ≤ n) (laid : all (fits file) layout ≡ true) where
+  module _ (h : 92 ≤ length file) (l : 92 ≤ n) (laid : all (fits file) layout ≡ true) where
     right_layout : x ≡ true
     right_layout = rw (le-leb 92 n l, laid)
 
-    pub wrong_ten : y ≡ false → refused 10 [] ≡ decide (places_at file n)
+    pub wrong_format : right_format file ≡ false → decide (header_places file n) ≡ refused 10 []
     unfolding places_at
-    wrong_ten e = sym (ten x y z right_layout e)
+    wrong_format e = long_head h ∙ ten x (right_format file) (right_lengths file n) right_layout e
 
-    pub wrong_eleven : y ≡ true → z ≡ false → refused 11 [] ≡ decide (places_at file n)
+    pub wrong_lengths : right_format file ≡ true → right_lengths file n ≡ false → decide (header_places file n) ≡ refused 11 []
     unfolding places_at
-    wrong_eleven e f = sym (eleven x y z right_layout e f)
+    wrong_lengths e f = long_head h ∙ eleven x (right_format file) (right_lengths file n) right_layout e f
 
-    pub all_right : y ≡ true → z ≡ true → accepted ≡ decide (places_at file n)
+    pub all_right : right_format file ≡ true → right_lengths file n ≡ true → decide (header_places file n) ≡ accepted
     unfolding places_at
-    all_right e f = sym (none x y z right_layout e f)
-
-  -- the last test, with the size that the one before it has
-  pub ends_is : {c d e : Bool} → c ≡ eqb (stated_length file) n → d ≡ eqb (data_size file) (12 + needed file) → e ≡ leb (92 + needed file) n → (c && (d && e)) ≡ z
-  ends_is {c} {d} {e} p q r =
-      ap₂ (λ (u v : Bool). u && v) p (rw (q, r) (go (eqb (data_size file) (12 + needed file)) (eqb→eq (data_size file) (12 + needed file))))
-    where
-      go : (b : Bool) → (T b → data_size file ≡ 12 + needed file) → (b && leb (92 + needed file) n) ≡ (b && leb (80 + data_size file) n)
-      go true f = let s : 80 + data_size file ≡ 92 + needed file = omega (arith, f tt) in rw s
-      go false f = refl
+    all_right e f = long_head h ∙ none x (right_format file) (right_lengths file n) right_layout e f
 
 -- ---- the channels of a beginning that is laid out
 number_alike : (l v : List ℕ) → T (alike l v) → number_of (take (length v) l) ≤ number_of v

@@ -141,12 +141,20 @@ module _ (file : List ℕ) where
   unfoldable pub frames : ℕ
   frames = frames_in (samples file)
 
+  -- the sampling frequency, and whole bytes of samples
+  abbrev pub right_format : Bool
+  right_format = fits file frequency && eqb (samples file % 8) 0
+
+  -- of a file of n bytes: the length that it states, the data chunk's size, and that it holds that chunk
+  abbrev pub right_lengths : ℕ → Bool
+  right_lengths n = eqb (stated_length file) n && (eqb (data_size file) (12 + needed) && leb (80 + data_size file) n)
+
   -- a file of n bytes: 9, then 10, then 11. Only its first 92 bytes and n are asked for
   unfoldable pub places_at : ℕ → List Place
   places_at n =
       place (not (leb 92 n && all (fits file) layout)) 9 []
-      ∷ place (not (fits file frequency && eqb (samples file % 8) 0)) 10 []
-      ∷ place (not (eqb (stated_length file) n && (eqb (data_size file) (12 + needed) && leb (80 + data_size file) n))) 11 []
+      ∷ place (not right_format) 10 []
+      ∷ place (not (right_lengths n)) 11 []
       ∷ []
 
   unfoldable pub file_places : List Place

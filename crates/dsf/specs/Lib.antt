@@ -1,3 +1,4 @@
 pub mod Dsf
 pub mod Reading
 pub mod Headers
+pub mod Orders

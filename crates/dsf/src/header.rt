@@ -1,101 +1,75 @@
 // The refusals of a file in their order, and the numbers of one that is accepted.
-ghost use Rattle.std.specs.Prelude.{◌≡◌, true, ◌≤◌};
+ghost use Rattle.std.specs.Prelude.{◌≡◌, true};
 ghost use Rattle.reference.specs.Refusals.{decide, decision};
-ghost use Rattle.dsf.specs.Dsf.{layout, all, fits, places_at};
-ghost use Rattle.dsf.specs.Reading.{ReadPromise, HeaderPromise, header_places, file_header, no_header};
+ghost use Rattle.dsf.specs.Dsf.{layout, all, fits, right_format, right_lengths};
+ghost use Rattle.dsf.specs.Reading.{ReadPromise, HeaderPromise, header_places, file_header};
 
-use crate::bytes::{both, number};
+use crate::DsfHeader;
+use crate::bytes::number;
 use crate::fields::{at_frequency, laid_out, needs};
-use crate::{DsfHeader, DsfOpened};
-use reference::{PcmError, Verdict};
+use reference::PcmError;
 
-// Of a file that is laid out: 10, then 11.
-fn later(head: &[u8], total: u64) -> Verdict
-    requires { (92 ≤ total) × (all (fits head.now) layout ≡ true) }
-    ensures { decision result ≡ decide (places_at head.now total) }
+// The frequency and whole bytes of samples: else 10.
+#[tactic(auto, unfolding(crate::specs::Dsf::samples))]
+fn right_format(head: &[u8]) -> bool
+    ensures { result ≡ right_format head.now }
 {
-    let a = at_frequency(head);
-    let b = number(head, 64, 8) % 8 == 0;
+    at_frequency(head) && number(head, 64, 8) % 8 == 0
+}
+
+// The stated length, the data chunk's size, and the file's end: else 11.
+#[tactic(auto, unfolding(crate::specs::Dsf::stated_length, crate::specs::Dsf::data_size))]
+fn right_lengths(head: &[u8], total: u64) -> bool
+    requires { all (fits head.now) layout ≡ true }
+    ensures { result ≡ right_lengths head.now total }
+{
     let need = needs(head);
-    let c = number(head, 12, 8) == total;
-    let d = number(head, 84, 8) == 12 + need;
-    let e = 92 + need <= total;
-    let format = both(a, b);
-    let lengths = both(c, both(d, e));
-    if format {
-        if lengths {
-            return Verdict::Accepted;
-        }
-        return Verdict::Refused(PcmError::DsfLength);
-    }
-    Verdict::Refused(PcmError::DsfFormat)
+    number(head, 12, 8) == total && number(head, 84, 8) == 12 + need && 92 + need <= total
 }
 
 // 9, 10, 11 of a file with these first bytes and of so many bytes.
-fn verdict(head: &[u8], total: u64) -> Verdict
+#[tactic(auto, using(crate::proofs::Tests::short_head, crate::proofs::Tests::short_file, crate::proofs::Tests::wrong_layout, crate::proofs::Tests::wrong_format, crate::proofs::Tests::wrong_lengths, crate::proofs::Tests::all_right))]
+fn tried(head: &[u8], total: u64) -> Result<(), PcmError>
     ensures { decision result ≡ decide (header_places head.now total) }
 {
-    if head.len() < 92 {
-        return Verdict::Refused(PcmError::NotDsf);
+    if head.len() < 92 || total < 92 || !laid_out(head) {
+        return Err(PcmError::NotDsf);
     }
-    if total < 92 {
-        return Verdict::Refused(PcmError::NotDsf);
+    if !right_format(head) {
+        return Err(PcmError::DsfFormat);
     }
-    if laid_out(head) {
-        return later(head, total);
+    if !right_lengths(head, total) {
+        return Err(PcmError::DsfLength);
     }
-    Verdict::Refused(PcmError::NotDsf)
-}
-
-fn nothing() -> DsfHeader
-    ensures { result ≡ no_header }
-{
-    DsfHeader {
-        channel_type: 0,
-        channels: 0,
-        bits_per_sample: 0,
-        samples: 0,
-        frames: 0,
-    }
+    Ok(())
 }
 
 // The numbers in a header.
+#[tactic(auto, unfolding(crate::specs::Reading::file_header, crate::specs::Dsf::channel_type, crate::specs::Dsf::channels, crate::specs::Dsf::bits_per_sample, crate::specs::Dsf::samples, crate::specs::Dsf::frames, crate::specs::Dsf::frames_in))]
 fn numbers(head: &[u8]) -> DsfHeader
     ensures { result ≡ file_header head.now }
 {
-    let channel_type = number(head, 48, 4);
-    let channels = number(head, 52, 4);
-    let bits_per_sample = number(head, 60, 4);
     let samples = number(head, 64, 8);
-    let frames = (samples / 8 + 4703) / 4704;
     DsfHeader {
-        channel_type,
-        channels,
-        bits_per_sample,
+        channel_type: number(head, 48, 4),
+        channels: number(head, 52, 4),
+        bits_per_sample: number(head, 60, 4),
         samples,
-        frames,
+        frames: (samples / 8 + 4703) / 4704,
     }
 }
 
 // What a file holds, from its first bytes and its length.
-pub fn read_header(head: &[u8], length: u64) -> DsfOpened
+pub fn read_header(head: &[u8], length: u64) -> Result<DsfHeader, PcmError>
     ensures { HeaderPromise head.now «length» result }
 {
-    let verdict = verdict(head, length);
-    match verdict {
-        Verdict::Accepted => {
-            let header = numbers(head);
-            DsfOpened { verdict, header }
-        }
-        Verdict::Refused(_) => {
-            let header = nothing();
-            DsfOpened { verdict, header }
-        }
-    }
+    tried(head, length)?;
+    Ok(numbers(head))
 }
 
 // What a file holds.
-pub fn read(file: &[u8]) -> DsfOpened
+#[tactic(auto, using(crate::proofs::Head::whole_head))]
+pub fn read(file: &[u8]) -> Result<DsfHeader, PcmError>
     ensures { ReadPromise file.now result }
 {
     read_header(file, file.len() as u64)

@@ -1,14 +1,16 @@
 // A DSF file's header, in Sony's layout: what is refused, and what the file holds. The definition is in specs/.
 #![tactic(auto)]
 
+ghost use Rattle.std.specs.Prelude.{◌≡◌};
+ghost use Rattle.dsf.specs.Orders.{bit_order};
+
 mod bytes;
 mod fields;
 mod header;
 
-pub use bytes::{both, eight, either, low, number};
+pub use bytes::number;
 pub use fields::{at_frequency, data_bytes, holds, laid_out, needs};
 pub use header::{read, read_header};
-use reference::Verdict;
 
 // What a file holds: samples of one channel, and frames, the last perhaps short.
 #[derive(Clone, Copy)]
@@ -20,9 +22,21 @@ pub struct DsfHeader {
     pub frames: u64,
 }
 
-// A refused file's numbers are 0.
-#[derive(Clone, Copy)]
-pub struct DsfOpened {
-    pub verdict: Verdict,
-    pub header: DsfHeader,
+// Which bit of a byte is its first sample.
+#[derive(Clone, Copy, PartialEq, Eq)]
+pub enum BitOrder {
+    LowestFirst,
+    HighestFirst,
+}
+
+impl DsfHeader {
+    // By the bits per sample, which are 1 or 8 in a file that is accepted.
+    pub fn bit_order(self) -> BitOrder
+        ensures { result ≡ bit_order self.bits_per_sample }
+    {
+        if self.bits_per_sample == 1 {
+            return BitOrder::LowestFirst;
+        }
+        BitOrder::HighestFirst
+    }
 }

@@ -1,78 +1,84 @@
 -- What the places of an asked frame decide; the window that every file has past its header; and frames of windows as the file's.
 use mathlib.Core.Path.{◌≡◌, refl, sym, ap, ap₂, ◌∙◌}
 use mathlib.Core.List.{List, [], ◌∷◌, ◌++◌}
-use mathlib.Core.Bool.{Bool, true, false, cond, not, ◌&&◌}
+use mathlib.Core.Bool.{Bool, true, false, cond, not, ◌&&◌, and-false}
 use mathlib.Core.Logic.{◌≢◌, ⊎_elim}
+use Rattle.std.specs.Prelude.{Result, Ok, Err, Some, None}
 use Prim.Native.Nat.{ℕ, suc, ◌+◌, ◌-◌, ◌*◌, ◌/◌, ◌%◌, ◌^◌, ◌≤◌, ◌<◌}
 use native.Mathlib.Nat.{mul-le-mul_right, mod-lt, div-lt_iff_lt-mul}
 use native.Mathlib.Omega.{arith}
-use borrow.Author.Tests.{le-leb, lt-leb, lt-ltb, eq-eqb, ne_eqb, eqb-true, leb-true, leb-false, not-false}
+use borrow.Author.Tests.{le-leb, lt-leb, lt-ltb, le-ltb, eq-eqb, ne_eqb, eqb-true, leb-true, leb-false, not-false}
 use lib.Dec.{T, ltb, leb, ltb→lt}
 use lib.ListN.{length, get_or, take, drop, length-drop}
 use lib.Seq.{get_or-drop, length-take-le}
 use Rattle.numbers.specs.Lists.{tabulate}
 use Rattle.numbers.proofs.Lists.{below_or, length_tabulate, get_d_tabulate, is_tabulate}
 use Rattle.reference.specs.Frames.{frame_length, idle}
-use Rattle.reference.specs.Refusals.{Decision, accepted, refused, Place, place, decide, decision, is_accepted, number, lent_length}
-use Rattle.reference.proofs.Refusals.{at_first, at_next, at_end, pass, decide_first, decide_skip, decide_stop}
+use Rattle.reference.specs.Refusals.{Decision, accepted, refused, Place, place, decide, error_decision, is_accepted, number, lent_length}
+use Rattle.reference.proofs.Refusals.{error_refuses, at_first, at_next, at_end, pass, decide_first, decide_skip, decide_stop}
 use Rattle.reference.specs.Promises.{by_decision}
-use Rattle.reference.specs.declared.Verdict.{Verdict}
+use Rattle.reference.specs.declared.PcmError.{PcmError}
 use Rattle.reference.proofs.Promises.{accepted_is, exit_accepted, exit_refused}
 use Rattle.dsf.specs.Dsf.{Bytes, number_at, blocks, data_bytes, data_place, channels, bits_per_sample, samples, needed, frames, frames_in, places_at, file_places, frame_places, accepts, our_byte, sample_byte, turn_byte, data_frame, file_data, file_frame}
-use Rattle.dsf.specs.Reading.{HeadOf, file_header, no_header, header_places}
+use Rattle.dsf.specs.Reading.{HeadOf, file_header, header_places}
 use Rattle.dsf.specs.declared.DsfHeader.{DsfHeader}
 use Rattle.dsf.proofs.Alike.{T_is, T_of, left, right, skip}
 use Rattle.dsf.proofs.Numbers.{number_small, each_take, each_drop}
 use Rattle.dsf.proofs.Accepted.{sound_at, head_channels}
 use Rattle.dsf.proofs.Tests.{too_short}
 use Rattle.dsf.proofs.Head.{whole_head, header_right}
-use Rattle.dsf_frames.specs.Reading.{lesser, window_start, window_end, frame_window, asked_places, window_places, window_data, window_frame, Framed, WindowOf}
+use Rattle.dsf_frames.specs.Reading.{lesser, window_start, window_end, window_of, asked_places, window_places, window_data, window_frame, Framed, WindowOf}
 use Rattle.dsf_frames.specs.Columns.{WindowArgs}
 use Rattle.dsf_frames.specs.declared.FrameWindow.{FrameWindow}
 use Rattle.dsf_frames.proofs.Windows.{place_at, above, within, column_args, turn_at}
 
 -- ---- what a program reads for a frame
-pub window_is : (w : FrameWindow) (n s f : ℕ) → n ≤ 6 → f < frames_in s → (w.start ≡ window_start n f) × (w.end ≡ window_end n s f) → w ≡ frame_window n s f
-unfolding frame_window
-window_is w n s f h l e = rw (le-leb n 6 h, lt-ltb f (frames_in s) l) (λ i. record { start = e.0 i; end = e.1 i })
+pub window_is : (w : FrameWindow) (n s f : ℕ) → n ≤ 6 → f < frames_in s → w.start ≡ window_start n f → w.end ≡ window_end n s f → window_of n s f ≡ Some w
+unfolding window_of
+window_is w n s f h l e g = rw (le-leb n 6 h, lt-ltb f (frames_in s) l) (λ i. Some (record { start = sym e i; end = sym g i }))
+
+pub no_window : (n s f : ℕ) → frames_in s ≤ f → window_of n s f ≡ None
+unfolding window_of
+no_window n s f h = rw (le-ltb f (frames_in s) h, and-false (leb n 6))
+
+pub no_channels : (n s f : ℕ) → 6 < n → window_of n s f ≡ None
+unfolding window_of
+no_channels n s f h = rw (lt-leb n 6 h)
 
 -- ---- the places, one after the other
 module _ (n s f start size room : ℕ) where
   abbrev d : Decision
   d = decide (asked_places n s f start size room)
 
-  pub no_frame : frames_in s ≤ f → refused 5 (number f ∷ []) ≡ d
+  pub no_frame : frames_in s ≤ f → d ≡ refused 5 (number f ∷ [])
   unfolding asked_places
-  no_frame l = sym (at_first _ _ (le-leb (frames_in s) f l))
+  no_frame l = at_first _ _ (le-leb (frames_in s) f l)
 
-  module _ (l : f < frames_in s) where
-    pub begins_late : window_start n f < start → refused 11 [] ≡ d
-    unfolding asked_places
-    begins_late h = sym (at_next _ _ (lt-leb (frames_in s) f l) ∙ at_first _ _ (rw (lt-leb start (window_start n f) h)))
+  pub begins_late : f < frames_in s → window_start n f < start → d ≡ refused 11 []
+  unfolding asked_places
+  begins_late l h = at_next _ _ (lt-leb (frames_in s) f l) ∙ at_first _ _ (rw (lt-leb start (window_start n f) h))
 
-    module _ (h : start ≤ window_start n f) where
-      pub ends_early : leb (window_end n s f) (start + size) ≡ false → refused 11 [] ≡ d
-      unfolding asked_places
-      ends_early e = sym (at_next _ _ (lt-leb (frames_in s) f l) ∙ at_first _ _ (rw (le-leb start (window_start n f) h, e)))
+  pub ends_early : f < frames_in s → leb (window_end n s f) (start + size) ≡ false → d ≡ refused 11 []
+  unfolding asked_places
+  ends_early l e = at_next _ _ (lt-leb (frames_in s) f l) ∙ at_first _ _ (rw (e, and-false (leb start (window_start n f))))
 
-      module _ (e : leb (window_end n s f) (start + size) ≡ true) where
-        pub held : d ≡ decide (lent_length 7 room (frame_length n) ∷ [])
-        unfolding asked_places
-        held = at_next _ _ (lt-leb (frames_in s) f l) ∙ at_next _ _ (rw (le-leb start (window_start n f) h, e))
+  pub held : f < frames_in s → start ≤ window_start n f → leb (window_end n s f) (start + size) ≡ true → d ≡ decide (lent_length 7 room (frame_length n) ∷ [])
+  unfolding asked_places
+  held l h e = at_next _ _ (lt-leb (frames_in s) f l) ∙ at_next _ _ (rw (le-leb start (window_start n f) h, e))
 
-        pub wrong_room : room ≢ 4704 * n → refused 7 (number room ∷ number (4704 * n) ∷ []) ≡ d
-        unfolding lent_length
-        wrong_room g = sym (held ∙ at_first _ _ (ap not (ne_eqb room (4704 * n) g)))
+  pub wrong_room : f < frames_in s → start ≤ window_start n f → leb (window_end n s f) (start + size) ≡ true → room ≢ 4704 * n → d ≡ refused 7 (number room ∷ number (4704 * n) ∷ [])
+  unfolding lent_length
+  wrong_room l h e g = held l h e ∙ at_first _ _ (ap not (ne_eqb room (4704 * n) g))
 
-        pub fits : room ≡ 4704 * n → accepted ≡ d
-        unfolding lent_length
-        fits g = sym (held ∙ at_next _ _ (ap not (eq-eqb room (4704 * n) g)) ∙ at_end)
+  pub fits : f < frames_in s → start ≤ window_start n f → leb (window_end n s f) (start + size) ≡ true → room ≡ 4704 * n → d ≡ accepted
+  unfolding lent_length
+  fits l h e g = held l h e ∙ at_next _ _ (ap not (eq-eqb room (4704 * n) g)) ∙ at_end
 
   -- what an accepted one has
-  pub args : d ≡ accepted → 1 ≤ n → n ≤ 6 → WindowArgs n s f start size room
+  pub args : accepted ≡ d → 1 ≤ n → n ≤ 6 → WindowArgs n s f start size room
   unfolding asked_places lent_length frames_in
-  args e one six =
-      let a = pass _ _ e in
+  args q one six =
+      let a = pass _ _ (sym q) in
       let b = pass _ _ a.1 in
       let c = pass _ _ b.1 in
       let begins = leb start (window_start n f) in
@@ -109,7 +115,7 @@ module _ (file : List ℕ) (f room : ℕ) where
   same_asked a =
       ⊎_elim
       (λ l. held (channels file) (samples file) f 0 (length (drop 92 file)) room l (omega arith) (covered a) ∙ sym (at_next _ _ (lt-leb (frames_in (samples file)) f l)))
-      (λ l. sym (no_frame (channels file) (samples file) f 0 (length (drop 92 file)) room l) ∙ sym (at_first _ _ (le-leb (frames_in (samples file)) f l)))
+      (λ l. no_frame (channels file) (samples file) f 0 (length (drop 92 file)) room l ∙ sym (at_first _ _ (le-leb (frames_in (samples file)) f l)))
       (below_or f (frames_in (samples file)))
 
   pub whole_places : decide (window_places file (length file) f 0 (length (drop 92 file)) room) ≡ decide (frame_places file f room)
@@ -136,33 +142,37 @@ pub short_file : (file : List ℕ) (f room : ℕ) → length file < 92 → decid
 unfolding frame_places file_places is_accepted
 short_file file f room l =
     let e = too_short file (length file) l in
-    decide_stop (places_at file (length file)) _ (ap is_accepted (sym e)) ∙ sym e
+    decide_stop (places_at file (length file)) _ (ap is_accepted e) ∙ e
 
 -- the places decide alike, and the frame is the same
-pub framed_as : {ps qs : List Place} {x y out out' : List ℕ} {answer : Verdict} → decide ps ≡ decide qs → x ≡ y → Framed ps x out out' answer → Framed qs y out out' answer
+pub framed_as : {ps qs : List Place} {x y out out' : List ℕ} {answer : Result (Unit {0}) PcmError} → decide ps ≡ decide qs → x ≡ y → Framed ps x out out' answer → Framed qs y out out' answer
 framed_as {out = out} e h p =
     record { decided = p.decided ∙ e; written = p.written ∙ ap₂ (λ (d : Decision) (l : List ℕ). by_decision d l out) e h }
 
 -- ---- with the file's first bytes and its length
-module _ (head : List ℕ) (n : ℕ) (h : DsfHeader) (p : h ≡ by_decision (decide (header_places head n)) (file_header head) no_header) where
+module _ (head : List ℕ) (n : ℕ) (h : DsfHeader) (q : h ≡ file_header head) where
   pub head_few : decide (header_places head n) ≡ accepted → (1 ≤ h.channels) × (h.channels ≤ 6)
   unfolding file_header
-  head_few e = let q : h ≡ file_header head = p ∙ exit_accepted _ _ _ e in rw q (head_channels head n e)
+  head_few e = rw q (head_channels head n e)
 
-  pub window_taken : (f start : ℕ) (window : List ℕ) {out out' : List ℕ} {answer : Verdict} → decide (header_places head n) ≡ accepted
+  pub window_taken : (f start : ℕ) (window : List ℕ) {out out' : List ℕ} {answer : Result (Unit {0}) PcmError} → decide (header_places head n) ≡ accepted
       → Framed (asked_places h.channels h.samples f start (length window) (length out)) (data_frame (window_data window start) h.channels h.bits_per_sample h.samples f) out out' answer
       → Framed (window_places head n f start (length window) (length out)) (window_frame head f window start) out out' answer
   unfolding file_header window_places
-  window_taken f start window e t =
-      let q : h ≡ file_header head = p ∙ exit_accepted _ _ _ e in
-      framed_as (sym (decide_skip (header_places head n) _ e)) refl (rw q at t)
+  window_taken f start window e t = framed_as (sym (decide_skip (header_places head n) _ e)) refl (rw q at t)
 
-pub window_refused : (head : List ℕ) (n f start size : ℕ) {x out : List ℕ} {answer : Verdict} → decision answer ≡ decide (header_places head n) → is_accepted (decide (header_places head n)) ≡ false
-    → Framed (window_places head n f start size (length out)) x out out answer
+-- a frame that is given, or refused
+pub given : (places : List Place) {frame out out' : List ℕ} → accepted ≡ decide places → out' ≡ frame → Framed places frame out out' (Ok tt)
+given places {frame} {out} e w = record { decided = e; written = w ∙ sym (exit_accepted _ frame out (sym e)) }
+
+pub turned_down : (places : List Place) {frame out : List ℕ} (e : PcmError) → error_decision e ≡ decide places → Framed places frame out out (Err e)
+turned_down places {frame} {out} e d = record { decided = d; written = sym (exit_refused _ frame out (ap is_accepted (sym d) ∙ error_refuses e)) }
+
+pub window_refused : (head : List ℕ) (n f start size : ℕ) {x out : List ℕ} (e : PcmError) → error_decision e ≡ decide (header_places head n) → Framed (window_places head n f start size (length out)) x out out (Err e)
 unfolding window_places
-window_refused head n f start size {x} {out} a r =
-    let s = decide_stop (header_places head n) (asked_places (channels head) (samples head) f start size (length out)) r in
-    record { decided = a ∙ sym s; written = sym (exit_refused _ x out (ap is_accepted s ∙ r)) }
+window_refused head n f start size {out = out} e a =
+    let s = decide_stop (header_places head n) (asked_places (channels head) (samples head) f start size (length out)) (ap is_accepted (sym a) ∙ error_refuses e) in
+    turned_down _ e (a ∙ sym s)
 
 -- ---- a frame by its bytes
 frame_same : (r r' : ℕ → ℕ) (n b s f : ℕ) → 0 < n → ((c k : ℕ) → c < n → k < 4704 → sample_byte r n b s c (f * 4704 + k) ≡ sample_byte r' n b s c (f * 4704 + k)) → data_frame r n b s f ≡ data_frame r' n b s f
@@ -184,7 +194,7 @@ module _ (file head : List ℕ) (n : ℕ) (h : HeadOf file head n) (b : Bytes fi
 
   window_args : WindowArgs (channels head) (samples head) f start (length window) room
   unfolding window_places
-  window_args = args (channels head) (samples head) f start (length window) room (sym (decide_skip (header_places head n) _ accepted_head) ∙ e) few.0 few.1
+  window_args = args (channels head) (samples head) f start (length window) room (sym (sym (decide_skip (header_places head n) _ accepted_head) ∙ e)) few.0 few.1
 
   same_header : file_header head ≡ file_header file
   same_header = (header_right file head n h).1

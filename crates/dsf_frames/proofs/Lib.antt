@@ -3,3 +3,4 @@ pub mod Blocks
 pub mod Windows
 pub mod Asked
 pub mod Samples
+pub mod Pieces

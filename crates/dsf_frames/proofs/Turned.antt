@@ -1,13 +1,14 @@
 -- A byte turned twice is the byte, by a test over all 256.
-use mathlib.Core.Path.{◌≡◌, ◌∙◌}
-use mathlib.Core.Bool.{Bool, ◌&&◌}
-use Prim.Native.Nat.{ℕ, ◌+◌, ◌*◌, ◌/◌, ◌%◌, ◌<◌}
-use native.Mathlib.Nat.{mod-lt, mod-eq_of_lt, div-one, mul-one, zero-add}
-use native.Mathlib.Omega.{arith}
+use mathlib.Core.Path.{◌≡◌, refl}
+use mathlib.Core.Bool.{Bool, true, false, cond, ◌&&◌}
+use Prim.Native.Nat.{ℕ, ◌<◌}
 use lib.Dec.{T, eqb, ltb, eqb→eq, ltb→lt}
 use Rattle.numbers.specs.Lists.{total}
 use Rattle.numbers.proofs.Tests.{each_below, each_below_at}
-use Rattle.dsf.specs.Dsf.{turned}
+use Rattle.std.specs.Int.{w8, reverse_bits, reverse_bits_onto}
+use Rattle.dsf.specs.Dsf.{turned, our_byte}
+use Rattle.dsf.specs.Orders.{bit_order, ordered}
+use Rattle.dsf.specs.declared.BitOrder.TheVariants.{LowestFirst, HighestFirst}
 use Rattle.dsf.proofs.Alike.{left, right}
 
 test : ℕ → Bool
@@ -25,13 +26,23 @@ pub turned_byte : (x : ℕ) → x < 256 → turned x < 256
 unfolding test
 turned_byte x h = ltb→lt _ _ (right (eqb (turned (turned x)) x) (ltb (turned x) 256) (each_below_at test 256 x all_turned h))
 
--- the code's sum
-small : (a b c d e f g h : ℕ) → a < 2 → b < 2 → c < 2 → d < 2 → e < 2 → f < 2 → g < 2 → h < 2 → a * 128 + b * 64 + c * 32 + d * 16 + e * 8 + f * 4 + g * 2 + h < 256
-small a b c d e f g h pa pb pc pd pe pf pg ph = omega arith
+-- as the machine turns it
+same : ℕ → Bool
+same x = eqb (reverse_bits w8 x) (turned x)
 
-pub turn_sum : (n : ℕ) → (n % 2 * 128 + n / 2 % 2 * 64 + n / 4 % 2 * 32 + n / 8 % 2 * 16 + n / 16 % 2 * 8 + n / 32 % 2 * 4 + n / 64 % 2 * 2 + n / 128 % 2) % 256 ≡ turned n
-unfolding turned total
-turn_sum n =
-    let two : 0 < 2 = omega arith in
-    mod-eq_of_lt (small _ _ _ _ _ _ _ _ (mod-lt n two) (mod-lt (n / 2) two) (mod-lt (n / 4) two) (mod-lt (n / 8) two) (mod-lt (n / 16) two) (mod-lt (n / 32) two) (mod-lt (n / 64) two) (mod-lt (n / 128) two))
-    ∙ simp (div-one, mul-one, zero-add)
+all_same : T (each_below same 256)
+unfolding each_below same turned total reverse_bits_onto
+all_same = tt
+
+pub reversed : (x : ℕ) → x < 256 → reverse_bits w8 x ≡ turned x
+unfolding same
+reversed x h = eqb→eq _ _ (each_below_at same 256 x all_same h)
+
+-- the order that a header tells
+pub ordered_is : (bits x : ℕ) → ordered (bit_order bits) x ≡ our_byte bits x
+unfolding our_byte
+ordered_is bits x = go (eqb bits 1)
+  where
+    go : (b : Bool) → ordered (cond b LowestFirst HighestFirst) x ≡ cond b (turned x) x
+    go true = refl
+    go false = refl

@@ -14,6 +14,8 @@ use Rattle.reference.specs.Frames.{idle}
 use Rattle.dsf.specs.Dsf.{blocks, data_place, our_byte, sample_byte, turn_byte, data_frame}
 use Rattle.dsf_frames.specs.Reading.{lesser, window_start, window_end, window_data}
 use Rattle.dsf_frames.specs.Columns.{WindowArgs, Strided, Column, column_byte, Ordering, ColumnArgs}
+use Rattle.dsf.specs.Orders.{bit_order}
+use Rattle.dsf_frames.proofs.Turned.{ordered_is}
 use Rattle.dsf_frames.proofs.Blocks.{quotient, remainder, place_below, group}
 use Rattle.dsf.proofs.Alike.{pick, skip}
 
@@ -176,7 +178,7 @@ module _ {n samples' f start size out : ℕ} (a : WindowArgs n samples' f start 
         lent = a.lent;
       }
 
-  module _ (bits : ℕ) (window table new : List ℕ) (same : length window ≡ size) (each : (i : ℕ) → get_or window i 0 < 256) (o : Ordering bits table) (s : samples' < 2 ^ 64) where
+  module _ (bits : ℕ) (window table new : List ℕ) (same : length window ≡ size) (each : (i : ℕ) → get_or window i 0 < 256) (o : Ordering (bit_order bits) table) (s : samples' < 2 ^ 64) where
     abbrev cell_byte : ℕ → ℕ → ℕ
     cell_byte c k = column_byte window table n (f * 4704) last start c k
 
@@ -186,7 +188,7 @@ module _ {n samples' f start size out : ℕ} (a : WindowArgs n samples' f start 
         let q = f * 4704 + i in
         let at = (q / 4096 * n + c) * 4096 + q % 4096 - start in
         ⊎_elim
-        (λ b. pick (ltb q last) (get_or table (get_or window at 0) 0) idle (lt→ltb q last (omega arith)) ∙ o.is (get_or window at 0) (each at) ∙ sym (pick (ltb q (samples' / 8)) (our_byte bits (get_or window at 0)) idle (lt→ltb q (samples' / 8) b)))
+        (λ b. pick (ltb q last) (get_or table (get_or window at 0) 0) idle (lt→ltb q last (omega arith)) ∙ o.is (get_or window at 0) (each at) ∙ ordered_is bits (get_or window at 0) ∙ sym (pick (ltb q (samples' / 8)) (our_byte bits (get_or window at 0)) idle (lt→ltb q (samples' / 8) b)))
         (λ b. skip (ltb q last) _ _ (λ t. omega (arith, ltb→lt q last t)) ∙ sym (skip (ltb q (samples' / 8)) _ _ (λ t. omega (arith, ltb→lt q (samples' / 8) t))))
         (below_or q (samples' / 8))
 
@@ -202,6 +204,6 @@ module _ {n samples' f start size out : ℕ} (a : WindowArgs n samples' f start 
         rw (div-add-mod' j n) at v ∙ sym (turn_at (window_data window start) n bits samples' f j z))
 
 -- ---- whether a window reaches to an end
-pub reach_is : (s z e : ℕ) → s ≤ e → leb (e - s) z ≡ leb e (s + z)
-reach_is s z e h =
+pub reach_is : (s z e : ℕ) → leb (e - s) z ≡ leb e (s + z)
+reach_is s z e =
     ⊎_elim (λ b. lt-leb (e - s) z b ∙ sym (lt-leb e (s + z) (omega arith))) (λ b. le-leb (e - s) z b ∙ sym (le-leb e (s + z) (omega arith))) (below_or z (e - s))

@@ -1,7 +1,9 @@
 -- How a frame is put together, channel by channel; no part of a promise.
 use Rattle.std.specs.Prelude.{◌≡◌, List, cond, ◌≢◌, ℕ, ◌+◌, ◌-◌, ◌*◌, ◌/◌, ◌≤◌, ◌<◌, ◌^◌, ltb, length, get_or}
 use Rattle.reference.specs.Frames.{frame_bytes, frame_length, idle}
-use Rattle.dsf.specs.Dsf.{block, blocks, data_place, our_byte}
+use Rattle.dsf.specs.Dsf.{block, blocks, data_place}
+use Rattle.dsf.specs.Orders.{ordered}
+use Rattle.dsf.specs.declared.BitOrder.{BitOrder}
 use Rattle.dsf_frames.specs.Reading.{window_start, window_end}
 
 -- a window of `size` bytes from `start` of the data on holds frame f, and the buffer is a frame's
@@ -31,8 +33,8 @@ column_byte window table n first end start c k =
     cond (ltb (first + k) end) (get_or table (get_or window (data_place n c (first + k) - start) 0) 0) idle
 
 -- a table of all bytes in our bit order
-pub record Ordering (bits : ℕ) (table : List ℕ) : Type 0 where
-  pub is : (x : ℕ) → x < 256 → get_or table x 0 ≡ our_byte bits x
+pub record Ordering (order : BitOrder) (table : List ℕ) : Type 0 where
+  pub is : (x : ℕ) → x < 256 → get_or table x 0 ≡ ordered order x
 
 pub record ColumnArgs (n c first end start size out : ℕ) : Type 0 where
   pub six : n ≤ 6

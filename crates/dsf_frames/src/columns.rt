@@ -1,30 +1,17 @@
 // A channel of a frame: pieces of its blocks through a table of bytes, and idle bytes past the data.
 ghost use Rattle.std.specs.Prelude.{◌≡◌, ◌+◌, ◌*◌, ◌≤◌, ◌<◌, ◌^◌, length, get_or};
 ghost use Rattle.reference.specs.Frames.{idle};
-ghost use Rattle.dsf_frames.specs.Reading.{lesser};
 ghost use Rattle.dsf_frames.specs.Columns.{Strided, Column, column_byte, ColumnArgs};
 
-pub fn lesser_of(a: u64, b: u64) -> u64
-    ensures { result ≡ lesser a b }
-{
-    if a < b {
-        return a;
-    }
-    b
-}
+use crate::Stretch;
 
 // A contiguous piece through a table, into places at a stride.
 fn spread(src: &[u8], table: &[u8; 256], at: usize, stride: usize, out: &mut [u8])
     requires { (1 ≤ stride) × (at + length src.now * stride < length out.old + stride) × (length out.old + stride < 2 ^ 64) }
     ensures { Strided (λ i. get_or table.now (get_or src.now i 0) 0) at stride (length src.now) out.old out.new }
 {
-    let mut k = 0usize;
-    let mut j = at;
-    while k < src.len() {
-        let x = src[k] as usize;
-        out[j] = table[x];
-        j += stride;
-        k += 1;
+    for k in 0..src.len() {
+        out[at + k * stride] = table[src[k] as usize];
     }
 }
 
@@ -33,40 +20,39 @@ fn idle_at(count: usize, at: usize, stride: usize, out: &mut [u8])
     requires { (1 ≤ stride) × (at + count * stride < length out.old + stride) × (length out.old + stride < 2 ^ 64) }
     ensures { Strided (λ i. idle) at stride count out.old out.new }
 {
-    let mut k = 0usize;
-    let mut j = at;
-    while k < count {
-        out[j] = 105;
-        j += stride;
-        k += 1;
+    for k in 0..count {
+        out[at + k * stride] = 105;
     }
 }
 
+// Channel `number` of so many in a frame: its bytes `first` to `end` are in the data, and those after them idle.
+#[derive(Clone, Copy)]
+pub struct Channel {
+    pub number: u64,
+    pub channels: u64,
+    pub first: u64,
+    pub end: u64,
+}
+
 // A channel of a frame: its pieces, block by block, and idle bytes past the data.
-pub fn column(
-    window: &[u8],
-    table: &[u8; 256],
-    channels: u64,
-    c: u64,
-    first: u64,
-    end: u64,
-    start: u64,
-    out: &mut [u8],
-)
-    requires { ColumnArgs channels c first end start (length window.now) (length out.old) }
-    ensures { Column channels c 4704 (column_byte window.now table.now channels first end start c) out.old out.new }
+pub fn column(window: &Stretch, table: &[u8; 256], channel: Channel, out: &mut [u8])
+    requires { ColumnArgs channel.channels channel.number channel.first channel.end window.now.start (length window.now.bytes.now) (length out.old) }
+    ensures { Column channel.channels channel.number 4704 (column_byte window.now.bytes.now table.now channel.channels channel.first channel.end window.now.start channel.number) out.old out.new }
 {
-    let mut q = first;
-    while q < end {
-        let b = q / 4096;
-        let stop = lesser_of(end, b * 4096 + 4096);
-        let from = ((b * channels + c) * 4096 + q % 4096 - start) as usize;
+    let stride = channel.channels as usize;
+    let mut q = channel.first;
+    // From block to block, of which the first and the last may be in the frame in part: no step is that of a `for`.
+    while q < channel.end {
+        let block = q / 4096;
+        let stop = channel.end.min(block * 4096 + 4096);
+        let from = ((block * channel.channels + channel.number) * 4096 + q % 4096
+            - window.start) as usize;
         let to = from + (stop - q) as usize;
-        let at = ((q - first) * channels + c) as usize;
-        spread(&window[from..to], table, at, channels as usize, out);
+        let at = ((q - channel.first) * channel.channels + channel.number) as usize;
+        spread(&window.bytes[from..to], table, at, stride, out);
         q = stop;
     }
-    let rest = (first + 4704 - end) as usize;
-    let at = ((end - first) * channels + c) as usize;
-    idle_at(rest, at, channels as usize, out);
+    let rest = (channel.first + 4704 - channel.end) as usize;
+    let at = ((channel.end - channel.first) * channel.channels + channel.number) as usize;
+    idle_at(rest, at, stride, out);
 }

@@ -1,115 +1,98 @@
 // Frames out of a window of a file's data, or out of a whole file.
 ghost use Rattle.std.specs.Prelude.{◌≡◌, ◌+◌, ◌*◌, ◌/◌, ◌≤◌, ◌<◌, leb, length};
 ghost use Rattle.reference.specs.Refusals.{decide, decision};
-ghost use Rattle.dsf.specs.Dsf.{data_frame};
-ghost use Rattle.dsf_frames.specs.Reading.{window_start, window_end, frame_window, asked_places, window_data, Framed, FramePromise, WindowPromise};
+ghost use Rattle.dsf.specs.Dsf.{Bytes, data_frame};
+ghost use Rattle.dsf_frames.specs.Reading.{window_start, window_end, window_of, asked_places, window_data, Framed, FramePromise, WindowPromise};
 ghost use Rattle.dsf_frames.specs.Columns.{WindowArgs};
 
-use crate::FrameWindow;
 use crate::bits::order_table;
-use crate::columns::{column, lesser_of};
+use crate::columns::{Channel, column};
+use crate::{FrameWindow, Stretch};
 use dsf::{DsfHeader, read_header};
-use reference::{PcmError, Verdict};
+use reference::PcmError;
 
-// Frame f out of a window of the file's data, which starts at `start` there.
-fn frame_from_window(
-    channels: u64,
-    bits: u64,
-    samples: u64,
-    f: u64,
-    window: &[u8],
-    start: u64,
-    out: &mut [u8],
-)
-    requires { WindowArgs channels samples f start (length window.now) (length out.old) }
-    ensures { out.new ≡ data_frame (window_data window.now start) channels bits samples f }
+// Frame f out of a window of the file's data.
+fn frame_from_window(header: DsfHeader, f: u64, window: &Stretch, out: &mut [u8])
+    requires args { WindowArgs header.channels header.samples f window.now.start (length window.now.bytes.now) (length out.old) }
+    requires are_bytes { Bytes window.now.bytes.now }
+    ensures { out.new ≡ data_frame (window_data window.now.bytes.now window.now.start) header.channels header.bits_per_sample header.samples f }
 {
+    let channels = header.channels;
     let first = f * 4704;
-    let end = lesser_of(samples / 8, first + 4704);
-    let table = order_table(bits);
-    let mut c = 0u64;
-    while c < channels {
-        column(window, &table, channels, c, first, end, start, out);
-        c += 1;
+    let end = (header.samples / 8).min(first + 4704);
+    let table = order_table(header.bit_order());
+    for number in 0..channels {
+        let channel = Channel {
+            number,
+            channels,
+            first,
+            end,
+        };
+        column(window, &table, channel, out);
     }
 }
 
 // The groups of blocks that frame f touches.
+#[tactic(auto, unfolding(crate::specs::Reading::window_start, crate::specs::Reading::window_end, dsf::specs::Dsf::blocks))]
 fn groups(channels: u64, samples: u64, f: u64) -> FrameWindow
     requires { (channels ≤ 6) × (f * 4704 < samples / 8) }
     ensures { (result.start ≡ window_start channels f) × (result.end ≡ window_end channels samples f) }
 {
     let first = f * 4704;
-    let last = lesser_of(samples / 8, first + 4704);
+    let last = (samples / 8).min(first + 4704);
     let start = first / 4096 * 4096 * channels;
     let end = (last + 4095) / 4096 * 4096 * channels;
     FrameWindow { start, end }
 }
 
 // What a program that reads a file in pieces reads for a frame.
-#[tactic(auto, using(crate::proofs::Asked::window_is), unfolding(crate::specs::Reading::frame_window, dsf::specs::Dsf::frames_in))]
-pub fn window(channels: u64, samples: u64, frame: u64) -> FrameWindow
-    ensures { result ≡ frame_window channels samples frame }
+#[tactic(auto, using(crate::proofs::Asked::no_window, crate::proofs::Asked::no_channels), unfolding(dsf::specs::Dsf::frames_in))]
+pub fn window(channels: u64, samples: u64, frame: u64) -> Option<FrameWindow>
+    ensures { result ≡ window_of channels samples frame }
 {
-    if channels > 6 {
-        return FrameWindow { start: 0, end: 0 };
+    if channels > 6 || (samples / 8 + 4703) / 4704 <= frame {
+        return None;
     }
-    if (samples / 8 + 4703) / 4704 <= frame {
-        return FrameWindow { start: 0, end: 0 };
-    }
-    groups(channels, samples, frame)
+    Some(groups(channels, samples, frame))
 }
 
 // Whether a stretch of so many bytes from a start on reaches to an end.
+#[tactic(auto, using(crate::proofs::Windows::reach_is))]
 pub fn reaches(start: u64, size: u64, end: u64) -> bool
     ensures { result ≡ leb end (start + size) }
 {
-    if end <= start {
-        return true;
-    }
-    end - start <= size
+    end.saturating_sub(start) <= size
 }
 
-// Whether a window of so many bytes holds a frame, and a buffer is one.
-fn asked(channels: u64, samples: u64, frame: u64, start: u64, size: usize, room: usize) -> Verdict
-    requires { channels ≤ 6 }
-    ensures { decision result ≡ decide (asked_places channels samples frame start size room) }
+// Whether a window holds a frame, and a buffer is one.
+#[tactic(auto, using(crate::proofs::Asked::no_frame, crate::proofs::Asked::begins_late, crate::proofs::Asked::ends_early, crate::proofs::Asked::wrong_room, crate::proofs::Asked::fits), unfolding(dsf::specs::Dsf::frames_in))]
+fn asked(header: DsfHeader, frame: u64, window: &Stretch, room: usize) -> Result<(), PcmError>
+    requires { header.channels ≤ 6 }
+    ensures { decision result ≡ decide (asked_places header.channels header.samples frame window.now.start (length window.now.bytes.now) room) }
 {
-    if (samples / 8 + 4703) / 4704 <= frame {
-        return Verdict::Refused(PcmError::Frames(frame as usize));
+    if (header.samples / 8 + 4703) / 4704 <= frame {
+        return Err(PcmError::Frames(frame as usize));
     }
-    let held = groups(channels, samples, frame);
-    let from = held.start;
-    let to = held.end;
-    if from < start {
-        return Verdict::Refused(PcmError::DsfLength);
+    let held = groups(header.channels, header.samples, frame);
+    if held.start < window.start || !reaches(window.start, window.bytes.len() as u64, held.end) {
+        return Err(PcmError::DsfLength);
     }
-    if reaches(start, size as u64, to) {
-        let expected = 4704 * channels as usize;
-        if room != expected {
-            return Verdict::Refused(PcmError::OutputBytes(room, expected));
-        }
-        return Verdict::Accepted;
+    let expected = 4704 * header.channels as usize;
+    if room != expected {
+        return Err(PcmError::OutputBytes(room, expected));
     }
-    Verdict::Refused(PcmError::DsfLength)
+    Ok(())
 }
 
 // A frame of a file whose header is accepted.
-fn take(header: DsfHeader, frame: u64, window: &[u8], start: u64, out: &mut [u8]) -> Verdict
-    requires { (1 ≤ header.channels) × (header.channels ≤ 6) }
-    ensures { Framed (asked_places header.channels header.samples frame start (length window.now) (length out.old)) (data_frame (window_data window.now start) header.channels header.bits_per_sample header.samples frame) out.old out.new result }
+fn take(header: DsfHeader, frame: u64, window: &Stretch, out: &mut [u8]) -> Result<(), PcmError>
+    requires some { (1 ≤ header.channels) × (header.channels ≤ 6) }
+    requires are_bytes { Bytes window.now.bytes.now }
+    ensures { Framed (asked_places header.channels header.samples frame window.now.start (length window.now.bytes.now) (length out.old)) (data_frame (window_data window.now.bytes.now window.now.start) header.channels header.bits_per_sample header.samples frame) out.old out.new result }
 {
-    let channels = header.channels;
-    let bits = header.bits_per_sample;
-    let samples = header.samples;
-    let verdict = asked(channels, samples, frame, start, window.len(), out.len());
-    match verdict {
-        Verdict::Accepted => {
-            frame_from_window(channels, bits, samples, frame, window, start, out);
-            Verdict::Accepted
-        }
-        Verdict::Refused(e) => Verdict::Refused(e),
-    }
+    asked(header, frame, window, out.len())?;
+    frame_from_window(header, frame, window, out);
+    Ok(())
 }
 
 // A frame out of a window of the data, with the file's first bytes and its length.
@@ -120,24 +103,21 @@ pub fn window_frame(
     window: &[u8],
     start: u64,
     out: &mut [u8],
-) -> Verdict
+) -> Result<(), PcmError>
     ensures { WindowPromise head.now «length» frame window.now start out.old out.new result }
 {
-    let opened = read_header(head, length);
-    let header = opened.header;
-    let verdict = opened.verdict;
-    match verdict {
-        Verdict::Accepted => take(header, frame, window, start, out),
-        Verdict::Refused(e) => Verdict::Refused(e),
-    }
+    let header = read_header(head, length)?;
+    let window = Stretch {
+        bytes: window,
+        start,
+    };
+    take(header, frame, &window, out)
 }
 
 // A frame of a file.
-pub fn frame(file: &[u8], frame: u64, out: &mut [u8]) -> Verdict
+pub fn frame(file: &[u8], frame: u64, out: &mut [u8]) -> Result<(), PcmError>
     ensures { FramePromise file.now frame out.old out.new result }
 {
-    if file.len() < 92 {
-        return Verdict::Refused(PcmError::NotDsf);
-    }
-    window_frame(file, file.len() as u64, frame, &file[92..], 0, out)
+    let data = &file[file.len().min(92)..];
+    window_frame(file, file.len() as u64, frame, data, 0, out)
 }

@@ -1,8 +1,7 @@
 -- Giving up early on an upload: the shortest beginning that no continuation makes acceptable.
-use Rattle.std.specs.Prelude.{List, ◌++◌, not, cond, ℕ, ◌≤◌, ◌<◌, T, ltb, length, take}
+use Rattle.std.specs.Prelude.{List, ◌++◌, not, cond, ℕ, ◌≤◌, ◌<◌, T, min, ltb, length, take}
 use Rattle.dsf.specs.Dsf.{Bytes, accepts}
 use Rattle.dsf.specs.Reading.{HeadOf}
-use Rattle.dsf_frames.specs.Reading.{lesser}
 use Rattle.dsf_upload.specs.declared.Upload.{Upload}
 use Rattle.dsf_upload.specs.declared.Upload.TheVariants.{Accepted, Unfinished, GiveUp}
 
@@ -33,7 +32,7 @@ OfEvery head n answer = (file : List ℕ) → Bytes file → HeadOf file head n 
 -- from the first bytes and the length: of `head` no more than 92 bytes count, and no more than the length;
 -- where fewer are there, they count as the whole file
 abbrev pub known : List ℕ → ℕ → ℕ
-known head n = lesser (lesser 92 n) (length head)
+known head n = min (min 92 n) (length head)
 
 abbrev pub known_length : List ℕ → ℕ → ℕ
 known_length head n = cond (ltb (known head n) 92) (known head n) n

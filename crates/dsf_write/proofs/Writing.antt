@@ -1,28 +1,36 @@
 -- Writing: the header put in pieces, a byte of the data, and what the writer's places decide.
 use mathlib.Core.Path.{◌≡◌, refl, sym, ap, ap₂, ◌∙◌}
 use mathlib.Core.List.{List, [], ◌∷◌, ◌++◌, append_assoc}
-use mathlib.Core.Bool.{false, not, ◌&&◌}
+use mathlib.Core.Bool.{not, ◌&&◌, and-false}
 use mathlib.Core.Logic.{◌≢◌, ⊎_elim}
 use Prim.Native.Nat.{ℕ, ◌+◌, ◌-◌, ◌*◌, ◌/◌, ◌%◌, ◌^◌, ◌≤◌, ◌<◌}
 use native.Mathlib.Nat.{add-mul, mul-le-mul, mul-le-mul_right, mod-lt, div-add-mod', mul_assoc, div-mul-le_self, div-lt_iff_lt-mul}
 use native.Mathlib.Omega.{arith}
 use lib.Dec.{leb, ltb, lt→ltb, ltb→lt}
-use lib.ListN.{length, get_or, take, drop, take-append-drop, length-append, length-drop}
+use lib.ListN.{length, get_or, replicate, length-replicate, get_or-replicate, take, drop, take-append-drop, length-append, length-drop}
 use lib.Seq.{ext_get_or, get_or-take, get_or-drop, length-take-le}
 use borrow.Author.Tests.{le-leb, lt-leb, lt-ltb, le-ltb, eq-eqb, ne_eqb, eqb-true, leb-true, ltb-false, not-false}
+use borrow.Rule.Slice.PartMut.{put_mid}
+use Rattle.std.proofs.lemmas.Slice.{take-put_mid}
 use Rattle.numbers.specs.Lists.{tabulate, Wrote}
 use Rattle.numbers.proofs.Lists.{below_or, is_tabulate}
 use Rattle.reference.specs.Frames.{frame_count}
-use Rattle.reference.specs.Refusals.{Decision, accepted, refused, place, decide, is_accepted, number, rack, run_length, lent_length}
-use Rattle.reference.proofs.Refusals.{at_first, at_next, at_end, pass, decide_skip, decide_stop}
+use Rattle.std.specs.Prelude.{Ok, Err}
+use Rattle.reference.specs.declared.PcmError.{PcmError}
+use Rattle.reference.specs.declared.PcmError.TheVariants.{OutputBytes}
+use Rattle.reference.proofs.Promises.{exit_accepted, exit_refused}
+use Rattle.reference.specs.Refusals.{Decision, accepted, refused, error_decision, place, decide, is_accepted, number, rack, run_length, lent_length}
+use Rattle.reference.proofs.Refusals.{error_refuses, at_first, at_next, at_end, pass, decide_skip, decide_stop}
 use Rattle.level_lines.specs.Text.{text}
-use Rattle.dsf.specs.Dsf.{bytes, pair, blocks, data_bytes, turned, our_byte}
+use Rattle.dsf.specs.Dsf.{bytes, pair, blocks, data_bytes, turned}
 use Rattle.dsf.specs.Headers.{header}
 use Rattle.dsf.proofs.Alike.{T_is, T_of, left, right, pick, skip}
 use Rattle.dsf_frames.specs.Reading.{lesser}
+use Rattle.dsf.specs.declared.BitOrder.TheVariants.{LowestFirst}
 use Rattle.dsf_frames.specs.Columns.{Ordering}
 use Rattle.dsf_frames.proofs.Blocks.{group}
-use Rattle.dsf_write.specs.Written.{type_of, data_channel, data_byte, written_channel, written_data, written_byte, file_length, length_places, write_places, Writable}
+use Rattle.dsf_frames.proofs.Pieces.{long_mid, wrote_piece}
+use Rattle.dsf_write.specs.Written.{type_of, data_channel, data_byte, written_channel, written_data, written_byte, written, file_length, length_places, write_places, WritePromise, Writable}
 use Rattle.dsf_write.specs.Putting.{PutPromise, DataArgs, BlockArgs}
 use Rattle.dsf_write.proofs.Written.{by_channels}
 
@@ -30,6 +38,27 @@ use Rattle.dsf_write.proofs.Written.{by_channels}
 pub pair_is : (n : ℕ) → 1 ≤ n → n ≤ 6 → type_of n ∷ 0 ∷ 0 ∷ 0 ∷ n ∷ 0 ∷ 0 ∷ 0 ∷ [] ≡ pair (type_of n) n
 unfolding type_of bytes
 pair_is = by_channels (λ n. type_of n ∷ 0 ∷ 0 ∷ 0 ∷ n ∷ 0 ∷ 0 ∷ 0 ∷ [] ≡ pair (type_of n) n) refl refl refl refl refl refl
+
+-- bytes that a call has written over a piece
+pub put_piece : (at k : ℕ) (old part word : List ℕ) → at + k ≤ length old → length part ≡ k → part ≡ word → PutPromise at word old (put_mid at k old part)
+put_piece at k old part word fits size e =
+    record {
+      same = long_mid at k old part fits size;
+      put = take-put_mid at k old part (at + length word) (omega (arith, ap length e)) (omega arith) ∙ ap (λ (l : List ℕ). take at old ++ l) e;
+    }
+
+-- a piece of n places from a place on that a call has written by f, or filled with zeros; k is the piece's end less its start
+module _ (at n k : ℕ) (old part : List ℕ) (fits : at + n ≤ length old) (e : k ≡ n) where
+  pub piece_long : length (take k (drop at old)) ≡ n
+  piece_long = length-take-le k (drop at old) (omega (arith, length-drop at old)) ∙ e
+
+  pub gathered : {f : ℕ → ℕ} → Wrote 0 f 0 (length (take k (drop at old))) (take k (drop at old)) part → Wrote 0 f at n old (put_mid at k old part)
+  gathered {f} w =
+      rw (← e) (wrote_piece at k old part (omega arith) (omega (arith, w.same, piece_long)) f (λ i l. let z : 0 + i ≡ i = omega arith in rw z at (w.done i (omega (arith, piece_long)))))
+
+  pub zeroed : part ≡ replicate (length (take k (drop at old))) 0 → Wrote 0 (λ i. 0) at n old (put_mid at k old part)
+  zeroed p =
+      rw (← e) (wrote_piece at k old part (omega arith) (omega (arith, ap length p, length-replicate {A = ℕ} (length (take k (drop at old))) 0, piece_long)) (λ i. 0) (λ i l. rw p (get_or-replicate (length (take k (drop at old))) i 0 0 (omega (arith, piece_long)))))
 
 -- two pieces, one after the other
 pub then : {v w old mid new : List ℕ} (at n : ℕ) → length v ≡ n → PutPromise at v old mid → PutPromise (at + n) w mid new → PutPromise at (v ++ w) old new
@@ -92,9 +121,8 @@ module _ {n : ℕ} {fr : List ℕ} {m k out : ℕ} (a : BlockArgs n fr m k out) 
   pub start_small : first * n ≤ k * 4096
   start_small = omega (arith, group (k / n) n, div-mul-le_self k n)
 
-  module _ {table : List ℕ} (o : Ordering 1 table) (each : (i : ℕ) → get_or fr i 0 < 256) where
+  module _ {table : List ℕ} (o : Ordering LowestFirst table) (each : (i : ℕ) → get_or fr i 0 < 256) where
     live_byte : (i : ℕ) → i < 4096 → i < m - first → get_or table (get_or fr (first * n + c + i * n) 0) 0 ≡ written_byte n fr (k * 4096 + i)
-    unfolding our_byte
     live_byte i h l =
         let t = at_block i h in
         let g : (k * 4096 + i) / 4096 / n * 4096 + (k * 4096 + i) % 4096 < m = rw (t.0, t.1) (omega arith) in
@@ -151,27 +179,26 @@ module _ (n b : ℕ) where
   abbrev d : Decision
   d = decide (length_places n b)
 
-  pub no_channels : n < 1 → refused 1 (number n ∷ []) ≡ d
+  pub no_channels : n < 1 → d ≡ refused 1 (number n ∷ [])
   unfolding length_places
-  no_channels l = sym (at_first _ _ (rw (lt-leb 1 n l)))
+  no_channels l = at_first _ _ (rw (lt-leb 1 n l))
 
-  pub many_channels : 1 ≤ n → 6 < n → refused 1 (number n ∷ []) ≡ d
+  pub many_channels : 6 < n → d ≡ refused 1 (number n ∷ [])
   unfolding length_places
-  many_channels l m = sym (at_first _ _ (rw (le-leb 1 n l, lt-leb n 6 m)))
+  many_channels m = at_first _ _ (rw (lt-leb n 6 m, and-false (leb 1 n)))
 
-  module _ (one : 1 ≤ n) (six : n ≤ 6) where
-    pub not_whole : b % (4704 * n) ≢ 0 → refused 4 (number b ∷ number 0 ∷ []) ≡ d
-    unfolding length_places
-    not_whole h = sym (at_next _ _ (rw (le-leb 1 n one, le-leb n 6 six)) ∙ at_first _ _ (ap not (ne_eqb (b % (4704 * n)) 0 h)))
+  pub not_whole : 1 ≤ n → n ≤ 6 → b % (4704 * n) ≢ 0 → d ≡ refused 4 (number b ∷ number 0 ∷ [])
+  unfolding length_places
+  not_whole one six h = at_next _ _ (rw (le-leb 1 n one, le-leb n 6 six)) ∙ at_first _ _ (ap not (ne_eqb (b % (4704 * n)) 0 h))
 
-    module _ (whole : b % (4704 * n) ≡ 0) where
-      pub too_many : 540000 < b / (4704 * n) → refused 5 (number (b / (4704 * n)) ∷ []) ≡ d
-      unfolding length_places
-      too_many l = sym (at_next _ _ (rw (le-leb 1 n one, le-leb n 6 six)) ∙ at_next _ _ (ap not (eq-eqb _ _ whole)) ∙ at_first _ _ (lt-ltb 540000 (b / (4704 * n)) l))
+  pub too_many : 1 ≤ n → n ≤ 6 → b % (4704 * n) ≡ 0 → 540000 < b / (4704 * n) → d ≡ refused 5 (number (b / (4704 * n)) ∷ [])
+  unfolding length_places
+  too_many one six whole l = at_next _ _ (rw (le-leb 1 n one, le-leb n 6 six)) ∙ at_next _ _ (ap not (eq-eqb _ _ whole)) ∙ at_first _ _ (lt-ltb 540000 (b / (4704 * n)) l)
 
-      pub all_right : b / (4704 * n) ≤ 540000 → accepted ≡ d
-      unfolding length_places
-      all_right l = sym (at_next _ _ (rw (le-leb 1 n one, le-leb n 6 six)) ∙ at_next _ _ (ap not (eq-eqb _ _ whole)) ∙ at_next _ _ (le-ltb 540000 (b / (4704 * n)) l) ∙ at_end)
+  pub all_right : 1 ≤ n → n ≤ 6 → b % (4704 * n) ≡ 0 → b / (4704 * n) ≤ 540000 → d ≡ accepted
+  unfolding length_places
+  all_right one six whole l =
+      at_next _ _ (rw (le-leb 1 n one, le-leb n 6 six)) ∙ at_next _ _ (ap not (eq-eqb _ _ whole)) ∙ at_next _ _ (le-ltb 540000 (b / (4704 * n)) l) ∙ at_end
 
 -- channels and frames are turned down as in a conversion
 pub as_conversion : (n : ℕ) (fr : List ℕ) → length_places n (length fr) ≡ place (not (leb 1 n && leb n 6)) 1 (number n ∷ []) ∷ run_length rack n fr
@@ -199,22 +226,30 @@ accepted_writable n fr e =
     record { one = f.0; six = f.1; whole = omega (arith, div-add-mod' (length fr) (4704 * n), f.2); few = f.3 }
 
 -- ---- the writer's answer
-module _ (n : ℕ) (fr out : List ℕ) (e : decide (length_places n (length fr)) ≡ accepted) where
-  past : decide (write_places n fr (length out)) ≡ decide (lent_length 7 (length out) (file_length n (length fr)) ∷ [])
+module _ (n : ℕ) (fr out : List ℕ) where
+  pub turned_down : (e : PcmError) → error_decision e ≡ decide (length_places n (length fr)) → WritePromise n fr out out (Err e)
   unfolding write_places
-  past = decide_skip (length_places n (length fr)) _ e
+  turned_down e d =
+      let r = ap is_accepted (sym d) ∙ error_refuses e in
+      let s = decide_stop (length_places n (length fr)) (lent_length 7 (length out) (file_length n (length fr)) ∷ []) r in
+      record { decided = d ∙ sym s; written_out = sym (exit_refused _ (written n fr) out (ap is_accepted s ∙ r)) }
 
-  pub wrong_output : length out ≢ file_length n (length fr) → refused 7 (number (length out) ∷ number (file_length n (length fr)) ∷ []) ≡ decide (write_places n fr (length out))
-  unfolding lent_length
-  wrong_output h = sym (past ∙ at_first _ _ (ap not (ne_eqb (length out) (file_length n (length fr)) h)))
+  module _ (e : decide (length_places n (length fr)) ≡ accepted) where
+    past : decide (write_places n fr (length out)) ≡ decide (lent_length 7 (length out) (file_length n (length fr)) ∷ [])
+    unfolding write_places
+    past = decide_skip (length_places n (length fr)) _ e
 
-  pub writes : length out ≡ file_length n (length fr) → accepted ≡ decide (write_places n fr (length out))
-  unfolding lent_length
-  writes h = sym (past ∙ at_next _ _ (ap not (eq-eqb (length out) (file_length n (length fr)) h)) ∙ at_end)
+    pub wrong_output : length out ≢ file_length n (length fr) → WritePromise n fr out out (Err (OutputBytes (length out) (file_length n (length fr))))
+    unfolding lent_length is_accepted
+    wrong_output h =
+        let w = past ∙ at_first _ _ (ap not (ne_eqb (length out) (file_length n (length fr)) h)) in
+        record { decided = sym w; written_out = sym (exit_refused _ (written n fr) out (ap is_accepted w)) }
 
-pub turned_down : (n : ℕ) (fr out : List ℕ) → is_accepted (decide (length_places n (length fr))) ≡ false → decide (write_places n fr (length out)) ≡ decide (length_places n (length fr))
-unfolding write_places
-turned_down n fr out e = decide_stop (length_places n (length fr)) _ e
+    pub given : length out ≡ file_length n (length fr) → {new : List ℕ} → new ≡ written n fr → WritePromise n fr out new (Ok tt)
+    unfolding lent_length
+    given h w =
+        let p = past ∙ at_next _ _ (ap not (eq-eqb (length out) (file_length n (length fr)) h)) ∙ at_end in
+        record { decided = sym p; written_out = w ∙ sym (exit_accepted _ (written n fr) out p) }
 
 -- the header as it was put
 pub header_put : (stated n samples size : ℕ) (old new : List ℕ) → PutPromise 0 (header (bytes 8 stated) (bytes 8 0) (pair (type_of n) n) 1 (bytes 8 samples) (bytes 8 size)) old new

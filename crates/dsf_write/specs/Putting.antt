@@ -1,23 +1,12 @@
 -- How a file is put together; no part of a promise.
 use Rattle.std.specs.Prelude.{◌≡◌, List, ◌++◌, ℕ, ◌+◌, ◌*◌, ◌/◌, ◌^◌, ◌≤◌, ◌<◌, length, take}
-use Rattle.level_lines.specs.Text.{text}
-use Rattle.dsf.specs.Dsf.{bytes, pair, block}
-use Rattle.dsf_write.specs.Written.{type_of, written_channel, written_data}
+use Rattle.dsf.specs.Dsf.{block}
+use Rattle.dsf_write.specs.Written.{written_channel, written_data}
 
 -- bytes are put from a place on: a beginning that ends there has them behind it
 pub record PutPromise (at : ℕ) (word old new : List ℕ) : Type 0 where
   pub same : length new ≡ length old
   pub put : take (at + length word) new ≡ take at old ++ word
-
--- the header in three parts, as the writer puts it
-unfoldable pub front : ℕ → List ℕ
-front stated = text "DSD " ++ (bytes 8 28 ++ (bytes 8 stated ++ (bytes 8 0 ++ (text "fmt " ++ (bytes 8 52 ++ (bytes 4 1 ++ bytes 4 0))))))
-
-unfoldable pub format : ℕ → List ℕ
-format channels = pair (type_of channels) channels ++ (bytes 4 2822400 ++ bytes 4 1)
-
-unfoldable pub sizes : ℕ → ℕ → List ℕ
-sizes samples size = bytes 8 samples ++ (bytes 4 4096 ++ (bytes 4 0 ++ (text "data" ++ bytes 8 size)))
 
 -- what the writing of the data is handed, and of its block number `block`
 pub record DataArgs (channels : ℕ) (bytes_in : List ℕ) (bytes out : ℕ) : Type 0 where

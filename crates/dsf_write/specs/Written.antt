@@ -1,13 +1,12 @@
 -- A DSF file written from frames: lowest bit first, zero bytes to the end of the last blocks, no metadata.
-use Rattle.std.specs.Prelude.{◌≡◌, List, [], ◌∷◌, ◌++◌, cond, not, ◌&&◌, ℕ, ◌+◌, ◌*◌, ◌/◌, ◌%◌, ◌≤◌, ◌<◌, T, eqb, ltb, leb, length, get_or}
+use Rattle.std.specs.Prelude.{◌≡◌, List, [], ◌∷◌, ◌++◌, Result, IfOk, cond, not, ◌&&◌, ℕ, ◌+◌, ◌*◌, ◌/◌, ◌%◌, ◌≤◌, ◌<◌, T, eqb, ltb, leb, length, get_or}
 use Rattle.numbers.specs.Lists.{tabulate}
 use Rattle.reference.specs.Frames.{frame_count, frame_bytes, frame_length}
 use Rattle.reference.specs.Refusals.{Place, place, decide, decision, number, lent_length}
 use Rattle.reference.specs.Promises.{by_decision}
-use Rattle.reference.specs.declared.Verdict.{Verdict}
+use Rattle.reference.specs.declared.PcmError.{PcmError}
 use Rattle.dsf.specs.Dsf.{number_at, bytes, pair, block, blocks, data_bytes, data_place, channel_type, channels, bits_per_sample, samples, needed, accepts, frames, turned, turn_byte, file_data}
 use Rattle.dsf.specs.Headers.{header}
-use Rattle.dsf_write.specs.declared.DsfLengthAnswer.{DsfLengthAnswer}
 
 -- the channel type that is written for 1 to 6 channels: 1, 2, 3, 4, 6, 7
 unfoldable pub type_of : ℕ → ℕ
@@ -56,13 +55,13 @@ write_places channels bytes_in out = length_places channels (length bytes_in) ++
 
 -- ---- what the writer's calls promise
 
--- of the length needed; 0 on a refusal
-pub record LengthPromise (channels n : ℕ) (answer : DsfLengthAnswer) : Type 0 where
-  pub decided : decision answer.verdict ≡ decide (length_places channels n)
-  pub sized : answer.length ≡ by_decision (decide (length_places channels n)) (file_length channels n) 0
+-- of the length needed
+pub record LengthPromise (channels n : ℕ) (answer : Result ℕ PcmError) : Type 0 where
+  pub decided : decision answer ≡ decide (length_places channels n)
+  pub sized : IfOk answer (λ told. told ≡ file_length channels n)
 
 -- `out` is the output at entry, `out'` at exit
-pub record WritePromise (channels : ℕ) (bytes_in out out' : List ℕ) (answer : Verdict) : Type 0 where
+pub record WritePromise (channels : ℕ) (bytes_in out out' : List ℕ) (answer : Result (Unit {0}) PcmError) : Type 0 where
   pub decided : decision answer ≡ decide (write_places channels bytes_in (length out))
   pub written_out : out' ≡ by_decision (decide (write_places channels bytes_in (length out))) (written channels bytes_in) out
 

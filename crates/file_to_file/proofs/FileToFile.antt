@@ -12,7 +12,7 @@ use Rattle.numbers.proofs.Lists.{length_tabulate}
 use Rattle.reference.specs.Frames.{Run, frame_length, frame, frame_count, sequence, channel_byte}
 use Rattle.reference.specs.Settings.{converter_of}
 use Rattle.reference.specs.Output.{samples, stats, s24le}
-use Rattle.reference.specs.Promises.{if_lent}
+use Rattle.reference.specs.Promises.{if_lent, stats_told}
 use Rattle.reference.specs.Refusals.{rack, accepted, decide, is_accepted, opening_places, held_places, lent_length, input_places, convert_places}
 use Rattle.reference.specs.Statistics.{all_joined}
 use Rattle.reference.specs.declared.Converter.{Converter}
@@ -95,7 +95,7 @@ module _ (file head : List ℕ) (n : ℕ) (h : HeadOf file head n) where
 pub record Good {file : List ℕ} {w : Wanted} (s : Step file w) : Type 0 where
   pub within : s.first + s.count ≤ frames file
   pub bytes : s.out' ≡ s24le (samples (album_converter w file) (file_run file s.first s.count))
-  pub told : s.answer.stats ≡ stats (album_converter w file) (file_run file s.first s.count)
+  pub told : stats_told s.answer ≡ stats (album_converter w file) (file_run file s.first s.count)
   pub room : length s.out ≡ s.count * frame_size w.rate (channels file)
 
 module _ (file : List ℕ) (b : Bytes file) (w : Wanted) (s : Step file w) where
@@ -320,13 +320,13 @@ module _ (file : List ℕ) (b : Bytes file) (w : Wanted) (taken : decide (album_
 
 -- the steps' statistics
 stats_of_steps : (file : List ℕ) (b : Bytes file) (w : Wanted) (taken : decide (album_places file (length file) w) ≡ accepted) (ss : List (Step file w))
-    → map (λ (s : Step file w). s.answer.stats) ss ≡ map (λ (c : Call (album_converter w file)). (answer_of c).stats) (map (λ s. call file b w s taken) ss)
+    → map (λ (s : Step file w). stats_told s.answer) ss ≡ map (λ (c : Call (album_converter w file)). stats_told (answer_of c)) (map (λ s. call file b w s taken) ss)
 unfolding call
 stats_of_steps file b w taken [] = refl
-stats_of_steps file b w taken (s ∷ ss) = ap (λ (l : List ConvertStats). s.answer.stats ∷ l) (stats_of_steps file b w taken ss)
+stats_of_steps file b w taken (s ∷ ss) = ap (λ (l : List ConvertStats). stats_told s.answer ∷ l) (stats_of_steps file b w taken ss)
 
 all_stats : (file : List ℕ) (b : Bytes file) (w : Wanted) (taken : decide (album_places file (length file) w) ≡ accepted) (ss : List (Step file w)) → Cut 0 (frames file) ss
-    → all_joined (map (λ (s : Step file w). s.answer.stats) ss) ≡ stats (album_converter w file) (album_run file)
+    → all_joined (map (λ (s : Step file w). stats_told s.answer) ss) ≡ stats (album_converter w file) (album_run file)
 all_stats file b w taken ss cut =
     ap all_joined (stats_of_steps file b w taken ss)
     ∙ (rw (keep_all is_answered_accepted (λ s. call file b w s taken) (answered file b w taken) ss) at (whole file b w taken ss cut).told)

@@ -9,11 +9,11 @@ use borrow.Author.Tests.{le-leb, lt-ltb, eq-eqb}
 use lib.ListN.{length}
 use Rattle.reference.specs.Frames.{frame_length}
 use Rattle.reference.specs.Refusals.{decide, decision, accepted, lent_length}
-use Rattle.reference.specs.Statistics.{no_stats, add_clips, of_both, joined_stats, all_joined}
+use Rattle.reference.specs.Statistics.{no_stats, no_samples, add_clips, channel_of, joined_channel, joined_extremes, joined_stats, all_joined}
+use Rattle.reference.specs.Promises.{stats_told}
 use Rattle.reference.specs.declared.ConvertStats.{ConvertStats}
 use Rattle.reference.proofs.Refusals.{decide_skip, at_next, at_end}
 use Rattle.numbers.specs.Lists.{Each, tabulate}
-use Rattle.numbers.specs.Extremes.{pick_unmarked}
 use Rattle.stretches.specs.Joining.{joined_on}
 use Rattle.stretches.proofs.Ends.{either_end}
 use Rattle.dsf.specs.Dsf.{channels, frames, frames_in, blocks, data_bytes, needed}
@@ -22,11 +22,13 @@ use Rattle.dsf.specs.Reading.{header_places}
 use Rattle.dsf.proofs.Accepted.{head_sound}
 use Rattle.dsf.proofs.Head.{header_right, whole_head}
 use Rattle.dsf_frames.specs.Reading.{lesser, window_end}
+use Rattle.dsf_frames.specs.declared.FrameWindow.{FrameWindow}
 use Rattle.wav_format.specs.Wav.{frame_size}
 use Rattle.album.specs.Album.{pieces, album_places, album_of}
 use Rattle.album.specs.declared.Wanted.{Wanted}
 use Rattle.album.specs.declared.Album.{Album}
-use Rattle.album_plan.specs.Plan.{piece_count, stretch_start, stretch_end, place_of, some_piece, piece, part, part_first}
+use Rattle.album_plan.specs.Plan as Plan
+use Rattle.album_plan.specs.Plan.{piece_count, stretch_start, stretch_end, place_of, some_piece, piece, part, part_at, part_first, Stretch}
 use Rattle.album_plan.specs.declared.Piece.{Piece}
 use Rattle.album_plan.proofs.Cutting.{plan_cuts}
 use Rattle.album_plan.proofs.Stretches.{long_enough, lesser_right}
@@ -41,7 +43,7 @@ use Rattle.file_to_file.proofs.FileToFile.{head_taken, later_taken, few, few_cha
 -- ---- statistics, part by part
 
 none_twice : joined_stats no_stats no_stats ≡ no_stats
-unfolding joined_stats no_stats tabulate add_clips of_both pick_unmarked
+unfolding joined_stats no_stats tabulate add_clips channel_of joined_channel joined_extremes no_samples
 none_twice = refl
 
 none_before : (l : List ConvertStats) → joined_stats no_stats (all_joined l) ≡ all_joined l
@@ -86,7 +88,7 @@ module _ (head : List ℕ) (n : ℕ) (w : Wanted) (taken : decide (album_places 
   a = album_of w.rate (channels head) (dsf.samples head)
 
   pub piece_is : (i : ℕ) → i < pieces (frames head) → piece_at head w i ≡ some_piece w.rate (channels head) (dsf.samples head) (i * 128)
-  unfolding piece frames
+  unfolding piece Plan.piece_at frames
   piece_is i h = rw (le-leb (channels head) 6 (few_channels head n w taken), le-leb (frames_in (dsf.samples head)) 540000 (few head n w taken), lt-ltb i (pieces (frames_in (dsf.samples head))) h) refl
 
   module _ (first : ℕ) (within : first < frames head) where
@@ -109,7 +111,10 @@ module _ (head : List ℕ) (n : ℕ) (w : Wanted) (taken : decide (album_places 
 
     held : decide (held_places a first count start (end - start)) ≡ accepted
     unfolding album_of frames
-    held = sym (all_there a first count start (end - start) (omega (arith, fits)) (omega (arith, fits)) (omega arith) (le-leb end (start + (end - start)) (omega (arith, in_order))))
+    held =
+        let window : FrameWindow = record { start = start; end = end } in
+        let stretch : Stretch (channels head) (dsf.samples head) first count window = record { begins = refl; ends = refl; in_order = in_order } in
+        sym (all_there a first count start (end - start) (omega (arith, fits)) (omega (arith, fits)) window stretch (omega arith) (le-leb end (start + (end - start)) (omega (arith, in_order))))
 
     abbrev lists : Lent
     lists = record { before = frame_length (channels head); frames = count * frame_length (channels head); after = frame_length (channels head); out = count * frame_size w.rate (channels head) }
@@ -211,7 +216,7 @@ module _ (file : List ℕ) (w : Wanted) (jobs : ℕ) (few : frames file ≤ 5400
   no_more j (p ∷ ps) e = omega (arith, no_more (j + 1) ps e.1)
 
   part_is : (j : ℕ) → j < jobs → part (frames file) jobs j ≡ record { first = part_first P jobs j; end = part_first P jobs (j + 1) }
-  unfolding part
+  unfolding part part_at
   part_is j h = rw (le-leb (frames file) 540000 few, le-leb jobs 64 most, lt-ltb j jobs h) refl
 
   from_part : (j : ℕ) (ps : List (List (PieceCall file w))) → Parts jobs j ps → Calls (part_first P jobs j) P (flat_map (λ p. p) ps)
@@ -239,7 +244,7 @@ module _ (file : List ℕ) (w : Wanted) (taken : decide (album_places file (leng
         let there : c.i < pieces (frames c.head) = rw (same_frames file c.head c.n c.of_head) c.there in
         rw (c.long, c.lent) (rw (same_channels file c.head c.n c.of_head, same_samples file c.head c.n c.of_head) at (piece_accepted c.head c.n w opens c.i there))
 
-    pub call_taken : decision c.answer.verdict ≡ accepted
+    pub call_taken : decision c.answer ≡ accepted
     call_taken = c.promise.answered.decided ∙ passes
 
     pub step_of : Step file w
@@ -265,11 +270,11 @@ module _ (file : List ℕ) (w : Wanted) (taken : decide (album_places file (leng
       taken = call_taken;
     }
 
-  all_taken : (cs : List (PieceCall file w)) → Each (λ c. decision c.answer.verdict ≡ accepted) cs
+  all_taken : (cs : List (PieceCall file w)) → Each (λ c. decision c.answer ≡ accepted) cs
   all_taken [] = tt
   all_taken (c ∷ cs) = (call_taken c, all_taken cs)
 
-  pub parts_taken : (ps : List (List (PieceCall file w))) → Each (λ p. Each (λ c. decision c.answer.verdict ≡ accepted) p) ps
+  pub parts_taken : (ps : List (List (PieceCall file w))) → Each (λ p. Each (λ c. decision c.answer ≡ accepted) p) ps
   parts_taken [] = tt
   parts_taken (p ∷ ps) = (all_taken p, parts_taken ps)
 
@@ -305,15 +310,15 @@ module _ (file : List ℕ) (w : Wanted) (taken : decide (album_places file (leng
 
   -- ---- and what they told
   abbrev told_by : List (PieceCall file w) → List ConvertStats
-  told_by = map (λ c. c.answer.stats)
+  told_by = map (λ c. stats_told c.answer)
 
-  told_by_both : (l m : List (PieceCall file w)) → told_by l ++ told_by m ≡ map (λ s. s.answer.stats) (map step_of (l ++ m))
+  told_by_both : (l m : List (PieceCall file w)) → told_by l ++ told_by m ≡ map (λ s. stats_told s.answer) (map step_of (l ++ m))
   unfolding step_of
   told_by_both [] [] = refl
-  told_by_both [] (c ∷ m) = ap (λ (r : List ConvertStats). c.answer.stats ∷ r) (told_by_both [] m)
-  told_by_both (c ∷ l) m = ap (λ (r : List ConvertStats). c.answer.stats ∷ r) (told_by_both l m)
+  told_by_both [] (c ∷ m) = ap (λ (r : List ConvertStats). stats_told c.answer ∷ r) (told_by_both [] m)
+  told_by_both (c ∷ l) m = ap (λ (r : List ConvertStats). stats_told c.answer ∷ r) (told_by_both l m)
 
-  pub told_by_steps : (ps : List (List (PieceCall file w))) → flat_map (λ l. l) (map told_by ps) ≡ map (λ s. s.answer.stats) (map step_of (flat_map (λ p. p) ps))
+  pub told_by_steps : (ps : List (List (PieceCall file w))) → flat_map (λ l. l) (map told_by ps) ≡ map (λ s. stats_told s.answer) (map step_of (flat_map (λ p. p) ps))
   unfolding flat_map
   told_by_steps [] = refl
   told_by_steps (p ∷ ps) = ap (λ (r : List ConvertStats). told_by p ++ r) (told_by_steps ps ∙ sym (told_by_both [] (flat_map (λ p. p) ps))) ∙ told_by_both p (flat_map (λ p. p) ps)
@@ -322,7 +327,7 @@ pub plan_to_file : PlanToFile
 plan_to_file file b w jobs ps taken some most e =
     let all = parts_are_all file w jobs ps (few file (length file) w taken) some most e in
     let whole = file_to_file file b w (map (step_of file w taken) (flat_map (λ p. p) ps)) taken (calls_cut file w taken (flat_map (λ p. p) ps) all) in
-    let told = joined_by_parts (map (map (λ (c : PieceCall file w). c.answer.stats)) ps) ∙ ap all_joined (told_by_steps file w taken ps) ∙ whole.1 in
+    let told = joined_by_parts (map (map (λ (c : PieceCall file w). stats_told c.answer)) ps) ∙ ap all_joined (told_by_steps file w taken ps) ∙ whole.1 in
     record {
       taken = parts_taken file w taken ps;
       written = λ out h. whole.0 out (written_by_steps file w taken out ps h);

@@ -3,8 +3,8 @@ use Rattle.std.specs.Prelude.{◌≡◌, List, [], ◌∷◌, map, ℕ, ◌+◌,
 use Rattle.numbers.specs.Lists.{Each}
 use Rattle.reference.specs.Output.{samples, stats, s24le}
 use Rattle.reference.specs.Statistics.{all_joined}
+use Rattle.reference.specs.Promises.{Converted, stats_told}
 use Rattle.reference.specs.Refusals.{decide, decision, accepted}
-use Rattle.reference.specs.declared.Converted.{Converted}
 use Rattle.interface.specs.Codes.{hertz}
 use Rattle.dsf.specs.Dsf.{Bytes, channels, frames}
 use Rattle.dsf.specs.Reading.{HeadOf}
@@ -35,7 +35,7 @@ pub record Step (file : List ℕ) (w : Wanted) : Type 0 where
   pub out' : List ℕ
   pub answer : Converted
   pub promise : StepPromise head n w first count window start before before' frames frames' after after' out out' answer
-  pub taken : decision answer.verdict ≡ accepted
+  pub taken : decision answer ≡ accepted
 
 -- steps that cut the frames from `from` to f, in order: any counts, none among them too
 abbrev pub Cut : {file : List ℕ} {w : Wanted} → ℕ → ℕ → List (Step file w) → Type 0
@@ -56,4 +56,4 @@ pub record Written {file : List ℕ} {w : Wanted} (steps : List (Step file w)) (
 abbrev pub FileToFile : Type 0
 FileToFile = (file : List ℕ) → Bytes file → (w : Wanted) (steps : List (Step file w)) → decide (album_places file (length file) w) ≡ accepted → Cut 0 (frames file) steps
     → ((out : List ℕ) → Written steps out → out ≡ wav_file w.rate (channels file) (s24le (samples (album_converter w file) (album_run file))))
-    × (all_joined (map (λ s. s.answer.stats) steps) ≡ stats (album_converter w file) (album_run file))
+    × (all_joined (map (λ s. stats_told s.answer) steps) ≡ stats (album_converter w file) (album_run file))

@@ -5,9 +5,9 @@ use Rattle.numbers.specs.Lists.{Each}
 use Rattle.reference.specs.Frames.{frame_length}
 use Rattle.reference.specs.Output.{samples, stats, s24le}
 use Rattle.reference.specs.Statistics.{no_stats, all_joined}
+use Rattle.reference.specs.Promises.{Converted, stats_told}
 use Rattle.reference.specs.Refusals.{decide, decision, accepted}
 use Rattle.reference.specs.declared.ConvertStats.{ConvertStats}
-use Rattle.reference.specs.declared.Converted.{Converted}
 use Rattle.stretches.specs.Joining.{joined_on}
 use Rattle.sheet.specs.Sheet.{sheet}
 use Rattle.interface.specs.Codes.{hertz}
@@ -110,10 +110,10 @@ JoinedByParts = (ls : List (List ConvertStats)) → parts_joined ls ≡ all_join
 
 -- what the command's calls give
 pub record PlanGives {file : List ℕ} {w : Wanted} (parts : List (List (PieceCall file w))) : Type 0 where
-  pub taken : Each (λ p. Each (λ c. decision c.answer.verdict ≡ accepted) p) parts
+  pub taken : Each (λ p. Each (λ c. decision c.answer ≡ accepted) p) parts
   pub written : (out : List ℕ) → PlanWritten parts out → out ≡ wav_file w.rate (channels file) (s24le (samples (album_converter w file) (album_run file)))
-  pub told : parts_joined (map (map (λ c. c.answer.stats)) parts) ≡ stats (album_converter w file) (album_run file)
-  pub sheets : sheet (channels file) (parts_joined (map (map (λ c. c.answer.stats)) parts)) ≡ sheet (channels file) (stats (album_converter w file) (album_run file))
+  pub told : parts_joined (map (map (λ c. stats_told c.answer)) parts) ≡ stats (album_converter w file) (album_run file)
+  pub sheets : sheet (channels file) (parts_joined (map (map (λ c. stats_told c.answer)) parts)) ≡ sheet (channels file) (stats (album_converter w file) (album_run file))
 
 -- for every accepted album and 1 to 64 jobs. Proved in proofs/Planned, `plan_to_file`
 abbrev pub PlanToFile : Type 0
@@ -125,4 +125,4 @@ PlanToFile = (file : List ℕ) → Bytes file → (w : Wanted) (jobs : ℕ) (par
 -- the sheet of any steps that cut the album is the whole run's. Proved in proofs/Planned, `sheet_to_file`
 abbrev pub SheetToFile : Type 0
 SheetToFile = (file : List ℕ) → Bytes file → (w : Wanted) (steps : List (Step file w)) → decide (album_places file (length file) w) ≡ accepted → Cut 0 (frames file) steps → (n : ℕ)
-    → sheet n (all_joined (map (λ s. s.answer.stats) steps)) ≡ sheet n (stats (album_converter w file) (album_run file))
+    → sheet n (all_joined (map (λ s. stats_told s.answer) steps)) ≡ sheet n (stats (album_converter w file) (album_run file))

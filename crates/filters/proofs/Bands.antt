@@ -13,9 +13,9 @@ use Rattle.numbers.proofs.Integers.{abs_add}
 use Rattle.reference.specs.Rounding.{R}
 use Rattle.reference.specs.Taps.{HB}
 use Rattle.filters.specs.Filters.{alone, odd_taps, half_rate, Fit, Filled}
-use Rattle.filters.specs.Lanes.{lifted, raised, arms, rounded, band_sum, Hold, Added, Sums, Whole, Raised}
+use Rattle.filters.specs.Lanes.{lifted, raised, arms, rounded, band_sum, Hold, Added, Sums, Whole, Raised, Written}
 use Rattle.filters.proofs.Pairs.{product_size}
-use Rattle.filters.proofs.Places.{filled_as}
+use Rattle.filters.proofs.Places.{filled_as, written_then}
 use Rattle.filters.proofs.Bias.{back, alone_filled, half_filled, filled_sums}
 use Rattle.filters.proofs.Signals.{length_odd, halves_phases}
 use Rattle.filters.proofs.Tables.{filter_HB, halves_HB}
@@ -24,20 +24,33 @@ use Rattle.filters.proofs.Tables.{filter_HB, halves_HB}
 abbrev pub done : List ℤ → List ℤ → List ℕ → ℕ → ℤ
 done h y v k = R (band_sum h y v k -ℤ pos (2 ^ 53)) 24
 
--- the lanes from place i on, of a y that is as it was there
-pub lane_sums : (h y₀ y : List ℤ) (v : List ℕ) (i : ℕ) {s₀ s₁ : List ℤ} → Hold (λ l. pos 8388608 *ℤ lifted y (i + l)) s₀ → Added (λ l. arms h (raised v) 0 (8 + (i + l) - 1) (8 + (i + l)) 8) s₀ s₁
-    → ((k : ℕ) → i ≤ k → at0 y k ≡ at0 y₀ k) → (l : ℕ) → l < 14 → at0 s₁ l ≡ band_sum h y₀ v (i + l)
-unfolding band_sum lifted
-lane_sums h y₀ y v i a g e l m =
-    g.is l m ∙ ap (λ (z : ℤ). z +ℤ arms h (raised v) 0 (8 + (i + l) - 1) (8 + (i + l)) 8) (a.is l m ∙ ap (λ (z : ℤ). pos 8388608 *ℤ (z +ℤ pos (2 ^ 29))) (e (i + l) (omega arith)))
+-- the lanes from place i on
+pub lane_sums : {L : ℕ} (h y : List ℤ) (v : List ℕ) (i : ℕ) {s₀ s₁ : List ℤ} → Hold L (λ l. pos 8388608 *ℤ lifted y (i + l)) s₀
+    → Added L (λ l. arms h (raised v) 0 (8 + (i + l) - 1) (8 + (i + l)) 8) s₀ s₁ → (l : ℕ) → l < L → at0 s₁ l ≡ band_sum h y v (i + l)
+unfolding band_sum
+lane_sums h y v i a g l m = g.is l m ∙ ap (λ (z : ℤ). z +ℤ arms h (raised v) 0 (8 + (i + l) - 1) (8 + (i + l)) 8) (a.is l m)
 
-pub whole_sums : (h y₀ : List ℤ) (v : List ℕ) {n : ℕ} (i : ℕ) {s : List ℤ} → Whole (band_sum h y₀ v) 0 n → i + 14 ≤ n → ((l : ℕ) → l < 14 → at0 s l ≡ band_sum h y₀ v (i + l)) → Sums 14 s
-whole_sums h y₀ v i w b e = record { is = λ l m. rw (e l m) (w.is (i + l) (omega arith) (omega arith)); size = λ l m. rw (e l m) (w.size (i + l) (omega arith) (omega arith)) }
+pub whole_sums : {L : ℕ} (h y₀ : List ℤ) (v : List ℕ) (i : ℕ) {s : List ℤ} → Whole (band_sum h y₀ v) i (i + L) → ((l : ℕ) → l < L → at0 s l ≡ band_sum h y₀ v (i + l)) → Sums L s
+whole_sums h y₀ v i w e = record { is = λ l m. rw (e l m) (w.is (i + l) (omega arith) (omega arith)); size = λ l m. rw (e l m) (w.size (i + l) (omega arith) (omega arith)) }
 
 -- a y that is as it was at place k
 pub band_same : (h y₀ y : List ℤ) (v : List ℕ) (k : ℕ) → at0 y k ≡ at0 y₀ k → band_sum h y v k ≡ band_sum h y₀ v k
 unfolding band_sum lifted
 band_same h y₀ y v k e = ap (λ (z : ℤ). pos 8388608 *ℤ (z +ℤ pos (2 ^ 29)) +ℤ arms h (raised v) 0 (8 + k - 1) (8 + k) 8) e
+
+-- a block's part of what is known of all sums
+pub whole_part : (h y₀ y : List ℤ) (v : List ℕ) (i j : ℕ) {n : ℕ} → Whole (band_sum h y₀ v) 0 n → ((k : ℕ) → i ≤ k → at0 y k ≡ at0 y₀ k) → j ≤ n → Whole (band_sum h y v) i j
+whole_part h y₀ y v i j w e l =
+    record {
+      is = λ k p q. rw (band_same h y₀ y v k (e k p)) (w.is k (omega arith) (omega arith));
+      size = λ k p q. rw (band_same h y₀ y v k (e k p)) (w.size k (omega arith) (omega arith));
+    }
+
+-- a block more is done
+pub done_then : (h y₀ : List ℤ) (v : List ℕ) {i j k : ℕ} {mid new : List ℤ} → Written (done h y₀ v) 0 i y₀ mid → Written (done h mid v) i j mid new → i ≤ j → j ≡ k → Written (done h y₀ v) 0 k y₀ new
+done_then h y₀ v {mid = mid} u w p e =
+    rw e at
+    (written_then u w (omega arith) p (λ m l n. ap (λ (z : ℤ). R (z -ℤ pos (2 ^ 53)) 24) (band_same h y₀ mid v m (u.above m l))))
 
 pub centre_fits : (y : List ℤ) (k : ℕ) → nat_abs (at0 y k) ≤ 2 ^ 29 → nat_abs (pos 8388608 *ℤ lifted y k) ≤ 2 ^ 55
 unfolding lifted

@@ -1,21 +1,19 @@
 -- A block's sums, each lifted by 2^53: for each kind of filter, from what its steps have put there.
-use mathlib.Core.Path.{◌≡◌, refl, sym, ◌∙◌, ap, ap₂}
+use mathlib.Core.Path.{◌≡◌, sym, ◌∙◌, ap, ap₂}
 use mathlib.Core.List.{List}
 use Prim.Native.Nat.{ℕ, ◌+◌, ◌-◌, ◌*◌, ◌^◌, ◌<◌, ◌≤◌}
 use native.Mathlib.Omega.{arith}
 use lib.IntN.{ℤ, pos, neg_ℤ, nat_abs, ◌+ℤ◌, ◌-ℤ◌, ◌*ℤ◌, +ℤ_assoc, +ℤ_idr, +ℤ_invr}
 use lib.ListN.{length}
-use lib.Signed.{mag}
 use Rattle.numbers.specs.Sums.{sum_to, at0}
 use Rattle.numbers.proofs.Integers.{pp, nn, abs_parts, +ℤ-left-comm, add_mul}
-use Rattle.numbers.proofs.Machine.{t, val}
 use Rattle.reference.specs.Rounding.{R}
 use Rattle.reference.specs.Stages.{tap, M, fir}
 use Rattle.filters.specs.Filters.{alone, between_by, same_rate, middle, half_rate, Fit, ones, Filter, Phases, Between, Filled}
 use Rattle.filters.specs.Lanes.{lifted, raised, arms, Raised, Sums, rounded}
 use Rattle.filters.proofs.Ops.{up_is}
 use Rattle.filters.proofs.Pairs.{fir_is, between_is, fir_same, between_same, fir_lift, between_lift}
-use Rattle.filters.proofs.Places.{filled_as, filled_then}
+use Rattle.filters.proofs.Places.{filled_as, filled_then, filled_again}
 
 pub back : (z c : ℤ) → z +ℤ c -ℤ c ≡ z
 back z c = +ℤ_assoc z c (neg_ℤ c) ∙ ap (λ (k : ℤ). z +ℤ k) (+ℤ_invr c) ∙ +ℤ_idr z
@@ -32,33 +30,25 @@ module _ (F : ℕ → ℤ) {old new : List ℤ} (u : Filled (λ k. F k +ℤ pos 
       value : (k : ℕ) → k < length old → at0 new k ≡ pos (2 ^ 53 + pp (F k) - nn (F k))
       value k m = u.is k m ∙ up_is (F k) (2 ^ 53) (b.fits k m)
 
-  -- place k has the sum at place g k
-  pub filled_round : (q : ℕ) (g : ℕ → ℕ) {y y' : List ℤ} → Filled (λ k. rounded q new (g k)) y y' → ((k : ℕ) → k < length y → g k < length old) → Filled (λ k. R (F (g k)) q) y y'
+  pub filled_round : (q : ℕ) {rounds : List ℤ} → Filled (rounded q new) new rounds → Filled (λ k. R (F k) q) old rounds
   unfolding rounded
-  filled_round q g w e =
-      filled_as w (λ k m. ap (λ (v : ℤ). R (v -ℤ pos (2 ^ 53)) q) (u.is (g k) (e k m)) ∙ ap (λ (v : ℤ). R v q) (back (F (g k)) (pos (2 ^ 53))))
-
--- a sum, as it is read
-pub sums_at : {n : ℕ} {s : List ℤ} → Sums n s → (i : ℕ) → i < n → mag (at0 s i) < 2 ^ 63 → (t (at0 s i) ≡ pos (nat_abs (t (at0 s i)))) × (nat_abs (t (at0 s i)) ≤ 2 ^ 54)
-sums_at {s} a i l m = let v = val (at0 s i) (at0 s i) m refl in (rw v (a.is i l), rw v (a.size i l))
-
--- a sum, as it is stored
-pub stored : (q : ℕ) (s : List ℤ) (l : ℕ) {r : ℤ} → r ≡ R (t (at0 s l) -ℤ pos (2 ^ 53)) q → mag (at0 s l) < 2 ^ 63 → r ≡ rounded q s l
-unfolding rounded
-stored q s l e m = e ∙ ap (λ (z : ℤ). R (z -ℤ pos (2 ^ 53)) q) (val (at0 s l) (at0 s l) m refl)
+  filled_round q w =
+      filled_again u
+      (filled_as w
+      (λ k m. ap (λ (v : ℤ). R (v -ℤ pos (2 ^ 53)) q) (u.is k (omega (arith, u.same))) ∙ ap (λ (v : ℤ). R v q) (back (F k) (pos (2 ^ 53)))))
 
 -- ---- the steps
 
 -- the centre, then the pairs
-pub fir_filled : (h x : List ℤ) (v : List ℕ) {y₀ y₁ y₂ : List ℤ} → mag (tap h 0) < 2 ^ 63 → length y₀ + 2 * M h ≤ length x → Raised (length x) x v
-    → Filled (λ k. t (tap h 0) *ℤ raised v (M h + k)) y₀ y₁ → Filled (λ k. at0 y₁ k +ℤ arms h (raised v) 1 (M h + 1 + k - 1) (M h + k) (M h)) y₁ y₂
+pub fir_filled : (h x : List ℤ) (v : List ℕ) {y₀ y₁ y₂ : List ℤ} → length y₀ + 2 * M h ≤ length x → Raised (length x) x v
+    → Filled (λ k. tap h 0 *ℤ raised v (M h + k)) y₀ y₁ → Filled (λ k. at0 y₁ k +ℤ arms h (raised v) 1 (M h + 1 + k - 1) (M h + k) (M h)) y₁ y₂
     → Filled (λ k. fir h (lifted x) (k + M h)) y₀ y₂
-fir_filled h x v g long a c p =
+fir_filled h x v long a c p =
     filled_then _ c p
     (λ k m.
     let d : M h + 1 + k - 1 ≡ k + M h = omega arith in
     let u : M h + k ≡ k + M h = omega arith in
-    rw (d, u, val (tap h 0) (tap h 0) g refl) (sym (fir_is h (raised v) (k + M h) (omega arith)))
+    rw (d, u) (sym (fir_is h (raised v) (k + M h) (omega arith)))
     ∙ fir_same h (raised v) (lifted x) (k + M h) (omega arith) (λ j q. a.is j (omega arith)))
 
 -- the centre alone
@@ -85,6 +75,12 @@ pub same_filled : (h x : List ℤ) {old new : List ℤ} → Filter h → Filled 
 unfolding same_rate
 same_filled h x f c = filled_as c (λ k m. fir_lift h x (k + M h) ∙ ap (λ (z : ℤ). fir h (at0 x) (k + M h) +ℤ z *ℤ pos (2 ^ 29)) f.whole)
 
+-- its taps are those of a filter
+pub same_sums : (h x : List ℤ) (v : List ℕ) {y₀ y₁ y₂ : List ℤ} → Filter h → length y₀ + 2 * M h ≤ length x → Raised (length x) x v
+    → Filled (λ k. tap h 0 *ℤ raised v (M h + k)) y₀ y₁ → Filled (λ k. at0 y₁ k +ℤ arms h (raised v) 1 (M h + 1 + k - 1) (M h + k) (M h)) y₁ y₂
+    → Filled (λ k. same_rate h x k +ℤ pos (2 ^ 53)) y₀ y₂
+same_sums h x v f long a c p = same_filled h x f (fir_filled h x v long a c p)
+
 pub half_filled : (he ho xe xo : List ℤ) (v : List ℕ) {y₀ y₁ y₂ : List ℤ} → length y₀ + 2 * length ho ≤ length xo + 1 → Raised (length xo) xo v → Phases he ho
     → Filled (λ k. fir he (lifted xe) (k + M he)) y₀ y₁ → Filled (λ k. at0 y₁ k +ℤ arms ho (raised v) 0 (length ho + k - 1) (length ho + k) (length ho - 0)) y₁ y₂
     → Filled (λ k. half_rate he ho xe xo k +ℤ pos (2 ^ 53)) y₀ y₂
@@ -98,6 +94,14 @@ half_filled he ho xe xo v {y₀} long a f c p =
   where
     join : (a p b q c : ℤ) → a +ℤ p *ℤ c +ℤ (b +ℤ q *ℤ c) ≡ a +ℤ b +ℤ (p +ℤ q) *ℤ c
     join a p b q c = simp (+ℤ_assoc, +ℤ-left-comm, add_mul)
+
+-- in three steps: the centre's products, the even taps' and the odd ones'
+pub half_sums : (he ho xe xo : List ℤ) (ve vo : List ℕ) {y₀ y₁ y₂ y₃ : List ℤ} → length y₀ + 2 * M he ≤ length xe → length y₀ + 2 * length ho ≤ length xo + 1
+    → Raised (length xe) xe ve → Raised (length xo) xo vo → Phases he ho → Filled (λ k. tap he 0 *ℤ raised ve (M he + k)) y₀ y₁
+    → Filled (λ k. at0 y₁ k +ℤ arms he (raised ve) 1 (M he + 1 + k - 1) (M he + k) (M he)) y₁ y₂
+    → Filled (λ k. at0 y₂ k +ℤ arms ho (raised vo) 0 (length ho + k - 1) (length ho + k) (length ho - 0)) y₂ y₃
+    → Filled (λ k. half_rate he ho xe xo k +ℤ pos (2 ^ 53)) y₀ y₃
+half_sums he ho xe xo ve vo l m a b f c p q = half_filled he ho xe xo vo m b f (fir_filled he xe ve l a c p) q
 
 -- here the taps' part is 2^52, and the sums started with the rest
 pub middle_filled : (h x : List ℤ) (v : List ℕ) {y₀ y₁ y₂ : List ℤ} → length y₀ + 2 * length h ≤ length x + 1 → Raised (length x) x v → Between h → Filled (λ k. pos (2 ^ 52)) y₀ y₁

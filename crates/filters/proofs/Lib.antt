@@ -7,3 +7,4 @@ pub mod Totals
 pub mod Tables
 pub mod Bands
 pub mod Seconds
+pub mod Eight

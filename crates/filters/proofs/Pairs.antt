@@ -11,7 +11,7 @@ use Rattle.numbers.proofs.Integers.{abs_add, abs_mul, +ℤ-left-comm, mul_add, a
 use Rattle.numbers.proofs.Sums.{sum_same, sum_head, sum_join}
 use Rattle.reference.specs.Stages.{tap, M, fir}
 use Rattle.filters.specs.Filters.{Small, between_by, ones}
-use Rattle.filters.specs.Lanes.{lifted, raised, arm, arms, fourths, Low, Hold, Added}
+use Rattle.filters.specs.Lanes.{lifted, raised, arm, arms, fourths, Low}
 use Rattle.filters.proofs.Ops.{raised_size}
 
 -- ---- sizes
@@ -184,12 +184,3 @@ between_lift h x k =
   where
     each : (a b c : ℤ) → (a +ℤ c) +ℤ (b +ℤ c) ≡ a +ℤ b +ℤ (c +ℤ c)
     each a b c = simp sums
-
--- ---- fourteen places of y, taken to the lanes, have gained the taps
-pub lanes_gain : (h : List ℤ) (s : ℕ → ℤ) (from end up n i : ℕ) (y₀ y : List ℤ) {s₀ s₁ : List ℤ} → Hold (λ l. at0 y (i + l)) s₀ → Added (λ l. arms h s from (end + i + l - 1) (up + i + l) n) s₀ s₁
-    → ((m : ℕ) → i ≤ m → at0 y m ≡ at0 y₀ m) → (m : ℕ) → i ≤ m → m < i + 14 → at0 s₁ (m - i) ≡ at0 y₀ m +ℤ arms h s from (end + m - 1) (up + m) n
-lanes_gain h s from end up n i y₀ y a g e m p q =
-    let w : i + (m - i) ≡ m = omega arith in
-    let d : end + i + (m - i) - 1 ≡ end + m - 1 = omega arith in
-    let u : up + i + (m - i) ≡ up + m = omega arith in
-    g.is (m - i) (omega arith) ∙ ap₂ (λ (y z : ℤ). y +ℤ z) (a.is (m - i) (omega arith) ∙ ap (at0 y) w ∙ e m p) (rw (d, u))

@@ -1,5 +1,5 @@
 -- Loops that set places of a list one after the other, and what the lanes hold then.
-use mathlib.Core.Path.{◌≡◌, refl, sym, ◌∙◌, ap}
+use mathlib.Core.Path.{◌≡◌, sym, ◌∙◌, ap}
 use mathlib.Core.List.{List}
 use mathlib.Core.Logic.{⊎_elim}
 use Prim.Native.Nat.{ℕ, ◌+◌, ◌-◌, ◌*◌, ◌/◌, ◌<◌, ◌≤◌, ◌^◌}
@@ -14,8 +14,8 @@ use Rattle.numbers.proofs.Lists.{below_or, length_tabulate, get_d_tabulate}
 use Rattle.filters.specs.Filters.{seconds, Small, Filled}
 use Rattle.filters.specs.Lanes.{lifted, raised, Low, Raised, Written, Added, Hold, Lanes}
 
-pub written_none : {f : ℕ → ℤ} {a b : ℕ} {old : List ℤ} → b ≤ a → Written f a b old old
-written_none e = record { same = refl; done = λ k l m. absurd (omega arith); below = λ k l. refl; above = λ k l. refl }
+pub written_as : {f g : ℕ → ℤ} {a b : ℕ} {old new : List ℤ} → Written f a b old new → ((k : ℕ) → a ≤ k → k < b → f k ≡ g k) → Written g a b old new
+written_as u e = record { same = u.same; done = λ k l m. u.done k l m ∙ e k l m; below = u.below; above = u.above }
 
 -- place i more
 pub written_more : {f : ℕ → ℤ} {a i j : ℕ} {old new : List ℤ} {v : ℤ} → Written f a i old new → a ≤ i → i < length new → v ≡ f i → j ≡ i + 1 → Written f a j old (set new i v)
@@ -47,6 +47,12 @@ written_then {f} {a} {i} {j} {new} u w p q e =
       above = λ k l. w.above k l ∙ u.above k (omega arith);
     }
 
+-- what each place gains is added to what it held
+pub gained_then : (g : ℕ → ℤ) {a i j k : ℕ} {old mid new : List ℤ} → Written (λ n. at0 old n +ℤ g n) a i old mid → Written (λ n. at0 mid n +ℤ g n) i j mid new → a ≤ i → i ≤ j → j ≡ k
+    → Written (λ n. at0 old n +ℤ g n) a k old new
+gained_then g {a} {i} {j} {k} {old} {mid} {new} u w p q e =
+    rw e at (written_then u w p q (λ m l n. ap (λ (z : ℤ). z +ℤ g m) (u.above m l)))
+
 pub written_filled : {f : ℕ → ℤ} {i : ℕ} {old new : List ℤ} → Written f 0 i old new → length old ≤ i → Filled f old new
 written_filled u l = record { same = u.same; is = λ k m. u.done k (omega arith) (omega arith) }
 
@@ -73,25 +79,22 @@ pub gained_small : (g : ℕ → ℤ) {old new : List ℤ} {A G : ℕ} (B : ℕ) 
 gained_small g {old} B u a e l = filled_small B u (λ k. omega (arith, abs_add (at0 old k) (g k), a.size k, e k))
 
 -- ---- the lanes
-pub written_hold : {f : ℕ → ℤ} {i : ℕ} {old new : List ℤ} → Written f 0 i old new → 14 ≤ i → Hold f new
+pub written_hold : {L : ℕ} {f : ℕ → ℤ} {i : ℕ} {old new : List ℤ} → Written f 0 i old new → L ≤ i → Hold L f new
 written_hold u l = record { is = λ k m. u.done k (omega arith) (omega arith) }
 
-pub written_added : {g : ℕ → ℤ} {i : ℕ} {old new : List ℤ} → Written (λ k. at0 old k +ℤ g k) 0 i old new → 14 ≤ i → Added g old new
-written_added u l = record { is = λ k m. u.done k (omega arith) (omega arith) }
+pub added_none : {L : ℕ} {g : ℕ → ℤ} (a : List ℤ) → ((l : ℕ) → g l ≡ pos 0) → Added L g a a
+added_none {g = g} a e = record { is = λ l n. sym (ap (λ (z : ℤ). at0 a l +ℤ z) (e l) ∙ +ℤ_idr (at0 a l)) }
 
-pub added_none : {g : ℕ → ℤ} (a : List ℤ) → ((l : ℕ) → g l ≡ pos 0) → Added g a a
-added_none {g} a e = record { is = λ l n. sym (ap (λ (z : ℤ). at0 a l +ℤ z) (e l) ∙ +ℤ_idr (at0 a l)) }
-
-pub added_then : {g k m : ℕ → ℤ} {a b c : List ℤ} → Added g a b → Added k b c → ((l : ℕ) → g l +ℤ k l ≡ m l) → Added m a c
-added_then {g} {k} {m} {a} p q e =
+pub added_then : {L : ℕ} {g k m : ℕ → ℤ} {a b c : List ℤ} → Added L g a b → Added L k b c → ((l : ℕ) → g l +ℤ k l ≡ m l) → Added L m a c
+added_then {g = g} {k = k} {m = m} {a = a} p q e =
     record { is = λ l n. q.is l n ∙ ap (λ (z : ℤ). z +ℤ k l) (p.is l n) ∙ +ℤ_assoc (at0 a l) (g l) (k l) ∙ ap (λ (z : ℤ). at0 a l +ℤ z) (e l) }
 
 -- sizes
-pub hold_lanes : {f : ℕ → ℤ} {s : List ℤ} (B : ℕ) → Hold f s → ((l : ℕ) → nat_abs (f l) ≤ B) → Lanes B s
+pub hold_lanes : {L : ℕ} {f : ℕ → ℤ} {s : List ℤ} (B : ℕ) → Hold L f s → ((l : ℕ) → nat_abs (f l) ≤ B) → Lanes L B s
 hold_lanes B p b = record { size = λ l n. rw (p.is l n) (b l) }
 
-pub lanes_then : {g : ℕ → ℤ} {a b : List ℤ} {A : ℕ} (G B : ℕ) → Added g a b → Lanes A a → ((l : ℕ) → nat_abs (g l) ≤ G) → A + G ≤ B → Lanes B b
-lanes_then {g} {a} G B p s e m = record { size = λ l n. rw (p.is l n) (omega (arith, abs_add (at0 a l) (g l), s.size l n, e l)) }
+pub lanes_then : {L : ℕ} {g : ℕ → ℤ} {a b : List ℤ} {A : ℕ} (G B : ℕ) → Added L g a b → Lanes L A a → ((l : ℕ) → nat_abs (g l) ≤ G) → A + G ≤ B → Lanes L B b
+lanes_then {g = g} {a = a} G B p s e m = record { size = λ l n. rw (p.is l n) (omega (arith, abs_add (at0 a l) (g l), s.size l n, e l)) }
 
 -- ---- the copy
 pub low_zeros : (n : ℕ) → Low (replicate n 0)
@@ -99,9 +102,6 @@ low_zeros n = record { size = λ k. ⊎_elim (λ l. rw (get_or-replicate {A = �
   where
     past : (k : ℕ) → n ≤ k → length {A = ℕ} (replicate n 0) ≤ k
     past k l = rw (length-replicate {A = ℕ} n 0) l
-
-pub raised_none : {x : List ℤ} {v : List ℕ} → Low v → Raised 0 x v
-raised_none b = record { is = λ k m. absurd (omega arith); low = b }
 
 -- place i more
 pub raised_more : {i j : ℕ} {x : List ℤ} {v : List ℕ} {r : ℕ} → Raised i x v → i < length v → pos r ≡ lifted x i → r ≤ 2 ^ 30 → j ≡ i + 1 → Raised j x (set v i r)

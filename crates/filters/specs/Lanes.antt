@@ -1,4 +1,4 @@
--- How the sums are made. A copy of the block has every value lifted by 2^29, so that the machine multiplies numbers that are not negative; fourteen places of the output at a time, the lanes, gain a tap.
+-- How the sums are made. A copy of the block has every value lifted by 2^29, so that the machine multiplies numbers that are not negative; L places of the output at a time, the lanes, gain a tap.
 use Rattle.std.specs.Prelude.{◌≡◌, List, ℕ, ◌+◌, ◌-◌, ◌*◌, ◌^◌, ◌≤◌, ◌<◌, ℤ, pos, nat_abs, ◌+ℤ◌, ◌-ℤ◌, ◌*ℤ◌, length, get_or}
 use Rattle.numbers.specs.Sums.{sum_to, at0}
 use Rattle.reference.specs.Rounding.{R}
@@ -33,17 +33,17 @@ arms h s from down up n = sum_to n (λ k. arm h s down up (from + k))
 unfoldable pub fourths : List ℤ → (ℕ → ℤ) → ℕ → ℕ → ℕ → ℕ → ℤ
 fourths h s from down up n = sum_to n (λ k. arm h s down up (from + 4 * k) +ℤ arm h s down up (from + 4 * k + 2))
 
--- no lane is over B in size
-pub record Lanes (B : ℕ) (s : List ℤ) : Type 0 where
-  pub size : (l : ℕ) → l < 14 → nat_abs (at0 s l) ≤ B
+-- none of L lanes is over B in size
+pub record Lanes (L B : ℕ) (s : List ℤ) : Type 0 where
+  pub size : (l : ℕ) → l < L → nat_abs (at0 s l) ≤ B
 
--- the lanes hold f
-pub record Hold (f : ℕ → ℤ) (s : List ℤ) : Type 0 where
-  pub is : (l : ℕ) → l < 14 → at0 s l ≡ f l
+-- L lanes hold f
+pub record Hold (L : ℕ) (f : ℕ → ℤ) (s : List ℤ) : Type 0 where
+  pub is : (l : ℕ) → l < L → at0 s l ≡ f l
 
--- the lanes have gained g
-pub record Added (g : ℕ → ℤ) (old new : List ℤ) : Type 0 where
-  pub is : (l : ℕ) → l < 14 → at0 new l ≡ at0 old l +ℤ g l
+-- L lanes have gained g
+pub record Added (L : ℕ) (g : ℕ → ℤ) (old new : List ℤ) : Type 0 where
+  pub is : (l : ℕ) → l < L → at0 new l ≡ at0 old l +ℤ g l
 
 -- of the first n sums none is negative, or over 2^54
 pub record Sums (n : ℕ) (s : List ℤ) : Type 0 where

@@ -7,10 +7,8 @@ pub fn widen_taps(h: &[i32], out: &mut [i64])
     requires { length out.old ≡ length h.now }
     ensures { out.new ≡ h.now }
 {
-    let mut k: usize = 0;
-    while k < out.len() {
-        out[k] = h[k] as i64;
-        k += 1;
+    for (k, tap) in out.iter_mut().enumerate() {
+        *tap = i64::from(h[k]);
     }
 }
 
@@ -19,9 +17,7 @@ pub fn every_second(h: &[i32], from: usize, out: &mut [i64])
     requires { 2 * length out.old + from ≤ length h.now + 1 }
     ensures { Filled (λ k. at0 h.now (2 * k + from)) out.old out.new }
 {
-    let mut k: usize = 0;
-    while k < out.len() {
-        out[k] = h[2 * k + from] as i64;
-        k += 1;
+    for (k, tap) in out.iter_mut().enumerate() {
+        *tap = i64::from(h[2 * k + from]);
     }
 }

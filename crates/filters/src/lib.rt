@@ -14,7 +14,7 @@ mod round;
 mod start;
 
 pub use copy::{every_second, widen_taps};
-pub use lane::size;
+use lane::Arms;
 
 // A filter at the rate of its input.
 pub fn fir1(y: &mut [i64], h: &[i64], x: &[i64])
@@ -29,8 +29,14 @@ pub fn fir1(y: &mut [i64], h: &[i64], x: &[i64])
     let m = h.len() - 1;
     let c = h[0];
     start::centre(y, c, &v, m);
-    lane::add_pairs(y, h, 1, &v, m + 1, m);
-    round::all24(y);
+    let arms = Arms {
+        h,
+        v: &v,
+        end: m + 1,
+        up: m,
+    };
+    arms.add(y, 1);
+    round::all::<24>(y);
 }
 
 // A filter at half the rate: its even taps over the places of x at an even distance from the centre, its odd ones over the others.
@@ -49,9 +55,21 @@ pub fn dec2(y: &mut [i64], he: &[i64], ho: &[i64], x: &[i64])
     start::raise_second(x, he.len() - o, &mut vo);
     let c = he[0];
     start::centre(y, c, &ve, m);
-    lane::add_pairs(y, he, 1, &ve, m + 1, m);
-    lane::add_pairs(y, ho, 0, &vo, o, o);
-    round::all24(y);
+    let even = Arms {
+        h: he,
+        v: &ve,
+        end: m + 1,
+        up: m,
+    };
+    even.add(y, 1);
+    let odd = Arms {
+        h: ho,
+        v: &vo,
+        end: o,
+        up: o,
+    };
+    odd.add(y, 0);
+    round::all::<24>(y);
 }
 
 // The odd taps of HB.
@@ -74,7 +92,13 @@ pub fn half(y: &mut [i64], xo: &[i64])
     let mut v = [0u64; 247];
     start::raise(xo, &mut v);
     let h = half_taps();
-    band::places(y, &h, &v);
+    let odd = Arms {
+        h: &h,
+        v: &v,
+        end: 8,
+        up: 8,
+    };
+    band::places(y, odd);
 }
 
 // The places between those of x. The taps lift a sum by 2^52 only: the lanes start with as much again.
@@ -88,9 +112,15 @@ fn middle_by(y: &mut [i64], ho: &[i64], x: &[i64])
     let mut v = [0u64; 256];
     start::raise(x, &mut v);
     let o = ho.len();
-    start::level(y);
-    lane::add_pairs(y, ho, 0, &v, o, o);
-    round::all23(y);
+    y.fill(4503599627370496);
+    let odd = Arms {
+        h: ho,
+        v: &v,
+        end: o,
+        up: o,
+    };
+    odd.add(y, 0);
+    round::all::<23>(y);
 }
 
 // HB's places between those of x.

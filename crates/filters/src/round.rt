@@ -1,29 +1,14 @@
 // A block's sums, rounded in place.
-ghost use Rattle.std.specs.Prelude.{length};
+ghost use Rattle.std.specs.Prelude.{◌≤◌, length};
 ghost use Rattle.filters.specs.Filters.{Filled};
 ghost use Rattle.filters.specs.Lanes.{Sums, rounded};
 
-// Every place of y, rounded.
-pub fn all24(y: &mut [i64])
-    requires { Sums (length y.old) y.old }
-    ensures { Filled (rounded 24 y.old) y.old y.new }
+// Every place of y, rounded at the shift Q.
+pub fn all<const Q: u32>(y: &mut [i64])
+    requires { (1 ≤ Q) × (Q ≤ 52) × Sums (length y.old) y.old }
+    ensures { Filled (rounded Q y.old) y.old y.new }
 {
-    let mut k: usize = 0;
-    while k < y.len() {
-        let r = rounding::div_round24(y[k]);
-        y[k] = r;
-        k += 1;
-    }
-}
-
-pub fn all23(y: &mut [i64])
-    requires { Sums (length y.old) y.old }
-    ensures { Filled (rounded 23 y.old) y.old y.new }
-{
-    let mut k: usize = 0;
-    while k < y.len() {
-        let r = rounding::div_round23(y[k]);
-        y[k] = r;
-        k += 1;
+    for place in y.iter_mut() {
+        *place = rounding::div_round::<Q>(*place);
     }
 }

@@ -1,4 +1,4 @@
-// What the sums start with: the centre's products, or as much as the taps' own lift is short of 2^53. And the copy of a block that the taps
+// What the sums start with: the centre's products. And the copy of a block that the taps
 // read: each value is below 2^29 in size, and lifted by that.
 ghost use Rattle.std.specs.Prelude.{◌≡◌, ◌+◌, ◌-◌, ◌/◌, ◌^◌, ◌≤◌, pos, nat_abs, ◌+ℤ◌, ◌*ℤ◌, length};
 ghost use Rattle.filters.specs.Filters.{seconds, Small, Filled};
@@ -21,11 +21,8 @@ pub fn raise(x: &[i64], v: &mut [u64])
     requires low { Low v.old }
     ensures { Raised (length x.now) x.now v.new }
 {
-    let mut k: usize = 0;
-    while k < x.len() {
-        let r = lift(x[k]);
-        v[k] = r;
-        k += 1;
+    for k in 0..x.len() {
+        v[k] = lift(x[k]);
     }
 }
 
@@ -36,12 +33,8 @@ pub fn raise_second(x: &[i64], from: usize, v: &mut [u64])
     requires low { Low v.old }
     ensures { Raised ((length x.now + 1 - from) / 2) (seconds from x.now) v.new }
 {
-    let n = (x.len() + 1 - from) / 2;
-    let mut k: usize = 0;
-    while k < n {
-        let r = lift(x[2 * k + from]);
-        v[k] = r;
-        k += 1;
+    for k in 0..(x.len() + 1 - from) / 2 {
+        v[k] = lift(x[2 * k + from]);
     }
 }
 
@@ -59,11 +52,8 @@ pub fn centre(y: &mut [i64], h: i64, v: &[u64], at: usize)
     requires low { Low v.now }
     ensures { Filled (λ k. h *ℤ raised v.now (at + k)) y.old y.new }
 {
-    let mut k: usize = 0;
-    while k < y.len() {
-        let r = product(h, v[at + k]);
-        y[k] = r;
-        k += 1;
+    for (k, place) in y.iter_mut().enumerate() {
+        *place = product(h, v[at + k]);
     }
 }
 
@@ -73,15 +63,4 @@ pub fn halved(a: i64) -> i64
     ensures { result ≡ pos 8388608 *ℤ (a +ℤ pos (2 ^ 29)) }
 {
     8388608 * (a + 536870912)
-}
-
-// 2^52 everywhere.
-pub fn level(y: &mut [i64])
-    ensures { Filled (λ k. pos (2 ^ 52)) y.old y.new }
-{
-    let mut k: usize = 0;
-    while k < y.len() {
-        y[k] = 4503599627370496;
-        k += 1;
-    }
 }

@@ -12,11 +12,8 @@ fn table_sum(tables: &[i32], window: &[u8]) -> i64
     ensures { result ≡ sum_to (length window.now) (λ j. at0 tables.now (256 * j + get_or window.now j 0)) }
 {
     let mut sum: i64 = 0;
-    let mut j: usize = 0;
-    while j < window.len() {
-        let b = window[j] as usize;
-        sum += tables[256 * j + b] as i64;
-        j += 1;
+    for (j, byte) in window.iter().enumerate() {
+        sum += i64::from(tables[256 * j + usize::from(*byte)]);
     }
     sum
 }
@@ -43,17 +40,16 @@ pub fn first_stage(
     requires { (length tables.now ≡ 256 * (2 * half)) × (half ≤ 6) × (start + step * length out.old + 2 * half ≤ length bytes.now + step) × (length bytes.now ≤ 512) × (step ≤ 2) }
     ensures { Held (pos 0) (λ k. window_sum tables.now half bytes.now (start + step * k)) 0 (length out.old) out.new }
 {
-    let mut k: usize = 0;
-    while k + 1 < out.len() {
+    for pair in 0..out.len() / 2 {
+        let k = 2 * pair;
         let at = start + step * k;
         let a = window(tables, half, bytes, at);
         let b = window(tables, half, bytes, at + step);
         out[k] = a;
         out[k + 1] = b;
-        k += 2;
     }
-    if k < out.len() {
-        let a = window(tables, half, bytes, start + step * k);
-        out[k] = a;
+    if out.len() % 2 == 1 {
+        let last = out.len() - 1;
+        out[last] = window(tables, half, bytes, start + step * last);
     }
 }

@@ -5,7 +5,7 @@ use mathlib.Core.List.{List}
 use Prim.Native.Nat.{ℕ, zero, suc, ◌+◌, ◌*◌, ◌^◌, ◌≤◌, ◌<◌}
 use native.Mathlib.Nat.{le_trans, le_of_eq, le_of_lt, mul_assoc, mul-pos, mul-le-mul_right}
 use native.Mathlib.Omega.{arith}
-use lib.Dec.{T, lit≤, lit<, eqb-suc-zero}
+use lib.Dec.{T, lit≤, lit<}
 use lib.IntN.{ℤ, pos, negsuc, neg_ℤ, nat_abs}
 use lib.Ieee.{Float, nan, inf, fin, binary64, up, down, mul, of_int, round}
 use lib.Ieee.Fits.{down_pos}
@@ -15,12 +15,14 @@ use lib.Ieee.Back.{round_whole}
 use mathlib.Core.Bool.{true≢false}
 use Rattle.numbers.specs.Sums.{at0}
 use Rattle.numbers.specs.Lists.{count}
-use Rattle.numbers.specs.Extremes.{lesser, greater, picked, extreme0}
+use Rattle.numbers.specs.Extremes.{lesser, greater, picked, extreme}
 use Rattle.numbers.proofs.Integers.{pp_neg, nn_neg, abs_parts}
 use Rattle.numbers.proofs.Extremes.{Under, Best, least_best, greatest_best, from_first, picked_map}
 use Rattle.reference.specs.Scaling.{eighth, scaled, clips}
 use Rattle.floats.proofs.Bound.{AtMost, with_sign, round_signs}
 use Rattle.floats.proofs.Interval.{nonneg, Leq, round_leq, leq_refl, mul_leq}
+use Rattle.std.specs.Prelude.{Some}
+use Rattle.reference.specs.Statistics.{extremes_of}
 use Rattle.gain.specs.Tallies.{tally}
 use Rattle.gain.specs.Scale.{bounded}
 use Rattle.gain.proofs.Scaling.{product_at_most}
@@ -151,8 +153,7 @@ module _ (factor : Float) (held : T (bounded factor)) where
     first_small = small 0 (omega arith)
 
     module _ {R : ℤ → ℤ → Type 0} {pick : ℤ → ℤ → ℤ} (b : Best R pick) (grows : (x y : ℤ) → nat_abs x < 2 ^ 31 → nat_abs y < 2 ^ 31 → R x y → R (scaled factor x) (scaled factor y)) where
-      pub extreme_scaled : (s : ℤ) → R (f 0) s → extreme0 pick (λ k. scaled factor (f k)) 0 (suc n) ≡ scaled factor (picked pick s f 0 (suc n))
-      unfolding extreme0
+      pub extreme_scaled : (s : ℤ) → R (f 0) s → extreme pick (λ k. scaled factor (f k)) 0 (suc n) ≡ scaled factor (picked pick s f 0 (suc n))
       extreme_scaled s h =
           picked_map b (λ z. nat_abs z < 2 ^ 31) (scaled factor) grows (f 0) f 0 (suc n) first_small (λ k l. let e : 0 + k ≡ k = omega arith in rw e (small k l))
           ∙ ap (scaled factor) (sym (from_first b s f 0 n h))
@@ -162,17 +163,16 @@ abbrev pub least_y : List ℤ → ℕ → ℤ
 least_y ys n = picked lesser (pos 2147483647) (at0 ys) 0 n
 
 abbrev pub greatest_y : List ℤ → ℕ → ℤ
-greatest_y ys n = picked greater (negsuc 2147483646) (at0 ys) 0 n
+greatest_y ys n = picked greater (negsuc 2147483647) (at0 ys) 0 n
 
 pub block_told : (factor : Float) (ys : List ℤ) (n : ℕ) → T (bounded factor) → 0 < n → ((k : ℕ) → k < n → nat_abs (at0 ys k) < 2 ^ 31)
-    → record { clipped = count (λ k. clips (scaled factor (at0 ys k))) 0 n; lowest = scaled factor (least_y ys n); highest = scaled factor (greatest_y ys n); empty = false }
+    → record { clipped = count (λ k. clips (scaled factor (at0 ys k))) 0 n; extremes = Some (record { lowest = scaled factor (least_y ys n); highest = scaled factor (greatest_y ys n) }) }
     ≡ tally (λ k. scaled factor (at0 ys k)) 0 n
-unfolding tally
+unfolding tally extremes_of
 block_told factor ys zero held some small = absurd (omega arith)
 block_told factor ys (suc n) held some small =
     let first = small 0 (omega arith) in
     rw (
       extreme_scaled factor held (at0 ys) n small least_best (λ x y p q. scaled_grows factor held x y (omega arith) (omega arith)) (pos 2147483647) (omega (arith, abs_parts (at0 ys 0))),
-      extreme_scaled factor held (at0 ys) n small greatest_best (λ x y p q. scaled_grows factor held y x (omega arith) (omega arith)) (negsuc 2147483646) (omega (arith, abs_parts (at0 ys 0))),
-      eqb-suc-zero n,
+      extreme_scaled factor held (at0 ys) n small greatest_best (λ x y p q. scaled_grows factor held y x (omega arith) (omega arith)) (negsuc 2147483647) (omega (arith, abs_parts (at0 ys 0))),
     ) refl

@@ -14,7 +14,7 @@ use lib.Ieee.Exact.{HasValue}
 use lib.Ieee.Nearest.{closest, closest_mono}
 use lib.Ieee.Back.{round_whole, Float-back_signed}
 use mir.Syntax.{w32, w64}
-use mir.Val.{SFits, bool_byte}
+use mir.Val.{SFits}
 use Rattle.numbers.proofs.Integers.{sfits_abs}
 use Rattle.reference.specs.Scaling.{eighth, scaled, clamp, clips}
 use Rattle.floats.specs.Whole.{whole_over, whole_of, below_51}
@@ -121,10 +121,6 @@ pub clamp_back : (z : ℤ) → T (in_signed binary64 31 (of_int binary64 (clamp 
 clamp_back z = whole_back binary64 31 (clamp z) (clamp_exact z) (clamp_fits z).sfits
 
 -- whether it changed
-pub clamp_told : (z : ℤ) → T (in_float binary64 z) → bool_byte (ne (of_int binary64 (clamp z)) (of_int binary64 z)) ≡ cond (clips z) 1 0
+pub clamp_told : (z : ℤ) → T (in_float binary64 z) → ne (of_int binary64 (clamp z)) (of_int binary64 z) ≡ clips z
 unfolding clips
-clamp_told z h = rw (ne_whole binary64 (clamp z) z (clamp_exact z) h) (byte_is (clips z))
-  where
-    byte_is : (b : Bool) → bool_byte b ≡ cond b 1 0
-    byte_is true = refl
-    byte_is false = refl
+clamp_told z h = ne_whole binary64 (clamp z) z (clamp_exact z) h

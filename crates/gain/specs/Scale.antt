@@ -1,10 +1,10 @@
 -- What the scaling asks and gives.
-use Rattle.std.specs.Prelude.{◌≡◌, List, Bool, true, false, cond, ◌&&◌, ℕ, ◌*◌, ◌<◌, ltb, leb, ℤ, length, Float}
+use Rattle.std.specs.Prelude.{◌≡◌, List, Bool, true, false, ◌&&◌, ℕ, ◌*◌, ◌<◌, ltb, leb, ℤ, length, Float}
 use Rattle.std.specs.Float.{nan, inf, fin, binary64}
 use Rattle.std.specs.Float.Ieee.{up, down, mul, of_int, of_bits}
 use Rattle.numbers.specs.Sums.{at0}
 use Rattle.reference.specs.Scaling.{scaled, clamp, clips}
-use Rattle.gain.specs.declared.Tally.{Tally}
+use Rattle.reference.specs.declared.ChannelStats.{ChannelStats}
 use Rattle.gain.specs.Tallies.{tally}
 
 -- finite, above 0 and at most 16, as the factor of every allowed dB is: proofs/Reach
@@ -18,13 +18,13 @@ bounded (fin false m e) = ltb 0 m && leb (m * up e) (16 * down e)
 unfoldable pub unrounded : Float → ℤ → Float
 unrounded factor y = mul binary64 (mul binary64 (of_int binary64 y) factor) (of_bits binary64 0x3fc0_0000_0000_0000)
 
--- the sample of a number z before the clamp, and whether it is clipped, as 0 or 1
-pub record Clamped (z sample : ℤ) (clipped : ℕ) : Type 0 where
+-- the sample of a number z before the clamp, and whether it is clipped
+pub record Clamped (z sample : ℤ) (clipped : Bool) : Type 0 where
   pub is_sample : sample ≡ clamp z
-  pub is_clipped : clipped ≡ cond (clips z) 1 0
+  pub is_clipped : clipped ≡ clips z
 
 -- ys scaled into `out`, which holds out' then
-pub record ScaledBlock (factor : Float) (ys out out' : List ℤ) (told : Tally) : Type 0 where
+pub record ScaledBlock (factor : Float) (ys out out' : List ℤ) (told : ChannelStats) : Type 0 where
   pub same_length : length out' ≡ length out
   pub samples : (k : ℕ) → k < length ys → at0 out' k ≡ clamp (scaled factor (at0 ys k))
   pub is_told : told ≡ tally (λ k. scaled factor (at0 ys k)) 0 (length ys)

@@ -3,21 +3,16 @@ ghost use Rattle.std.specs.Prelude.{◌≡◌};
 ghost use Rattle.reference.specs.Promises.{GainPromise};
 ghost use Rattle.reference.specs.Scaling as scaling;
 
-use reference::{FromDb, Gain, PcmError};
+use reference::{Gain, PcmError};
 
 const LN_10: f64 = 2.30258509299404568401799145468436421;
 
 // |db|, +0 for -0.
+#[tactic(auto, using(crate::proofs::Records::abs_is))]
 fn magnitude(db: f64) -> f64
     ensures { result ≡ scaling.magnitude db }
 {
-    if db == 0.0 {
-        0.0
-    } else if db < 0.0 {
-        -db
-    } else {
-        db
-    }
+    db.abs()
 }
 
 // e^r by 25 terms of its series after the 1.
@@ -44,36 +39,31 @@ pub fn db_to_linear(db: f64) -> f64
     if db < 0.0 { 1.0 / power } else { power }
 }
 
+#[tactic(auto, using(crate::proofs::Records::from_below, crate::proofs::Records::too_low))]
 fn allowed(db: f64) -> bool
     ensures { result ≡ scaling.allowed db }
 {
-    if db >= -120.0 { db <= 24.0 } else { false }
+    db >= -120.0 && db <= 24.0
 }
 
 // The gain call.
-pub fn from_db(db: f64) -> FromDb
+#[tactic(auto, using(crate::proofs::Records::made, crate::proofs::Records::turned_down))]
+pub fn from_db(db: f64) -> Result<Gain, PcmError>
     ensures { GainPromise db result }
 {
-    if allowed(db) {
-        let linear = db_to_linear(db);
-        FromDb::Made(Gain { db, linear })
-    } else {
-        FromDb::Refused(PcmError::Gain(db))
+    if !allowed(db) {
+        return Err(PcmError::Gain(db));
     }
+    Ok(Gain {
+        db,
+        linear: db_to_linear(db),
+    })
 }
 
-// Whether the gain call makes this record, bit for bit.
+// Whether the gain call makes this record, bit for bit. A NaN is the factor of no decibels.
+#[tactic(auto, using(crate::proofs::Records::factor_number, crate::proofs::Records::no_number), unfolding(reference::specs::Scaling::right_gain))]
 pub fn right_gain(g: Gain) -> bool
     ensures { result ≡ scaling.right_gain g }
 {
-    let db = g.db;
-    let linear = g.linear;
-    if !allowed(db) {
-        return false;
-    }
-    // A NaN is the factor of no decibels.
-    if linear != linear {
-        return false;
-    }
-    f64::to_bits(linear) == f64::to_bits(db_to_linear(db))
+    allowed(g.db) && !g.linear.is_nan() && g.linear.to_bits() == db_to_linear(g.db).to_bits()
 }

@@ -7,12 +7,12 @@ ghost use Rattle.reference.specs.Scaling.{scaled, clamp};
 ghost use Rattle.floats.specs.Whole.{whole_of, below_51};
 ghost use Rattle.gain.specs.Scale.{bounded, unrounded, Clamped, ScaledBlock};
 
-use crate::Tally;
+use reference::{ChannelStats, Extremes};
 
 #[derive(Clone, Copy)]
 struct Scaled {
     sample: i32,
-    clipped: u64,
+    clipped: bool,
 }
 
 const MAGIC: f64 = 6755399441055744.0;
@@ -56,9 +56,10 @@ fn scale(y: i64, factor: f64) -> Scaled
     let x = product(y, factor);
     let z = nearest_even(x);
     let s = clip(z);
-    let sample = s as i32;
-    let clipped = (s != z) as u64;
-    Scaled { sample, clipped }
+    Scaled {
+        sample: s as i32,
+        clipped: s != z,
+    }
 }
 
 // The number that y becomes, before the clamp.
@@ -72,33 +73,28 @@ fn before_clamp(y: i32, factor: f64) -> i64
 }
 
 // The numbers of a block as samples. Scaling keeps their order, so that for the lowest and the highest no other y is scaled again.
-pub fn scale_block(ys: &[i64], factor: f64, out: &mut [i32]) -> Tally
+pub fn scale_block(ys: &[i64], factor: f64, out: &mut [i32]) -> ChannelStats
     requires ys_nonzero { (0 < length ys.now) × (length out.old ≡ length ys.now) }
     requires t { T (bounded factor) }
     requires by_index { (k : ℕ) → k < length ys.now → nat_abs (at0 ys.now k) < 2 ^ 31 }
     ensures { ScaledBlock factor ys.now out.old out.new result }
 {
     let mut clipped = 0u64;
-    let mut least: i32 = 2147483647;
-    let mut greatest: i32 = -2147483647;
-    let mut i = 0usize;
-    while i < ys.len() {
+    let mut least = i32::MAX;
+    let mut greatest = i32::MIN;
+    for (i, place) in out.iter_mut().enumerate() {
         let y = ys[i];
-        let s = scale(y, factor);
-        let sample = s.sample;
-        out[i] = sample;
-        clipped += s.clipped;
-        let short = y as i32;
-        least = reference::lesser(least, short);
-        greatest = reference::greater(greatest, short);
-        i += 1;
+        let scaled = scale(y, factor);
+        *place = scaled.sample;
+        clipped += u64::from(scaled.clipped);
+        least = least.min(y as i32);
+        greatest = greatest.max(y as i32);
     }
-    let lowest = before_clamp(least, factor);
-    let highest = before_clamp(greatest, factor);
-    Tally {
+    ChannelStats {
         clipped,
-        lowest,
-        highest,
-        empty: false,
+        extremes: Some(Extremes {
+            lowest: before_clamp(least, factor),
+            highest: before_clamp(greatest, factor),
+        }),
     }
 }

@@ -1,3 +1,2 @@
-mod Lists
-mod Six
-pub mod Lengths
+pub mod Known
+pub mod Told

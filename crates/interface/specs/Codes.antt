@@ -1,7 +1,8 @@
 -- Numbers of the C interface: rates, cutoffs, flags, and a decision as a number with its data.
-use Rattle.std.specs.Prelude.{List, [], ◌∷◌, map, Bool, cond, ℕ, eqb, ltb, Float, get_or}
+use Rattle.std.specs.Prelude.{List, [], ◌∷◌, map, Bool, cond, ℕ, eqb, ltb, Float, get_or, Option, Some, None}
 use Rattle.reference.specs.Scaling.{whole}
 use Rattle.reference.specs.Refusals.{Decision, accepted, refused, refusal_number, Datum, number, rate, cutoff, decibels}
+use Rattle.reference.specs.Codes as numbers
 use Rattle.reference.specs.declared.PcmRate.{PcmRate}
 use Rattle.reference.specs.declared.PcmRate.TheVariants.{Hz88200, Hz176400, Hz352800}
 use Rattle.reference.specs.declared.Cutoff.{Cutoff}
@@ -12,9 +13,7 @@ use Rattle.interface.specs.declared.results.Report.{Report}
 
 -- a rate's number is its hertz
 abbrev pub hertz : PcmRate → ℕ
-hertz Hz88200 = 88200
-hertz Hz176400 = 176400
-hertz Hz352800 = 352800
+hertz = numbers.hertz
 
 unfoldable pub rate_of : ℕ → PcmRate
 rate_of n = cond (eqb n 88200) Hz88200 (cond (eqb n 176400) Hz176400 Hz352800)
@@ -23,9 +22,7 @@ abbrev pub known_rate : ℕ → Bool
 known_rate n = eqb (hertz (rate_of n)) n
 
 abbrev pub cutoff_number : Cutoff → ℕ
-cutoff_number Standard = 0
-cutoff_number Low = 1
-cutoff_number Wide = 2
+cutoff_number = numbers.cutoff_number
 
 unfoldable pub cutoff_of : ℕ → Cutoff
 cutoff_of n = cond (eqb n 0) Standard (cond (eqb n 1) Low Wide)
@@ -39,6 +36,10 @@ known_flag n = ltb n 2
 
 abbrev pub flag : ℕ → Bool
 flag n = eqb n 1
+
+-- what a known number stands for; nothing for an unknown one
+unfoldable pub if_known : {A : Type 0} → Bool → A → Option A
+if_known b a = cond b (Some a) None
 
 -- ---- what is told of a decision
 

@@ -1,26 +1,31 @@
 -- What is in progress at full scale, and overs, as numbers of the C interface.
-use Rattle.std.specs.Prelude.{List, [], ◌∷◌, Bool, cond, ℕ, eqb}
+use Rattle.std.specs.Prelude.{Some, None, List, [], ◌∷◌, Bool, cond, ℕ, eqb, ltb}
 use Rattle.overs.specs.declared.End.{End}
-use Rattle.overs.specs.declared.End.TheVariants.{Neither, High, Low}
-use Rattle.overs.specs.declared.Progress.{Progress}
+use Rattle.overs.specs.declared.End.TheVariants.{High, Low}
 use Rattle.overs.specs.declared.OverCount.{OverCount}
+use Rattle.overs.specs.Overs.{Progress}
 
--- an end's number
-abbrev pub end_number : End → ℕ
-end_number Neither = 0
-end_number High = 1
-end_number Low = 2
+-- the number of an end, and of none
+abbrev pub which : End → ℕ
+which High = 1
+which Low = 2
 
-unfoldable pub end_of : ℕ → End
-end_of n = cond (eqb n 0) Neither (cond (eqb n 1) High Low)
+abbrev pub end_number : Progress → ℕ
+end_number None = 0
+end_number (Some s) = which s.end
+
+abbrev pub length_number : Progress → ℕ
+length_number None = 0
+length_number (Some s) = s.length
 
 abbrev pub known_end : ℕ → Bool
-known_end n = eqb (end_number (end_of n)) n
+known_end n = ltb n 3
 
 -- what is in progress, by its end's number and its length
-abbrev pub progress_of : ℕ → ℕ → Progress
-progress_of end length = record { end = end_of end; length = length }
+unfoldable pub progress_of : ℕ → ℕ → Progress
+progress_of end length =
+    cond (eqb end 0) None (cond (eqb end 1) (Some (record { end = High; length = length })) (Some (record { end = Low; length = length })))
 
 -- overs, and what is in progress after them: its end's number and its length
 abbrev pub over_numbers : OverCount → List ℕ
-over_numbers o = o.count ∷ end_number o.next.end ∷ o.next.length ∷ []
+over_numbers o = o.count ∷ end_number o.next ∷ length_number o.next ∷ []

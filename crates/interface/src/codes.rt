@@ -1,99 +1,68 @@
-// The interface's numbers read as settings.
-ghost use Rattle.std.specs.Prelude.{◌≡◌, ◌&&◌, length};
+// The interface's numbers read as settings, each as `None` where it is unknown.
+ghost use Rattle.std.specs.Prelude.{◌≡◌, ◌&&◌};
 ghost use Rattle.reference.specs.Stages as stages;
 ghost use Rattle.interface.specs.Codes as codes;
+ghost use Rattle.interface.specs.Codes.{if_known};
 ghost use Rattle.interface.specs.Settings as spelled;
-ghost use Rattle.interface.specs.Settings.{c_settings, known_settings, settings_of, c_converter, held_converter};
+ghost use Rattle.interface.specs.Settings.{known, settings_of, known_converter, held_converter};
 
-use reference::{Converter, Cutoff, Filter, Gain, PcmRate, Settings};
+use reference::{Converter, Cutoff, Filter, Gain, PcmRate, Run, Settings};
 
 pub fn hertz(rate: PcmRate) -> u64
     ensures { result ≡ codes.hertz rate }
 {
-    match rate {
-        PcmRate::Hz88200 => 88200,
-        PcmRate::Hz176400 => 176400,
-        PcmRate::Hz352800 => 352800,
-    }
+    u64::from(rate)
 }
 
-pub fn rate_of(n: u32) -> PcmRate
-    ensures { result ≡ codes.rate_of n }
+#[tactic(auto, unfolding(reference::specs::Codes::rate_from, crate::specs::Codes::if_known, crate::specs::Codes::rate_of))]
+pub fn rate_of(n: u32) -> Option<PcmRate>
+    ensures { result ≡ if_known (codes.known_rate n) (codes.rate_of n) }
 {
-    if n == 88200 {
-        return PcmRate::Hz88200;
-    }
-    if n == 176400 {
-        return PcmRate::Hz176400;
-    }
-    PcmRate::Hz352800
+    PcmRate::try_from(n).ok()
 }
 
-pub fn cutoff_number(cutoff: Cutoff) -> u64
-    ensures { result ≡ codes.cutoff_number cutoff }
+#[tactic(auto, unfolding(reference::specs::Codes::cutoff_from, crate::specs::Codes::if_known, crate::specs::Codes::cutoff_of))]
+pub fn cutoff_of(n: u8) -> Option<Cutoff>
+    ensures { result ≡ if_known (codes.known_cutoff n) (codes.cutoff_of n) }
 {
-    match cutoff {
-        Cutoff::Standard => 0,
-        Cutoff::Low => 1,
-        Cutoff::Wide => 2,
-    }
-}
-
-pub fn cutoff_of(n: u8) -> Cutoff
-    ensures { result ≡ codes.cutoff_of n }
-{
-    if n == 0 {
-        return Cutoff::Standard;
-    }
-    if n == 1 {
-        return Cutoff::Low;
-    }
-    Cutoff::Wide
-}
-
-// Both hold.
-pub fn both(a: bool, b: bool) -> bool
-    ensures { result ≡ (a && b) }
-{
-    if a { b } else { false }
+    Cutoff::try_from(n).ok()
 }
 
 // A flag is 0 or 1.
-pub fn known_flag(n: u8) -> bool
-    ensures { result ≡ codes.known_flag n }
+#[tactic(auto, unfolding(crate::specs::Codes::if_known))]
+pub fn flag_of(n: u8) -> Option<bool>
+    ensures { result ≡ if_known (codes.known_flag n) (codes.flag n) }
 {
-    n < 2
+    match n {
+        0 => Some(false),
+        1 => Some(true),
+        _ => None,
+    }
 }
 
-// A rate, a cutoff, a gain's length and a flag that are understood.
-pub fn known_settings(rate: u32, cutoff: u8, floats: usize, own: u8) -> bool
-    ensures { result ≡ known_settings rate cutoff floats own }
+// A gain record from decibels and factor.
+#[tactic(auto, unfolding(crate::specs::Codes::if_known))]
+pub fn gain_of(gain: &[f64]) -> Option<Gain>
+    ensures { result ≡ if_known (spelled.known_gain gain.now) (spelled.gain_of gain.now) }
 {
-    let known_rate = hertz(rate_of(rate)) == rate as u64;
-    let known_cutoff = cutoff_number(cutoff_of(cutoff)) == cutoff as u64;
-    both(
-        known_rate,
-        both(known_cutoff, both(floats == 2, known_flag(own))),
-    )
+    let &[db, linear] = gain else { return None };
+    Some(Gain { db, linear })
 }
 
 // A tap of a list, and 0 past its end.
 fn tap(taps: &[i32], k: usize) -> i32
     ensures { result ≡ stages.tap taps.now k }
 {
-    if k < taps.len() { taps[k] } else { 0 }
+    taps.get(k).copied().unwrap_or(0)
 }
 
-// A list of taps as a filter record.
+// A list of taps as a filter record, with 0 past the list's end.
 fn listed(taps: &[i32]) -> Filter
     ensures { result ≡ spelled.listed taps.now }
 {
     let mut made = [0i32; 117];
-    let mut k = 0usize;
-    while k < 117 {
-        let t = tap(taps, k);
-        made[k] = t;
-        k += 1;
+    for (k, place) in made.iter_mut().enumerate() {
+        *place = tap(taps, k);
     }
     Filter {
         taps: made,
@@ -101,69 +70,85 @@ fn listed(taps: &[i32]) -> Filter
     }
 }
 
-// A gain record from decibels and factor.
-pub fn gain_of(gain: &[f64]) -> Gain
-    requires { length gain.now ≡ 2 }
-    ensures { result ≡ spelled.gain_of gain.now }
-{
-    Gain {
-        db: gain[0],
-        linear: gain[1],
+// Settings as numbers and lists: the gain as decibels and factor, and the taps of a filter, which is given if the flag `own` says so.
+#[derive(Clone, Copy)]
+pub struct SettingNumbers<'a> {
+    pub rate: u32,
+    pub cutoff: u8,
+    pub channels: u8,
+    pub gain: &'a [f64],
+    pub own: u8,
+    pub taps: &'a [i32],
+}
+
+impl SettingNumbers<'_> {
+    // The settings that known numbers stand for.
+    #[tactic(auto, using(crate::proofs::Known::some_known, crate::proofs::Known::none_known), unfolding(crate::specs::Settings::settings_of))]
+    pub fn settings(self) -> Option<Settings>
+        ensures { result ≡ if_known (known (spelled.as_settings self.entry)) (settings_of (spelled.as_settings self.entry)) }
+    {
+        Some(Settings {
+            rate: rate_of(self.rate)?,
+            cutoff: cutoff_of(self.cutoff)?,
+            channels: self.channels,
+            gain: gain_of(self.gain)?,
+            filter: flag_of(self.own)?.then_some(listed(self.taps)),
+        })
     }
 }
 
-// The settings that the numbers of known ones stand for.
-pub fn settings(
-    rate: u32,
-    cutoff: u8,
-    channels: u8,
-    gain: &[f64],
-    own: u8,
-    taps: &[i32],
-) -> Settings
-    requires { length gain.now ≡ 2 }
-    ensures { result ≡ settings_of (c_settings rate cutoff channels gain.now own taps.now) }
-{
-    let rate = rate_of(rate);
-    let cutoff = cutoff_of(cutoff);
-    let gain = gain_of(gain);
-    let filter = listed(taps);
-    Settings {
-        rate,
-        cutoff,
-        channels,
-        gain,
-        own: own == 1,
-        filter,
+// A converter as its settings, and in one list the three numbers that it stores.
+#[derive(Clone, Copy)]
+pub struct ConverterNumbers<'a> {
+    pub settings: SettingNumbers<'a>,
+    pub stored: &'a [u64],
+}
+
+impl ConverterNumbers<'_> {
+    // The converter that known numbers stand for, its stored numbers as they are given.
+    #[tactic(auto, using(crate::proofs::Known::some_known, crate::proofs::Known::none_known), unfolding(crate::specs::Settings::settings_of, crate::specs::Settings::held_converter))]
+    pub fn converter(self) -> Option<Converter>
+        ensures { result ≡ if_known (known_converter (spelled.as_converter self.entry)) (held_converter (spelled.as_converter self.entry)) }
+    {
+        let s = self.settings.settings()?;
+        let &[samples_per_frame, reach, frame_length] = self.stored else {
+            return None
+        };
+        Some(Converter {
+            rate: s.rate,
+            cutoff: s.cutoff,
+            channels: s.channels,
+            gain: s.gain,
+            filter: s.filter(),
+            samples_per_frame: samples_per_frame as usize,
+            reach: reach as usize,
+            frame_length: frame_length as usize,
+        })
     }
 }
 
-// The converter that known numbers stand for, its stored numbers as they are given.
-pub fn converter(
-    rate: u32,
-    cutoff: u8,
-    channels: u8,
-    gain: &[f64],
-    own: u8,
-    taps: &[i32],
-    numbers: &[u64],
-) -> Converter
-    requires { (length gain.now ≡ 2) × (length numbers.now ≡ 3) }
-    ensures { result ≡ held_converter (c_converter (c_settings rate cutoff channels gain.now own taps.now) numbers.now) }
-{
-    let s = settings(rate, cutoff, channels, gain, own, taps);
-    let rate = s.rate;
-    let cutoff = s.cutoff;
-    let gain = s.gain;
-    let filter = reference::filter_of(s);
-    Converter {
-        rate,
-        cutoff,
-        channels,
-        gain,
-        filter,
-        samples_per_frame: numbers[0] as usize,
-        reach: numbers[1] as usize,
-        frame_length: numbers[2] as usize,
+// A run of frames whose neighbours are there by a flag.
+#[derive(Clone, Copy)]
+pub struct RunNumbers<'a> {
+    pub has_before: u8,
+    pub before: &'a [u8],
+    pub frames: &'a [u8],
+    pub has_after: u8,
+    pub after: &'a [u8],
+}
+
+impl<'a> RunNumbers<'a> {
+    // The run that known flags stand for.
+    #[tactic(auto, unfolding(crate::specs::Codes::if_known))]
+    pub fn run(self) -> Option<Run<'a>>
+        ensures { result ≡ if_known (codes.known_flag self.entry.has_before && codes.known_flag self.entry.has_after) (spelled.run_record self.entry) }
+    {
+        Some(Run {
+            has_before: flag_of(self.has_before)?,
+            before: self.before,
+            frames: self.frames,
+            has_after: flag_of(self.has_after)?,
+            after: self.after,
+        })
     }
 }

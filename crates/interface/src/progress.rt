@@ -1,44 +1,23 @@
-// What is in progress at full scale, and overs, as the interface's numbers.
+// What is in progress at full scale, and overs, as the interface's numbers: an end is 1 for the highest, 2 for the lowest, and
+// 0 for none.
 ghost use Rattle.std.specs.Prelude.{◌≡◌, length};
+ghost use Rattle.interface.specs.Codes.{if_known};
 ghost use Rattle.interface.specs.Progress as numbers;
 
-use overs::{End, OverCount, Progress};
+use overs::{End, OverCount, Progress, Standing};
 
-fn end_number(end: End) -> u64
-    ensures { result ≡ numbers.end_number end }
+// What is in progress, by its end's number, if that is known, and its length.
+#[tactic(auto, unfolding(crate::specs::Codes::if_known, crate::specs::Progress::progress_of))]
+pub fn in_progress(end: u8, length: u64) -> Option<Progress>
+    ensures { result ≡ if_known (numbers.known_end end) (numbers.progress_of end «length») }
 {
+    let at = |end| Some(Standing { end, length });
     match end {
-        End::Neither => 0,
-        End::High => 1,
-        End::Low => 2,
+        0 => Some(None),
+        1 => Some(at(End::High)),
+        2 => Some(at(End::Low)),
+        _ => None,
     }
-}
-
-fn end_of(n: u8) -> End
-    ensures { result ≡ numbers.end_of n }
-{
-    if n == 0 {
-        return End::Neither;
-    }
-    if n == 1 {
-        return End::High;
-    }
-    End::Low
-}
-
-// An end's number that is understood.
-pub fn known_end(n: u8) -> bool
-    ensures { result ≡ numbers.known_end n }
-{
-    end_number(end_of(n)) == n as u64
-}
-
-// What is in progress, by its end's number and its length.
-pub fn in_progress(end: u8, length: u64) -> Progress
-    ensures { result ≡ numbers.progress_of end «length» }
-{
-    let end = end_of(end);
-    Progress { end, length }
 }
 
 // Overs, and what is in progress after them, in a list of three.
@@ -46,9 +25,20 @@ pub fn tell_overs(o: OverCount, told: &mut [u64])
     requires { length told.old ≡ 3 }
     ensures { told.new ≡ numbers.over_numbers o }
 {
-    let next = o.next;
-    let end = next.end;
-    told[0] = o.count;
-    told[1] = end_number(end);
-    told[2] = next.length;
+    let (end, length) = match o.next {
+        None => (0, 0),
+        Some(
+            Standing {
+                end: End::High,
+                length,
+            },
+        ) => (1, length),
+        Some(
+            Standing {
+                end: End::Low,
+                length,
+            },
+        ) => (2, length),
+    };
+    told.copy_from_slice(&[o.count, end, length]);
 }

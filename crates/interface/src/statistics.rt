@@ -1,85 +1,80 @@
-// Statistics read out of four lists of six, where a mark is 1.
-ghost use Rattle.std.specs.Prelude.{◌≡◌, map, length};
-ghost use Rattle.interface.specs.Codes as codes;
-ghost use Rattle.interface.specs.Told.{stat_lists};
+// Statistics in four lists of six, by channel: clips, lowest and highest, and a mark, which is 1 where there are no samples.
+// Lowest and highest are 0 there.
+ghost use Rattle.std.specs.Prelude.{◌≡◌, length};
+ghost use Rattle.interface.specs.Codes.{if_known};
+ghost use Rattle.interface.specs.Told as told;
+ghost use Rattle.interface.specs.Told.{as_lists, stat_lists, told_stats};
 ghost use Rattle.interface.specs.Statistics as lists;
 
-use crate::codes::{both, known_flag};
-use crate::results::room_for_stats;
-use reference::ConvertStats;
+use crate::codes::flag_of;
+use reference::{ChannelStats, ConvertStats, Extremes};
 
-// Whether each of six marks is a flag.
-fn flags(empty: &[u8]) -> bool
-    requires { length empty.now ≡ 6 }
-    ensures { result ≡ lists.flags empty.now 6 }
-{
-    let mut known = true;
-    let mut c = 0usize;
-    while c < 6 {
-        known = both(known, known_flag(empty[c]));
-        c += 1;
-    }
-    known
+// The four lists, to be read.
+#[derive(Clone, Copy)]
+pub struct StatNumbers<'a> {
+    pub clipped: &'a [u64],
+    pub lowest: &'a [i64],
+    pub highest: &'a [i64],
+    pub empty: &'a [u8],
 }
 
-// Whether the lists hold statistics.
-pub fn known_stats(clipped: &[u64], lowest: &[i64], highest: &[i64], empty: &[u8]) -> bool
-    ensures { result ≡ lists.known_stats (stat_lists clipped.now lowest.now highest.now empty.now) }
-{
-    if room_for_stats(clipped.len(), lowest.len(), highest.len(), empty.len()) {
-        return flags(empty);
+impl StatNumbers<'_> {
+    // Whether they have their lengths.
+    pub fn fit(self) -> bool
+        ensures { result ≡ told.has_room (as_lists self.entry) }
+    {
+        self.clipped.len() == 6
+            && self.lowest.len() == 6
+            && self.highest.len() == 6
+            && self.empty.len() == 6
     }
-    false
+
+    // The statistics that they hold, where each mark is a flag.
+    #[tactic(auto, using(crate::proofs::Known::unknown_mark, crate::proofs::Known::filled_to), unfolding(crate::specs::Codes::if_known, crate::specs::Statistics::known_stats, crate::specs::Statistics::held_stats, crate::specs::Statistics::held_channel, crate::specs::Statistics::flags))]
+    pub fn stats(self) -> Option<ConvertStats>
+        ensures { result ≡ if_known (lists.known_stats (as_lists self.entry)) (lists.held_stats (as_lists self.entry)) }
+    {
+        if !self.fit() {
+            return None;
+        }
+        let mut channels = [ChannelStats::none(); 6];
+        for c in 0..6 {
+            let ends = Extremes {
+                lowest: self.lowest[c],
+                highest: self.highest[c],
+            };
+            let empty = flag_of(self.empty[c])?;
+            channels[c] = ChannelStats {
+                clipped: self.clipped[c],
+                extremes: (!empty).then_some(ends),
+            };
+        }
+        Some(ConvertStats { channels })
+    }
 }
 
-fn counts(list: &[u64]) -> [u64; 6]
-    requires { length list.now ≡ 6 }
-    ensures { result ≡ list.now }
+// Statistics written in the lists.
+#[tactic(auto, using(crate::proofs::Known::filled_to), unfolding(crate::specs::Told::told_stats, reference::specs::Statistics::channel_of))]
+pub fn put_stats(
+    stats: ConvertStats,
+    clipped: &mut [u64],
+    lowest: &mut [i64],
+    highest: &mut [i64],
+    empty: &mut [u8],
+)
+    requires { (length clipped.old ≡ 6) × (length lowest.old ≡ 6) × (length highest.old ≡ 6) × (length empty.old ≡ 6) }
+    ensures { stat_lists clipped.new lowest.new highest.new empty.new ≡ told_stats stats }
 {
-    let mut six = [0u64; 6];
-    let mut c = 0usize;
-    while c < 6 {
-        six[c] = list[c];
-        c += 1;
-    }
-    six
-}
-
-fn levels(list: &[i64]) -> [i64; 6]
-    requires { length list.now ≡ 6 }
-    ensures { result ≡ list.now }
-{
-    let mut six = [0i64; 6];
-    let mut c = 0usize;
-    while c < 6 {
-        six[c] = list[c];
-        c += 1;
-    }
-    six
-}
-
-fn marks(list: &[u8]) -> [bool; 6]
-    requires { length list.now ≡ 6 }
-    ensures { result ≡ map codes.flag list.now }
-{
-    let mut six = [true; 6];
-    let mut c = 0usize;
-    while c < 6 {
-        six[c] = list[c] == 1;
-        c += 1;
-    }
-    six
-}
-
-// The statistics that the lists hold.
-pub fn held_stats(clipped: &[u64], lowest: &[i64], highest: &[i64], empty: &[u8]) -> ConvertStats
-    requires { (length clipped.now ≡ 6) × (length lowest.now ≡ 6) × (length highest.now ≡ 6) × (length empty.now ≡ 6) }
-    ensures { result ≡ lists.held_stats (stat_lists clipped.now lowest.now highest.now empty.now) }
-{
-    ConvertStats {
-        clipped: counts(clipped),
-        lowest: levels(lowest),
-        highest: levels(highest),
-        empty: marks(empty),
+    let none = Extremes {
+        lowest: 0,
+        highest: 0,
+    };
+    for c in 0..6 {
+        let channel = stats.channels[c];
+        let ends = channel.extremes.unwrap_or(none);
+        clipped[c] = channel.clipped;
+        lowest[c] = ends.lowest;
+        highest[c] = ends.highest;
+        empty[c] = u8::from(channel.extremes.is_none());
     }
 }

@@ -21,10 +21,9 @@ use Rattle.reference.specs.Settings.{built_in, filter_of, converter_of, true_num
 use Rattle.reference.specs.Figures.{mono}
 use Rattle.reference.specs.Output.{samples_per_frame, channel_samples, all_samples, samples, stats, s24le}
 use Rattle.reference.specs.Refusals.{rack, number, accepted, refused, Place, decide, is_accepted, unsupported, filter_places, opening_places, held_places, input_places, run_length, one_long, if_present, lent_length, byte_lengths, run_lengths, convert_places, convert_run_places}
-use Rattle.reference.specs.Promises.{if_lent}
-use Rattle.reference.specs.Statistics.{no_stats}
+use Rattle.reference.specs.Promises.{stats_told, if_lent}
 use Rattle.reference.specs.declared.Converter.{Converter}
-use Rattle.reference.specs.declared.Verdict.TheVariants as verdict
+use Rattle.std.specs.Prelude.{Ok, Err}
 use Rattle.reference.specs.declared.PcmError.TheVariants as error
 use Rattle.reference.proofs.Frames.{some_samples}
 use Rattle.reference.proofs.Filters.{built_in_passes}
@@ -81,7 +80,7 @@ module _ (conv : Converter) (opens : decide (held_places conv) ≡ accepted) (so
   first_fits = decide_skip (held_places conv) _ opens ∙ first_lengths
 
   first_call : ConvertCall conv
-  unfolding if_lent
+  unfolding if_lent stats_told
   first_call = record {
     whose = rack;
     run = first;
@@ -90,7 +89,7 @@ module _ (conv : Converter) (opens : decide (held_places conv) ≡ accepted) (so
     counts = [];
     out' = s24le (samples conv first);
     counts' = [];
-    answer = record { verdict = verdict.Accepted; stats = stats conv first };
+    answer = Ok (stats conv first);
     promise = record {
       answered = record { decided = sym first_fits; counted = sym (exit_accepted _ _ _ first_fits) };
       written = sym (exit_accepted _ _ _ first_fits);
@@ -119,6 +118,7 @@ module _ (conv : Converter) (opens : decide (held_places conv) ≡ accepted) (so
   is_refused = ap is_accepted short_refused
 
   short_call : ConvertCall conv
+  unfolding stats_told
   short_call = record {
     whose = rack;
     run = first;
@@ -127,7 +127,7 @@ module _ (conv : Converter) (opens : decide (held_places conv) ≡ accepted) (so
     counts = [];
     out' = [];
     counts' = [];
-    answer = record { verdict = verdict.Refused (error.OutputBytes 0 (3 * all_samples conv first)); stats = no_stats };
+    answer = Err (error.OutputBytes 0 (3 * all_samples conv first));
     promise = record {
       answered = record { decided = sym short_refused; counted = sym (exit_refused _ _ _ is_refused) };
       written = sym (exit_refused _ _ _ is_refused);
@@ -150,11 +150,12 @@ module _ (conv : Converter) (opens : decide (held_places conv) ≡ accepted) (so
   second_fits = decide_skip (held_places conv) _ opens ∙ second_lengths
 
   second_call : ConvertRunCall conv
+  unfolding stats_told
   second_call = record {
     run = second;
     out = numbers;
     out' = samples conv second;
-    answer = record { verdict = verdict.Accepted; stats = stats conv second };
+    answer = Ok (stats conv second);
     promise = record {
       answered = record { decided = sym second_fits; counted = sym (exit_accepted _ _ _ second_fits) };
       written = sym (exit_accepted _ _ _ second_fits);

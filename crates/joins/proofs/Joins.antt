@@ -7,14 +7,14 @@ use native.Mathlib.Nat.{div-eq_of_eq-mul_left, mul-le-mul}
 use native.Mathlib.Omega.{arith}
 use borrow.Author.Tests.{ltb-true}
 use lib.Dec.{ltb}
-use lib.ListN.{length, get_or, length-append}
+use lib.ListN.{length, length-append}
 use Rattle.numbers.specs.Lists.{tabulate, total, count, Each}
-use Rattle.numbers.proofs.Lists.{get_d_tabulate, tabulate_join, total_join}
+use Rattle.numbers.proofs.Lists.{tabulate_join, total_join}
 use Rattle.reference.specs.Frames.{Run, frame_length, frame_count, sequence}
-use Rattle.reference.specs.Output.{samples_per_frame, clipped, item, channel_samples, all_samples, samples, channel_clips, stats, frame_clips, per_frame_clips}
+use Rattle.reference.specs.Output.{samples_per_frame, clipped, item, channel_samples, all_samples, samples, channel_clips, channel_stats, stats, frame_clips, per_frame_clips}
 use Rattle.reference.specs.Refusals.{rack, accepted, decide, decision, is_accepted, held_places, input_places, byte_lengths, run_lengths, convert_places, convert_run_places}
-use Rattle.reference.specs.Promises.{if_lent}
-use Rattle.reference.specs.Statistics.{no_stats, all_joined}
+use Rattle.reference.specs.Promises.{stats_told, if_lent}
+use Rattle.reference.specs.Statistics.{channel_of, no_stats, all_joined}
 use Rattle.reference.specs.declared.Converter.{Converter}
 use Rattle.reference.specs.declared.ConvertStats.{ConvertStats}
 use Rattle.reference.specs.declared.Limit.{Limit}
@@ -24,6 +24,7 @@ use Rattle.reference.proofs.Promises.{accepted_is, exit_accepted, exit_refused}
 use Rattle.joins.specs.Joins.{read_s24le, Call, convert, convert_run, ConvertCall, ConvertRunCall, run_of, answer_of, samples_of, clips_of, lends, counts_of, lengths, right_lengths, is_answered_accepted, Unchanged, keep, pieces, AllAgree, Decided, add_up, accepted_calls, CutRunsJoin}
 use Rattle.joins.proofs.Pieces.{PieceOf, piece_samples, piece_clips, piece_counts}
 use Rattle.joins.proofs.Bytes.{samples_back}
+use Rattle.reference.proofs.Statistics.{at_channel}
 use Rattle.joins.proofs.Statistics.{stretch, stats_stretch, stretch_none, stretch_join, piece_stretch}
 
 -- ---- lists
@@ -69,7 +70,7 @@ record Gives {conv : Converter} (call : Call conv) : Type 0 where
   sampled : samples_of call ≡ samples conv (run_of call)
   clips : (c : ℕ) → c < 6 → clips_of call c ≡ channel_clips conv (run_of call) c
   counts : lends call ≡ true → counts_of call ≡ per_frame_clips conv (run_of call)
-  told : (answer_of call).stats ≡ stats conv (run_of call)
+  told : stats_told (answer_of call) ≡ stats conv (run_of call)
 
 module _ (conv : Converter) (opens : decide (held_places conv) ≡ accepted) where
   -- the places from the run length on decide
@@ -81,7 +82,7 @@ module _ (conv : Converter) (opens : decide (held_places conv) ≡ accepted) whe
   unfolding convert_run_places
   run_skip c = decide_skip (held_places conv) _ opens
 
-  answered : (call : Call conv) → decision (answer_of call).verdict ≡ decide (lengths call)
+  answered : (call : Call conv) → decision (answer_of call) ≡ decide (lengths call)
   answered (convert c) = c.promise.answered.decided ∙ convert_skip c
   answered (convert_run c) = c.promise.answered.decided ∙ run_skip c
 
@@ -89,7 +90,7 @@ module _ (conv : Converter) (opens : decide (held_places conv) ≡ accepted) whe
   unfolding is_answered_accepted right_lengths
   accepted_right call = ap is_accepted (answered call)
 
-  left : (call : Call conv) → is_accepted (decide (lengths call)) ≡ false → Unchanged call × ((answer_of call).stats ≡ no_stats)
+  left : (call : Call conv) → is_accepted (decide (lengths call)) ≡ false → Unchanged call × (stats_told (answer_of call) ≡ no_stats)
   left (convert c) e =
       let no = ap is_accepted (convert_skip c) ∙ e in
       ((c.promise.written ∙ exit_refused _ _ _ no, c.promise.per_frame ∙ exit_refused _ _ _ no), c.promise.answered.counted ∙ exit_refused _ _ _ no)
@@ -106,9 +107,9 @@ module _ (conv : Converter) (opens : decide (held_places conv) ≡ accepted) whe
     uncounted = λ e. (left call e).1;
   }
 
-  clips_at : (r : Run) (s : ConvertStats) → s ≡ stats conv r → (c : ℕ) → c < 6 → get_or s.clipped c 0 ≡ channel_clips conv r c
-  unfolding stats
-  clips_at r s e c h = ap (λ (t : ConvertStats). get_or t.clipped c 0) e ∙ get_d_tabulate (channel_clips conv r) 0 6 c 0 h ∙ ap (channel_clips conv r) (omega arith)
+  clips_at : (r : Run) (s : ConvertStats) → s ≡ stats conv r → (c : ℕ) → c < 6 → (channel_of s c).clipped ≡ channel_clips conv r c
+  unfolding stats channel_stats channel_of
+  clips_at r s e c h = ap (λ (t : ConvertStats). (channel_of t c).clipped) e ∙ ap (λ t. t.clipped) (at_channel (channel_stats conv r) c h)
 
   lent_list : (b : Bool) (new old : List ℕ) → b ≡ true → if_lent b new old ≡ new
   unfolding if_lent
@@ -164,7 +165,7 @@ module _ (conv : Converter) where
     sampled : flat_map samples_of ds ≡ tabulate (item conv r) (a * per * ch) (frames_in ds * per * ch)
     clips : (c : ℕ) → c < 6 → add_up (map (λ call. clips_of call c) ds) ≡ cond (ltb c ch) (count (clipped conv r c) (a * per) (frames_in ds * per)) 0
     counts : Each (λ call. lends call ≡ true) ds → flat_map counts_of ds ≡ tabulate (frame_clips conv r) a (frames_in ds)
-    told : frames_in ds * per < 2 ^ 64 → all_joined (map (λ call. (answer_of call).stats) ds) ≡ stretch conv r (a * per) (frames_in ds * per)
+    told : frames_in ds * per < 2 ^ 64 → all_joined (map (λ call. stats_told (answer_of call)) ds) ≡ stretch conv r (a * per) (frames_in ds * per)
 
   module _ (opens : decide (held_places conv) ≡ accepted) (r : Run) (fits : decide (input_places rack conv r) ≡ accepted) where
     from : (ds : List (Call conv)) → Each Gives ds → (a : ℕ) (done : List ℕ) → r.frames ≡ done ++ bytes_in ds → length done ≡ a * frame_length ch

@@ -6,10 +6,9 @@ use Rattle.reference.specs.Frames.{Run, frame_bytes, frame_count, frame, before_
 use Rattle.reference.specs.Settings.{reach_of}
 use Rattle.reference.specs.Output.{samples, channel_clips, per_frame_clips, stats}
 use Rattle.reference.specs.Refusals.{rack, accepted, Place, decide, decision, is_accepted, held_places, input_places, byte_lengths, run_lengths}
-use Rattle.reference.specs.Promises.{BytesPromise, ConvertRunPromise}
-use Rattle.reference.specs.Statistics.{no_stats, all_joined}
+use Rattle.reference.specs.Promises.{Converted, stats_told, BytesPromise, ConvertRunPromise}
+use Rattle.reference.specs.Statistics.{channel_of, no_stats, all_joined}
 use Rattle.reference.specs.declared.Converter.{Converter}
-use Rattle.reference.specs.declared.Converted.{Converted}
 use Rattle.reference.specs.declared.Limit.{Limit}
 
 -- ---- a call: what it was given, what the lent lists held at entry and at exit, its answer, and its promise
@@ -60,7 +59,7 @@ module _ {conv : Converter} where
   samples_of (convert_run c) = c.out'
 
   abbrev pub clips_of : Call conv → ℕ → ℕ
-  clips_of call c = get_or (answer_of call).stats.clipped c 0
+  clips_of call c = (channel_of (stats_told (answer_of call)) c).clipped
 
   -- whether the call lends the per-frame list, and that list at exit
   abbrev pub lends : Call conv → Bool
@@ -81,7 +80,7 @@ module _ {conv : Converter} where
   right_lengths call = is_accepted (decide (lengths call))
 
   unfoldable pub is_answered_accepted : Call conv → Bool
-  is_answered_accepted call = is_accepted (decision (answer_of call).verdict)
+  is_answered_accepted call = is_accepted (decision (answer_of call))
 
   -- every lent list holds what it held
   abbrev pub Unchanged : Call conv → Type 0
@@ -134,7 +133,7 @@ pub record Decided {conv : Converter} (call : Call conv) : Type 0 where
   pub right : right_lengths call ≡ true → is_answered_accepted call ≡ true
   pub wrong : right_lengths call ≡ false → is_answered_accepted call ≡ false
   pub unchanged : right_lengths call ≡ false → Unchanged call
-  pub uncounted : right_lengths call ≡ false → (answer_of call).stats ≡ no_stats
+  pub uncounted : right_lengths call ≡ false → stats_told (answer_of call) ≡ no_stats
 
 -- n₀ + n₁ + …
 unfoldable pub add_up : List ℕ → ℕ
@@ -152,7 +151,7 @@ pub record GiveWholeRun {conv : Converter} (r : Run) (calls : List (Call conv)) 
   pub counted : (c : ℕ) → c < 6 → add_up (map (λ call. clips_of call c) (accepted_calls calls)) ≡ channel_clips conv r c
   pub per_frame : ((call : Call conv) → Memᴰ call (accepted_calls calls) → lends call ≡ true)
       → flat_map counts_of (accepted_calls calls) ≡ per_frame_clips conv r
-  pub told : all_joined (map (λ call. (answer_of call).stats) (accepted_calls calls)) ≡ stats conv r
+  pub told : all_joined (map (λ call. stats_told (answer_of call)) (accepted_calls calls)) ≡ stats conv r
 
 -- demand 3, proved in proofs/Joins
 abbrev pub CutRunsJoin : Type 0

@@ -11,6 +11,7 @@ ghost use Rattle.routes.specs.Routes.{SomeTaps, Taps, FirstTables, State, Brough
 use reference::{Cutoff, PcmRate};
 
 // Samples of a block.
+#[tactic(auto, unfolding(routes::specs::Routes::block_length))]
 pub fn block_length(rate: PcmRate, cutoff: Cutoff) -> usize
     ensures { (result ≡ block_length rate cutoff) × (0 < result) × (result ≤ 336) }
 {
@@ -25,6 +26,7 @@ pub fn block_length(rate: PcmRate, cutoff: Cutoff) -> usize
 }
 
 // Values of x that a block brings. At 352,800 a frame's first block of Standard or Low brings also the 16 of w before it.
+#[tactic(auto, unfolding(routes::specs::Routes::fresh))]
 pub fn fresh(rate: PcmRate, cutoff: Cutoff, first: bool) -> usize
     ensures { (result ≡ Routes.fresh rate cutoff first) × (result ≤ 336) }
 {
@@ -43,6 +45,7 @@ pub fn fresh(rate: PcmRate, cutoff: Cutoff, first: bool) -> usize
 }
 
 // Bytes from one value of x to the next, and bytes around a value beside its own.
+#[tactic(auto, unfolding(routes::specs::Routes::stride))]
 pub fn stride(cutoff: Cutoff) -> usize
     ensures { (result ≡ Routes.stride cutoff) × (result ≤ 2) }
 {
@@ -52,6 +55,7 @@ pub fn stride(cutoff: Cutoff) -> usize
     }
 }
 
+#[tactic(auto, unfolding(routes::specs::Routes::around))]
 pub fn around(cutoff: Cutoff) -> usize
     ensures { (result ≡ Routes.around cutoff) × (result ≤ 36) }
 {
@@ -63,6 +67,7 @@ pub fn around(cutoff: Cutoff) -> usize
 
 // The first byte that the margin of a frame depends on: as many before the byte of the frame's first sample n as document 01's reach. The last
 // filter has taps up to place m.
+#[tactic(auto, unfolding(routes::specs::Routes::first_byte, routes::specs::Routes::margin_from))]
 pub fn start(rate: PcmRate, cutoff: Cutoff, m: usize, n: usize) -> usize
     requires { (m ≤ 116) × (1000 ≤ n) × (n < 1000000000000) × (n % 2 ≡ 0) }
     ensures { (result ≡ first_byte cutoff (margin_from rate cutoff m true n)) × (result ≤ 4 * n) }
@@ -84,6 +89,8 @@ pub fn start(rate: PcmRate, cutoff: Cutoff, m: usize, n: usize) -> usize
 }
 
 // The margin of x: n values from the front of `bytes`.
+// In line in both forms of an output, as `block` is: its lengths are then known numbers to the compiler.
+#[inline(always)]
 pub fn margin(
     cutoff: Cutoff,
     tables: &[i32],
@@ -112,6 +119,7 @@ pub fn margin(
 }
 
 // A block of y, at its front, from the front of `bytes`; the arrays go on to the next block.
+#[inline(always)]
 pub fn block(
     rate: PcmRate,
     cutoff: Cutoff,

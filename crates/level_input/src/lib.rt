@@ -1,7 +1,7 @@
 // Reading from a reader, which may give its bytes in pieces of any size; and the buffer of three frames moved on.
 #![tactic(auto)]
 
-ghost use Rattle.std.specs.Prelude.{◌≡◌, ◌+◌, ◌*◌, ◌<◌, ◌≤◌, length, IfOk};
+ghost use Rattle.std.specs.Prelude.{◌≡◌, ◌+◌, ◌*◌, ◌<◌, ◌≤◌, length, IfOk, IfSome};
 ghost use Rattle.level_input.specs.Moved.{moved_on};
 
 use std::io;
@@ -12,15 +12,15 @@ pub fn read_some<R: Read>(from: &mut R, bytes: &mut [u8], n: usize) -> io::Resul
     requires { n < length bytes.old }
     ensures { IfOk result (λ more. n + more ≤ length bytes.old) }
 {
-    let part = &mut bytes[n..];
-    from.read(part)
+    from.read(&mut bytes[n..])
 }
 
 // Reads until the slice is full, the input ends or a read fails: how many bytes came. Fewer than asked for mean that the input has ended.
 pub fn fill<R: Read>(from: &mut R, bytes: &mut [u8]) -> io::Result<usize>
     ensures { IfOk result (λ n. n ≤ length bytes.old) }
 {
-    let mut n = 0usize;
+    let mut n = 0;
+    // By as many bytes as a read gives: no step is that of a `for`.
     while n < bytes.len() {
         let more = read_some(from, bytes, n)?;
         if more == 0 {
@@ -31,39 +31,27 @@ pub fn fill<R: Read>(from: &mut R, bytes: &mut [u8]) -> io::Result<usize>
     Ok(n)
 }
 
-// What came of a line: its bytes without the newline, and whether the newline came.
-#[derive(Clone, Copy)]
-pub struct Line {
-    pub n: usize,
-    pub whole: bool,
-}
-
-// Reads a line byte by byte, and no byte past its newline or past the slice.
-pub fn read_line<R: Read>(from: &mut R, line: &mut [u8]) -> io::Result<Line>
-    ensures { IfOk result (λ came. came.n ≤ length line.old) }
+// Reads a line byte by byte, and no byte past its newline or past the slice: how many bytes stand before the newline, where it came.
+pub fn read_line<R: Read>(from: &mut R, line: &mut [u8]) -> io::Result<Option<usize>>
+    ensures { IfOk result (λ came. IfSome came (λ n. n ≤ length line.old)) }
 {
-    let mut n = 0usize;
-    while n < line.len() {
+    for n in 0..line.len() {
         let got = fill(from, &mut line[n..n + 1])?;
         if got == 0 {
-            return Ok(Line { n, whole: false });
+            return Ok(None);
         }
         if line[n] == b'\n' {
-            return Ok(Line { n, whole: true });
+            return Ok(Some(n));
         }
-        n += 1;
     }
-    Ok(Line { n, whole: false })
+    Ok(None)
 }
 
 // Moves the frames one place to the front.
+#[tactic(auto, using(crate::proofs::Moving::all_moved))]
 pub fn move_on(three: &mut [u8], size: usize)
     requires { length three.old ≡ 3 * size }
     ensures { three.new ≡ moved_on size three.old }
 {
-    let mut k = 0usize;
-    while k < 2 * size {
-        three[k] = three[size + k];
-        k += 1;
-    }
+    three.copy_within(size.., 0);
 }

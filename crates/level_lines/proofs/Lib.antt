@@ -1,3 +1,4 @@
 pub mod Printing
 pub mod Numerals
 pub mod Signs
+pub mod Writing

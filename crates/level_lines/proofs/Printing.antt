@@ -7,15 +7,17 @@ use native.Mathlib.Nat.{zero-add}
 use native.Mathlib.Numerals.{add-one}
 use native.Mathlib.Omega.{arith}
 use lib.ListN.{length, take, drop, set, length-append, drop_of_length-le}
-use lib.Seq.{paste, take-length, set_split, length-take-le, take_all, take_at, drop_at, drop-drop}
+use borrow.Rule.Slice.PartMut.{put_mid}
+use lib.Seq.{set_split, length-take-le, take_all, take_at, drop_at, drop-drop}
 use Rattle.numbers.specs.Lists.{tabulate}
 use Rattle.numbers.proofs.Lists.{below_or}
 use Rattle.level_lines.specs.Text.{joined, with_text, Printed}
 use Rattle.level_lines.specs.Lines.{printed}
 
-pub copied : (old : List ℕ) (at : ℕ) (t : List ℕ) → Printed t old at (paste old at t (length t)) (at + length t)
+-- a part of the list written as a text
+pub overwritten : (old : List ℕ) (at k : ℕ) {t new : List ℕ} → new ≡ t → k ≡ length t → Printed t old at (put_mid at k old new) (at + length t)
 unfolding with_text
-copied old at t = record { written = rw (take-length, append_assoc (take at old) t (drop (at + length t) old)); after = refl }
+overwritten old at k {t} e h = record { written = rw (e, h, drop-drop (length t) at old) refl; after = refl }
 
 pub byte : {old : List ℕ} {at : ℕ} (b : ℕ) → at < length old → Printed (b ∷ []) old at (set old at b) (at + 1)
 unfolding with_text

@@ -5,7 +5,9 @@ ghost use Rattle.std.specs.Prelude.{◌+◌, ◌≤◌, length};
 ghost use Rattle.level_lines.specs.Text.{Printed};
 ghost use Rattle.level_lines.specs.Lines as lines;
 
-pub mod text;
+mod text;
+
+pub use text::Text;
 
 // What is told of one channel of a frame.
 #[derive(Clone, Copy)]
@@ -22,13 +24,15 @@ pub fn level_line(out: &mut [u8], at: usize, f: u64, c: u64, level: Level) -> us
     ensures printed { Printed (lines.level_line f c level) out.old at out.new result }
     ensures upper_bound { result ≤ at + 144 }
 {
-    let mut n = text::labelled(out, at, b"frame ", f);
-    n = text::labelled(out, n, b" channel ", c);
-    n = text::labelled(out, n, b" clipped ", level.clipped);
-    n = text::labelled_signed(out, n, b" low ", level.low);
-    n = text::labelled_signed(out, n, b" high ", level.high);
-    n = text::labelled(out, n, b" over ", level.over);
-    text::put(out, n, b"\n")
+    let mut text = Text { out, at };
+    text.labelled(b"frame ", f);
+    text.labelled(b" channel ", c);
+    text.labelled(b" clipped ", level.clipped);
+    text.labelled_signed(b" low ", level.low);
+    text.labelled_signed(b" high ", level.high);
+    text.labelled(b" over ", level.over);
+    text.put(b"\n");
+    text.at
 }
 
 // The last line: frames, and clips over all of them.
@@ -37,9 +41,11 @@ pub fn last_line(out: &mut [u8], at: usize, frames: u64, clips: u64) -> usize
     ensures printed { Printed (lines.last_line frames clips) out.old at out.new result }
     ensures upper_bound { result ≤ at + 144 }
 {
-    let mut n = text::labelled(out, at, b"frames ", frames);
-    n = text::labelled(out, n, b" clipped ", clips);
-    text::put(out, n, b"\n")
+    let mut text = Text { out, at };
+    text.labelled(b"frames ", frames);
+    text.labelled(b" clipped ", clips);
+    text.put(b"\n");
+    text.at
 }
 
 // A refusal by its number.
@@ -48,6 +54,8 @@ pub fn refused_line(out: &mut [u8], at: usize, number: u64) -> usize
     ensures printed { Printed (lines.refused_line number) out.old at out.new result }
     ensures upper_bound { result ≤ at + 144 }
 {
-    let n = text::labelled(out, at, b"refused ", number);
-    text::put(out, n, b"\n")
+    let mut text = Text { out, at };
+    text.labelled(b"refused ", number);
+    text.put(b"\n");
+    text.at
 }

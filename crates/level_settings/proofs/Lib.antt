@@ -1,3 +1,5 @@
 pub mod Digits
 pub mod Negated
+pub mod Gains
+pub mod Words
 pub mod Fields

@@ -1,13 +1,12 @@
 -- The level report's first line, RATE CUTOFF CHANNELS DB.
-use Rattle.std.specs.Prelude.{◌≡◌, List, [], ◌∷◌, ℕ, ◌≤◌, pos, negsuc, ◌≤ℤ◌}
+use Rattle.std.specs.Prelude.{◌≡◌, List, [], ◌∷◌, ℕ, ◌≤◌, pos, negsuc, Option, Some, None, cond, ◌≤ℤ◌}
+use Rattle.std.specs.Str.{bytes_eq}
 use Rattle.reference.specs.declared.PcmRate.{PcmRate}
 use Rattle.reference.specs.declared.PcmRate.TheVariants.{Hz88200, Hz176400, Hz352800}
 use Rattle.reference.specs.declared.Cutoff.{Cutoff}
 use Rattle.reference.specs.declared.Cutoff.TheVariants.{Standard, Low, Wide}
 use Rattle.level_lines.specs.Text.{text, joined, decimal, signed}
 use Rattle.level_settings.specs.declared.LineSettings.{LineSettings}
-use Rattle.level_settings.specs.declared.FirstLine.{FirstLine}
-use Rattle.level_settings.specs.declared.FirstLine.TheVariants.{Set}
 
 unfoldable pub rate_text : PcmRate → List ℕ
 rate_text Hz88200 = text "88200"
@@ -18,6 +17,20 @@ unfoldable pub cutoff_text : Cutoff → List ℕ
 cutoff_text Standard = text "standard"
 cutoff_text Low = text "low"
 cutoff_text Wide = text "wide"
+
+-- the rate that a word names, if it names one
+unfoldable pub rate_named : List ℕ → Option PcmRate
+rate_named w =
+    cond (bytes_eq w (rate_text Hz88200)) (Some Hz88200)
+    (cond (bytes_eq w (rate_text Hz176400)) (Some Hz176400)
+    (cond (bytes_eq w (rate_text Hz352800)) (Some Hz352800) None))
+
+-- the cutoff
+unfoldable pub cutoff_named : List ℕ → Option Cutoff
+cutoff_named w =
+    cond (bytes_eq w (cutoff_text Standard)) (Some Standard)
+    (cond (bytes_eq w (cutoff_text Low)) (Some Low)
+    (cond (bytes_eq w (cutoff_text Wide)) (Some Wide) None))
 
 abbrev pub blank : List ℕ
 blank = 32 ∷ []
@@ -35,6 +48,6 @@ pub record InRange (s : LineSettings) : Type 0 where
   pub highest : s.db ≤ℤ pos 24
 
 -- what reading a line promises, in both directions: it takes the lines of settings in range, as those settings, and no other line
-pub record LineRead (line : List ℕ) (answer : FirstLine) : Type 0 where
-  pub takes : (s : LineSettings) → InRange s → line ≡ settings_line s → answer ≡ Set s
-  pub takes_only : (s : LineSettings) → answer ≡ Set s → InRange s × (line ≡ settings_line s)
+pub record LineRead (line : List ℕ) (answer : Option LineSettings) : Type 0 where
+  pub takes : (s : LineSettings) → InRange s → line ≡ settings_line s → answer ≡ Some s
+  pub takes_only : (s : LineSettings) → answer ≡ Some s → InRange s × (line ≡ settings_line s)

@@ -3,11 +3,12 @@
 
 ghost use Rattle.level_settings.specs.Settings.{LineRead};
 
+use byte_lists::split_once;
 use reference::{Cutoff, PcmRate};
 
 mod reading;
 
-pub use reading::{decibels, number};
+pub use reading::{cutoff_named, decibels, number, rate_named};
 
 // What the first line sets.
 #[derive(Clone, Copy)]
@@ -18,15 +19,21 @@ pub struct LineSettings {
     pub db: i32,
 }
 
-#[derive(Clone, Copy)]
-pub enum FirstLine {
-    Set(LineSettings),
-    Refused,
-}
-
 // Reads the first line, without its newline.
-pub fn first_line(line: &[u8]) -> FirstLine
+pub fn first_line(line: &[u8]) -> Option<LineSettings>
     ensures { LineRead line.now result }
 {
-    reading::rate(line)
+    let (word, line) = split_once(line, b' ')?;
+    let rate = rate_named(word)?;
+    let (word, line) = split_once(line, b' ')?;
+    let cutoff = cutoff_named(word)?;
+    let (word, line) = split_once(line, b' ')?;
+    let channels = reading::channels(word)?;
+    let db = decibels(line)?;
+    Some(LineSettings {
+        rate,
+        cutoff,
+        channels,
+        db,
+    })
 }

@@ -1,160 +1,115 @@
-// The first line, field by field. Each function takes what is left of the line.
-ghost use Rattle.std.specs.Prelude.{List, [], ◌∷◌, ◌++◌, ℕ, ◌≤◌, ◌<◌, length};
-ghost use Rattle.level_settings.specs.Settings.{LineRead};
-ghost use Rattle.level_settings.specs.Reading.{Skips, NumberRead, DecibelsRead, after_rate, after_cutoff, after_channels};
+// What the fields of the first line are taken for.
+ghost use Rattle.std.specs.Prelude.{◌≡◌, ◌↔◌, List, [], ◌∷◌, ◌++◌, ℕ, ◌<◌, Some, IsTrue, length};
+ghost use Rattle.level_settings.specs.Settings as names;
+ghost use Rattle.level_settings.specs.Reading.{NumberRead, ChannelsRead, DecibelsRead};
 
-use crate::{FirstLine, LineSettings};
 use reference::{Cutoff, PcmRate};
 
-// A word at the start of a line.
-fn skip(line: &[u8], word: &[u8]) -> usize
-    requires { 0 < length word.now }
-    ensures { Skips line.now word.now result }
+#[tactic(auto, unfolding(crate::specs::Settings::rate_named, crate::specs::Settings::rate_text, level_lines::specs::Text::text))]
+pub fn rate_named(word: &[u8]) -> Option<PcmRate>
+    ensures { result ≡ names.rate_named word.now }
 {
-    if line.len() < word.len() {
-        return 0;
+    if word == b"88200".as_slice() {
+        Some(PcmRate::Hz88200)
+    } else if word == b"176400".as_slice() {
+        Some(PcmRate::Hz176400)
+    } else if word == b"352800".as_slice() {
+        Some(PcmRate::Hz352800)
+    } else {
+        None
     }
-    let mut k = 0usize;
-    while k < word.len() {
-        if line[k] != word[k] {
-            return 0;
-        }
-        k += 1;
+}
+
+#[tactic(auto, unfolding(crate::specs::Settings::cutoff_named, crate::specs::Settings::cutoff_text, level_lines::specs::Text::text))]
+pub fn cutoff_named(word: &[u8]) -> Option<Cutoff>
+    ensures { result ≡ names.cutoff_named word.now }
+{
+    if word == b"standard".as_slice() {
+        Some(Cutoff::Standard)
+    } else if word == b"low".as_slice() {
+        Some(Cutoff::Low)
+    } else if word == b"wide".as_slice() {
+        Some(Cutoff::Wide)
+    } else {
+        None
     }
-    k
 }
 
 // A number's first digit.
-fn first(b: u8) -> u32
-    ensures { NumberRead (b ∷ []) result }
+fn digit(byte: u8) -> Option<u32>
+    ensures { NumberRead (byte ∷ []) result }
 {
-    if b < 48 {
-        return 1000;
+    match byte {
+        b'0'..=b'9' => Some(u32::from(byte - b'0')),
+        _ => None,
     }
-    if 57 < b {
-        return 1000;
-    }
-    (b - 48) as u32
 }
 
-// One digit more. None comes after 0.
-fn more(n: u32, b: u8) -> u32
-    ensures { (t : List ℕ) → 0 < length t → NumberRead t n → NumberRead (t ++ (b ∷ [])) result }
+// Whether a digit may come after a number: none comes after 0, nor after three.
+fn goes_on(n: u32) -> bool
+    ensures { IsTrue result ↔ ((0 < n) × (n < 100)) }
 {
-    let d = first(b);
-    if 9 < d {
-        return 1000;
-    }
-    if n == 0 {
-        return 1000;
-    }
-    if 99 < n {
-        return 1000;
-    }
-    n * 10 + d
+    0 < n && n < 100
 }
 
-// A number below 1000 to the text's end, and 1000 for any other text.
-pub fn number(text: &[u8]) -> u32
+// One digit more.
+fn more(n: u32, byte: u8) -> Option<u32>
+    ensures { (t : List ℕ) → 0 < length t → NumberRead t (Some n) → NumberRead (t ++ (byte ∷ [])) result }
+{
+    let digit = digit(byte)?;
+    if goes_on(n) {
+        Some(n * 10 + digit)
+    } else {
+        None
+    }
+}
+
+// A number below 1000 to the text's end.
+pub fn number(text: &[u8]) -> Option<u32>
     ensures { NumberRead text.now result }
 {
-    if text.len() == 0 {
-        return 1000;
+    let (first, rest) = text.split_first()?;
+    let mut n = digit(*first)?;
+    for byte in rest {
+        n = more(n, *byte)?;
     }
-    let mut n = first(text[0]);
-    let mut k = 1usize;
-    while k < text.len() {
-        n = more(n, text[k]);
-        k += 1;
-    }
-    n
+    Some(n)
 }
 
-// Whole decibels to the text's end: -120 to 24, and 25 for any other text. There is no -0.
-pub fn decibels(text: &[u8]) -> i32
+// One or two channels.
+pub fn channels(word: &[u8]) -> Option<u8>
+    ensures { ChannelsRead word.now result }
+{
+    match number(word)? {
+        1 => Some(1),
+        2 => Some(2),
+        _ => None,
+    }
+}
+
+// Decibels below 0, by their size.
+fn below(size: &[u8]) -> Option<i32>
+    ensures { DecibelsRead (45 ∷ size.now) result }
+{
+    let n = number(size)?;
+    if n == 0 || 120 < n {
+        return None;
+    }
+    Some(-(n as i32))
+}
+
+const MOST_DECIBELS: u32 = 24;
+
+// Whole decibels to the text's end: -120 to 24. There is no -0.
+pub fn decibels(text: &[u8]) -> Option<i32>
     ensures { DecibelsRead text.now result }
 {
-    let k = skip(text, b"-");
-    if 0 < k {
-        let m = number(&text[k..]);
-        if m == 0 {
-            return 25;
-        }
-        if 120 < m {
-            return 25;
-        }
-        return 0 - m as i32;
+    if let Some(size) = text.strip_prefix(b"-".as_slice()) {
+        return below(size);
     }
-    let n = number(text);
-    if 24 < n {
-        return 25;
+    let n = number(text)?;
+    if MOST_DECIBELS < n {
+        return None;
     }
-    n as i32
-}
-
-// The last field.
-fn gain(rate: PcmRate, cutoff: Cutoff, channels: u8, line: &[u8]) -> FirstLine
-    requires { (1 ≤ channels) × (channels ≤ 2) }
-    ensures { LineRead (after_channels rate cutoff channels line.now) result }
-{
-    let db = decibels(line);
-    if 24 < db {
-        return FirstLine::Refused;
-    }
-    FirstLine::Set(LineSettings {
-        rate,
-        cutoff,
-        channels,
-        db,
-    })
-}
-
-fn channels(rate: PcmRate, cutoff: Cutoff, line: &[u8]) -> FirstLine
-    ensures { LineRead (after_cutoff rate cutoff line.now) result }
-{
-    let k = skip(line, b"1 ");
-    if 0 < k {
-        return gain(rate, cutoff, 1, &line[k..]);
-    }
-    let k = skip(line, b"2 ");
-    if 0 < k {
-        return gain(rate, cutoff, 2, &line[k..]);
-    }
-    FirstLine::Refused
-}
-
-fn cutoff(rate: PcmRate, line: &[u8]) -> FirstLine
-    ensures { LineRead (after_rate rate line.now) result }
-{
-    let k = skip(line, b"standard ");
-    if 0 < k {
-        return channels(rate, Cutoff::Standard, &line[k..]);
-    }
-    let k = skip(line, b"low ");
-    if 0 < k {
-        return channels(rate, Cutoff::Low, &line[k..]);
-    }
-    let k = skip(line, b"wide ");
-    if 0 < k {
-        return channels(rate, Cutoff::Wide, &line[k..]);
-    }
-    FirstLine::Refused
-}
-
-pub fn rate(line: &[u8]) -> FirstLine
-    ensures { LineRead line.now result }
-{
-    let k = skip(line, b"88200 ");
-    if 0 < k {
-        return cutoff(PcmRate::Hz88200, &line[k..]);
-    }
-    let k = skip(line, b"176400 ");
-    if 0 < k {
-        return cutoff(PcmRate::Hz176400, &line[k..]);
-    }
-    let k = skip(line, b"352800 ");
-    if 0 < k {
-        return cutoff(PcmRate::Hz352800, &line[k..]);
-    }
-    FirstLine::Refused
+    Some(n as i32)
 }

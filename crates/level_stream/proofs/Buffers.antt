@@ -18,7 +18,7 @@ use Rattle.reference.specs.Promises.{by_decision}
 use Rattle.reference.proofs.Promises.{exit_accepted}
 use Rattle.reference.proofs.Refusals.{at_next, at_end, decide_skip, some_channel, few_channels}
 use Rattle.level_lines.specs.Text.{Printed}
-use Rattle.overs.specs.declared.Progress.{Progress}
+use Rattle.overs.specs.Overs.{Progress}
 use Rattle.levels.specs.Levels.{piece_lines, piece_states}
 use Rattle.levels.proofs.Frames.{in_all}
 use Rattle.level_input.specs.Moved.{moved_on}

@@ -4,8 +4,7 @@ use Rattle.reference.specs.Frames.{Run, run, frame_length, frame_count}
 use Rattle.reference.specs.Output.{frame_clips}
 use Rattle.reference.specs.declared.Converter.{Converter}
 use Rattle.level_lines.specs.Text.{joined, Printed}
-use Rattle.overs.specs.Overs.{none}
-use Rattle.overs.specs.declared.Progress.{Progress}
+use Rattle.overs.specs.Overs.{Progress, none}
 use Rattle.levels.specs.Levels.{piece_lines, piece_states}
 use Rattle.level_input.specs.Moved.{moved_on}
 use Rattle.level_stream.specs.Report.{ending, left_over, all_clips, lines_of, text_by}

@@ -1,15 +1,9 @@
 -- What the first line leads to.
-use Rattle.std.specs.Prelude.{◌≡◌, ◌≤◌}
-use Rattle.reference.specs.Refusals.{accepted, decide, opening_places}
-use Rattle.level_settings.specs.declared.LineSettings.{LineSettings}
-use Rattle.levels.specs.Levels.{read_settings}
-use Rattle.level_stream.specs.declared.Begun.{Begun}
-use Rattle.level_stream.specs.declared.Begun.TheVariants.{Open, Ended}
+use Rattle.std.specs.Prelude.{◌≡◌, Option, Some, None, ◌≤◌}
+use Rattle.reference.specs.Refusals.{accepted, decide, held_places}
+use Rattle.reference.specs.declared.Converter.{Converter}
 
--- settings of one or two channels that opening accepts
-abbrev pub Opens : LineSettings → Type 0
-Opens s = (decide (opening_places (read_settings s)) ≡ accepted) × (s.channels ≤ 2)
-
-abbrev pub Usable : Begun → Type 0
-Usable (Open s) = Opens s
-Usable Ended = Unit {0}
+-- an accepted converter of one or two channels, or nothing
+abbrev pub Usable : Option Converter → Type 0
+Usable (Some conv) = (decide (held_places conv) ≡ accepted) × (conv.channels ≤ 2)
+Usable None = Unit {0}

@@ -2,7 +2,7 @@
 ghost use Rattle.std.specs.Prelude.{◌≡◌, ◌+◌, ◌*◌, ◌<◌, ◌≤◌, eqb, length, IfOk};
 ghost use Rattle.reference.specs.Output.{samples_per_frame};
 ghost use Rattle.reference.specs.Refusals.{accepted, decide, held_places, convert_frame_places};
-ghost use Rattle.levels.specs.Levels.{FrameReported};
+ghost use Rattle.levels.specs.Levels.{Bounded, FrameReported};
 ghost use Rattle.level_lines.specs.Text.{Printed};
 ghost use Rattle.level_stream.specs.Report as whole;
 ghost use Rattle.level_stream.specs.Buffers.{at_hand, moment, Told, Turned, AllTold};
@@ -10,7 +10,7 @@ ghost use Rattle.level_stream.specs.Buffers.{at_hand, moment, Told, Turned, AllT
 use level_input::{fill, move_on};
 use levels::Reported;
 use overs::Progress;
-use reference::Converter;
+use reference::{Converter, PcmError, Run};
 use std::io;
 use std::io::{Read, Write};
 
@@ -26,6 +26,7 @@ struct State {
 }
 
 // The frame in the middle of the three.
+#[tactic(auto, unfolding(crate::specs::Buffers::at_hand))]
 fn one_frame<'a>(
     conv: Converter,
     number: u64,
@@ -35,25 +36,19 @@ fn one_frame<'a>(
     three: &'a [u8],
     samples: &mut [i32],
     text: &mut [u8],
-) -> Reported
+) -> Result<Reported, PcmError>
     requires { (length three.now ≡ 3 * size) × (864 ≤ length text.old) }
     ensures frame_reported { FrameReported conv number states (at_hand number has_after size three.now) samples.old samples.new text.old text.new result }
-    ensures length_bound { (result.length ≤ 864) × (result.clipped ≤ 28224) }
+    ensures length_bound { Bounded result }
 {
-    let end = 2 * size;
-    let all = three.len();
-    levels::frame_report(
-        conv,
-        number,
-        states,
-        number > 0,
-        &three[0..size],
-        &three[size..end],
+    let run = Run {
+        has_before: number > 0,
+        before: &three[..size],
+        frames: &three[size..2 * size],
         has_after,
-        &three[end..all],
-        samples,
-        text,
-    )
+        after: &three[2 * size..],
+    };
+    levels::frame_report(conv, number, states, run, samples, text)
 }
 
 // Writes the first n bytes of a text.
@@ -79,26 +74,30 @@ fn told(
     ensures told { Told conv size (moment s.frames s.clipped s.states s.left three.old) next text.old (moment result.frames result.clipped result.states result.left three.new) text.new result.length }
     ensures clipped_bound { (result.clipped ≤ 28224 * result.frames) × (result.length ≤ 864) }
 {
-    let frames = s.frames;
-    let states = s.states;
-    let r = one_frame(
+    let told = one_frame(
         conv,
-        frames,
-        states,
+        s.frames,
+        s.states,
         next == size,
         size,
         three,
         samples,
         text,
     );
-    let carried = r.states;
     move_on(three, size);
-    State {
-        frames: frames + 1,
-        clipped: s.clipped + r.clipped,
-        states: carried,
-        left: next,
-        length: r.length,
+    match told {
+        Ok(r) => {
+            let states = r.states;
+            State {
+                frames: s.frames + 1,
+                clipped: s.clipped + r.clipped,
+                states,
+                left: next,
+                length: r.length,
+            }
+        }
+        // Not with a frame that is accepted.
+        Err(_) => s,
     }
 }
 
@@ -127,6 +126,7 @@ fn turn<R: Read, W: Write>(
 }
 
 // The last line, or the refusal of bytes that are left over; the answer is its length.
+#[tactic(auto, unfolding(crate::specs::Report::ending))]
 fn ending(s: State, text: &mut [u8]) -> usize
     requires { 144 ≤ length text.old }
     ensures printed { Printed (whole.ending s.left s.frames s.clipped) text.old 0 text.new result }
@@ -154,20 +154,19 @@ fn turns<R: Read, W: Write>(
 {
     let end = 2 * size;
     let first = fill(from, &mut three[size..end])?;
-    let none = overs::none();
-    let states = [none; 6];
     let mut s = State {
         frames: 0,
         clipped: 0,
-        states,
+        states: [None; 6],
         left: first,
         length: 0,
     };
-    // A loop has to end, and nothing says that an input does: so it counts down, from a number that no input uses up.
-    let mut more = 100_000_000_000_000u64;
-    while more > 0 && s.left == size {
+    // A loop has to end, and nothing says that an input does: so there is a number of turns that no input uses up.
+    for count in 0..100_000_000_000_000u64 {
+        if s.left != size {
+            return Ok(s);
+        }
         s = turn(conv, s, size, from, to, three, samples, text)?;
-        more -= 1;
     }
     Ok(s)
 }

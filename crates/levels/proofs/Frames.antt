@@ -1,19 +1,18 @@
 -- What a converted frame tells is what the definition says of it.
-use Rattle.std.proofs.Common.{◌≡◌, ℕ, ◌+◌, ◌*◌, ◌/◌, ◌<◌, ◌≤◌, length, get_or, ℤ, pos, refl, ◌∙◌, add-zero, mod-eq_of_lt, one-mul, zero-add, zero-mul, arith, lt-ltb}
+use Rattle.std.proofs.Common.{◌≡◌, ap, ℕ, zero, suc, ◌+◌, ◌*◌, ◌/◌, ◌<◌, ◌≤◌, length, get_or, ℤ, pos, refl, ◌∙◌, add-zero, mod-eq_of_lt, one-mul, zero-add, zero-mul, arith, lt-ltb}
 use native.Mathlib.Nat.{mul-add-div_right, mul-add-mod_self_right, div-eq_of_lt, mul-div_left}
 use lib.Arith.{digits_lt}
 use Rattle.numbers.specs.Extremes.{lesser, greater, extreme}
 use Rattle.numbers.specs.Lists.{total, count}
 use Rattle.numbers.proofs.Extremes.{extreme_same}
-use Rattle.numbers.proofs.Lists.{get_d_tabulate, length_tabulate, total_same}
+use Rattle.numbers.proofs.Lists.{get_d_tabulate, length_tabulate, total_same, count_few}
 use Rattle.reference.specs.Frames.{Run, frame_count}
-use Rattle.reference.specs.Output.{samples_per_frame, unclamped, sample, clipped, item, channel_samples, all_samples, samples, channel_clips, stats, frame_clips}
-use Rattle.reference.specs.Scaling.{clips}
+use Rattle.reference.specs.Output.{samples_per_frame, sample, clipped, item, channel_samples, all_samples, samples, channel_clips, channel_stats, stats, frame_clips}
+use Rattle.reference.specs.Statistics.{channel_of, clip_sum}
+use Rattle.reference.proofs.Statistics.{at_channel}
 use Rattle.reference.specs.declared.Converter.{Converter}
 use Rattle.reference.proofs.Frames.{some_samples, frame_samples}
-use Rattle.gain.proofs.Tallies.{tally_clipped, tally_few}
-use Rattle.overs.specs.Overs.{overs_of}
-use Rattle.overs.specs.declared.Progress.{Progress}
+use Rattle.overs.specs.Overs.{Progress, overs_of}
 use Rattle.levels.specs.Levels.{level, level_of}
 
 module _ (conv : Converter) (r : Run) (some : 0 < conv.channels) (few : conv.channels ≤ 6) (one : frame_count conv.channels r.frames ≡ 1) where
@@ -37,26 +36,27 @@ module _ (conv : Converter) (r : Run) (some : 0 < conv.channels) (few : conv.cha
       get_d_tabulate (item conv r) 0 _ (n * ch + c) (pos 0) (rw in_all (digits_lt h l))
       ∙ rw (zero-add (n * ch + c), mul-add-mod_self_right n ch c, mod-eq_of_lt l, mul-add-div_right some n c, div-eq_of_lt l, add-zero n) refl
 
-  clips_at : (c : ℕ) → c < ch → get_or (stats conv r).clipped c 0 ≡ count (clipped conv r c) (0 * per) per
-  unfolding stats channel_clips channel_samples
+  clips_at : (c : ℕ) → c < ch → (channel_of (stats conv r) c).clipped ≡ count (clipped conv r c) (0 * per) per
+  unfolding stats channel_stats channel_of channel_clips channel_samples
   clips_at c l =
-      get_d_tabulate (channel_clips conv r) 0 6 c 0 (omega arith)
-      ∙ rw (zero-add c, lt-ltb c ch l, one, one-mul per, zero-mul per) refl
+      ap (λ t. t.clipped) (at_channel (channel_stats conv r) c (omega arith)) ∙ rw (lt-ltb c ch l, one, one-mul per, zero-mul per) refl
 
-  pub level_is : (c : ℕ) → c < ch → (p : Progress) → level_of (stats conv r).clipped (samples conv r) ch c p ≡ level conv r (overs_of (samples conv r) ch c p).count 0 c
+  pub level_is : (c : ℕ) → c < ch → (p : Progress) → level_of (channel_of (stats conv r) c).clipped (samples conv r) ch c p ≡ level conv r (overs_of (samples conv r) ch c p).count 0 c
   unfolding level level_of
   level_is c l p =
       let pick : (p : ℤ → ℤ → ℤ) → extreme p (λ n. get_or (samples conv r) (n * ch + c) (pos 0)) 0 per ≡ extreme p (sample conv r c) (0 * per) per =
       λ p. extreme_same p (λ n. get_or (samples conv r) (n * ch + c) (pos 0)) (sample conv r c) 0 (0 * per) per (some_samples conv.rate) (λ k h. rw (zero-mul per, zero-add k) (sample_at c l k h)) in
       rw (clips_at c l, each, pick lesser, pick greater) refl
 
-  pub clips_are : total (λ c. get_or (stats conv r).clipped c 0) 0 ch ≡ frame_clips conv r 0
-  unfolding frame_clips
+  pub clips_are : clip_sum (stats conv r) ch ≡ frame_clips conv r 0
+  unfolding clip_sum frame_clips
   clips_are = total_same _ _ 0 0 ch (λ k h. rw zero-add (clips_at k h))
 
   -- no frame of a channel has more clips than samples
-  pub few_clips : (c : ℕ) → c < ch → get_or (stats conv r).clipped c 0 ≤ 4704
-  unfolding clipped
-  few_clips c l =
-      let few : count (λ k. clips (unclamped conv r c k)) (0 * per) per ≤ per = rw (← tally_clipped (unclamped conv r c) (0 * per) per) (tally_few (unclamped conv r c) (0 * per) per) in
-      rw (clips_at c l) (omega (arith, few, frame_samples conv.rate))
+  few_clips : (c : ℕ) → c < ch → (channel_of (stats conv r) c).clipped ≤ 4704
+  few_clips c l = rw (clips_at c l) (omega (arith, count_few (clipped conv r c) (0 * per) per, frame_samples conv.rate))
+
+  pub few_below : (n : ℕ) → n ≤ ch → clip_sum (stats conv r) n ≤ 4704 * n
+  unfolding clip_sum total
+  few_below zero l = omega arith
+  few_below (suc n) l = rw (zero-add n) (omega (arith, few_below n (omega arith), few_clips n (omega arith)))

@@ -2,3 +2,5 @@ pub mod Frames
 mod Quiet
 pub mod Whole
 pub mod Reports
+pub mod Picks
+pub mod States

@@ -5,8 +5,8 @@ use Rattle.numbers.specs.Extremes.{lesser, greater, picked, extreme}
 use Rattle.numbers.proofs.Extremes.{Best, least_best, greatest_best}
 use Rattle.numbers.proofs.Lists.{below_or}
 use Rattle.overs.specs.Overs.{end_of, none, normal, overs_of}
-use Rattle.overs.specs.declared.End.TheVariants.{Neither}
-use Rattle.overs.specs.declared.Progress.{Progress}
+use Rattle.std.specs.Prelude.{None}
+use Rattle.overs.specs.Overs.{Progress}
 use Rattle.overs.proofs.Laws.{between, quiet, quiet_after}
 use Rattle.overs.proofs.Joins.{channel_is}
 
@@ -31,7 +31,7 @@ module _ (items : List ℤ) (ch c : ℕ) (inside : c < ch) (enough : ch ≤ leng
   some = (le-div_iff_mul-le {k = ch} {x = 1} {y = length items} (omega arith)).1 (omega arith)
 
   module _ (low : lt_z (negsuc 8388607) (extreme lesser at 0 n) ≡ true) (high : lt_z (extreme greater at 0 n) (pos 8388607) ≡ true) where
-    between_ends : (k : ℕ) → k < n → end_of (at (0 + k)) ≡ Neither
+    between_ends : (k : ℕ) → k < n → end_of (at (0 + k)) ≡ None
     between_ends k l = between (extreme lesser at 0 n) (at (0 + k)) (extreme greater at 0 n) low high (picked_of least_best (at 0) at 0 n k l) (picked_of greatest_best (at 0) at 0 n k l)
 
     pub quiet_channel : (p : Progress) → overs_of items ch c p ≡ record { count = 0; next = none }

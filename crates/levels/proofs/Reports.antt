@@ -2,26 +2,26 @@
 use Rattle.std.proofs.Common.{◌≡◌, ℕ, suc, ◌*◌, ◌/◌, ◌<◌, ◌≤◌, false, List, length, get_or, ℤ, sym, refl, ap, ◌∙◌, subst, true≢false, mul-le-mul_right, zero-add, arith, eqb-true}
 use native.Mathlib.Nat.{div_self, mul-div_left}
 use borrow.Author.Tests.{not-false}
-use Rattle.numbers.specs.Lists.{tabulate, total}
+use Rattle.numbers.specs.Lists.{tabulate}
 use Rattle.numbers.proofs.Lists.{tabulate_same, length_tabulate}
 use Rattle.reference.specs.Frames.{Run, frame_length, frame_count}
 use Rattle.reference.specs.Output.{samples_per_frame, item, samples, stats, frame_clips}
-use Rattle.reference.specs.Refusals.{accepted, decide, decision, is_accepted, held_places, one_long, convert_frame_places}
-use Rattle.reference.specs.Promises.{ConvertFramePromise}
+use Rattle.reference.specs.Refusals.{accepted, decide, is_accepted, held_places, one_long, convert_frame_places}
+use Rattle.reference.specs.Promises.{stats_told, ConvertFramePromise}
 use Rattle.reference.specs.declared.Converter.{Converter}
-use Rattle.reference.specs.declared.Converted.{Converted}
+use Rattle.reference.specs.declared.ConvertStats.{ConvertStats}
+use Rattle.reference.specs.Statistics.{channel_of, clip_sum}
+use Rattle.std.specs.Prelude.{Ok, Err}
 use Rattle.reference.specs.declared.PcmError.{PcmError}
-use Rattle.reference.specs.declared.Verdict.TheVariants.{Refused}
 use Rattle.reference.proofs.Frames.{some_samples}
 use Rattle.reference.proofs.Promises.{exit_accepted, exit_refused}
 use Rattle.reference.proofs.Refusals.{decide_first, decide_skip, pass, error_refuses, some_channel, few_channels}
-use Rattle.overs.specs.Overs.{none}
-use Rattle.overs.specs.declared.Progress.{Progress}
+use Rattle.overs.specs.Overs.{Progress, none}
 use Rattle.level_lines.specs.Text.{joined, Printed}
 use Rattle.level_lines.proofs.Printing.{none_printed}
 use Rattle.level_lines.specs.Lines.{level_line}
-use Rattle.levels.specs.Levels.{lines_with, level_of, states_after, whole_input, InProgress, piece_lines, piece_states, FrameReported}
-use Rattle.levels.proofs.Frames.{in_all, level_is, clips_are, few_clips}
+use Rattle.levels.specs.Levels.{lines_with, level_of, states_after, whole_input, InProgress, piece_lines, piece_states, told_length, told_clips, told_states, FrameReported}
+use Rattle.levels.proofs.Frames.{in_all, level_is, clips_are, few_below}
 use Rattle.levels.proofs.Whole.{lines_same, states_same, clips_same}
 
 -- an accepted frame
@@ -47,8 +47,9 @@ module _ (conv : Converter) (r : Run) (items : List ℤ) (ok : decide (convert_f
       rw e (div_self (omega (arith, some)))
 
   -- what the conversion left
-  module _ (items' : List ℤ) (done : Converted) (p : ConvertFramePromise conv r items items' done) where
-    stats_are : done.stats ≡ stats conv r
+  module _ (items' : List ℤ) (told : ConvertStats) (p : ConvertFramePromise conv r items items' (Ok told)) where
+    stats_are : told ≡ stats conv r
+    unfolding stats_told
     stats_are = p.answered.counted ∙ exit_accepted _ _ _ ok
 
     items_are : items' ≡ samples conv r
@@ -64,13 +65,13 @@ module _ (conv : Converter) (r : Run) (items : List ℤ) (ok : decide (convert_f
     pub whole_rows : length items' ≡ length items' / ch * ch
     whole_rows = rw (items_long, mul-div_left (samples_per_frame conv.rate) some) refl
 
-    pub few_each : (c : ℕ) → c < ch → get_or done.stats.clipped c 0 ≤ 4704
-    few_each c l = rw stats_are (few_clips conv r some few one c l)
+    pub few_clips : clip_sum told ch ≤ 28224
+    few_clips = rw stats_are (omega (arith, few, few_below conv r some few one ch (omega arith)))
 
-    told : (number : ℕ) (states : List Progress)
-        → joined (tabulate (λ c. level_line number c (level_of done.stats.clipped items' ch c (get_or states c none))) 0 ch) ≡ piece_lines conv number states r
+    lines_are : (number : ℕ) (states : List Progress)
+        → joined (tabulate (λ c. level_line number c (level_of (channel_of told c).clipped items' ch c (get_or states c none))) 0 ch) ≡ piece_lines conv number states r
     unfolding piece_lines lines_with
-    told number states =
+    lines_are number states =
         ap joined (tabulate_same _ _ 0 0 ch (λ c l. rw (zero-add c, stats_are, items_are) (ap (level_line number c) (level_is conv r some few one c l (get_or states c none)))))
 
     after : (states : List Progress) → states_after items' ch ch states ≡ piece_states conv states r
@@ -78,12 +79,13 @@ module _ (conv : Converter) (r : Run) (items : List ℤ) (ok : decide (convert_f
     after states = ap (λ z. states_after z ch ch states) items_are
 
     pub reported : {number clipped n : ℕ} {states next : List Progress} {old new : List ℕ}
-        → Printed (joined (tabulate (λ c. level_line number c (level_of done.stats.clipped items' ch c (get_or states c none))) 0 ch)) old 0 new n
-        → clipped ≡ total (λ c. get_or done.stats.clipped c 0) 0 ch
+        → Printed (joined (tabulate (λ c. level_line number c (level_of (channel_of told c).clipped items' ch c (get_or states c none))) 0 ch)) old 0 new n
+        → clipped ≡ clip_sum told ch
         → next ≡ states_after items' ch ch states
-        → FrameReported conv number states r items items' old new (record { verdict = done.verdict; length = n; clipped = clipped; states = next })
+        → FrameReported conv number states r items items' old new (Ok (record { length = n; clipped = clipped; states = next }))
+    unfolding told_length told_clips told_states
     reported {number} {clipped} {n} {states} {next} {old} {new} q sum carried =
-        let lines : Printed (piece_lines conv number states r) old 0 new n = subst (λ t. Printed t old 0 new n) (told number states) q in
+        let lines : Printed (piece_lines conv number states r) old 0 new n = subst (λ t. Printed t old 0 new n) (lines_are number states) q in
         let counted : clipped ≡ frame_clips conv r 0 = sum ∙ rw stats_are (clips_are conv r some few one) in
         let so : next ≡ piece_states conv states r = carried ∙ after states in
         record {
@@ -100,12 +102,11 @@ module _ (conv : Converter) (r : Run) (items : List ℤ) (ok : decide (convert_f
         }
 
 -- a refused frame: nothing is printed
-pub unreported : (conv : Converter) (r : Run) (items items' : List ℤ) (done : Converted) (e : PcmError) → ConvertFramePromise conv r items items' done → done.verdict ≡ Refused e
-    → {number : ℕ} {states : List Progress} {old : List ℕ}
-    → FrameReported conv number states r items items' old old (record { verdict = done.verdict; length = 0; clipped = 0; states = states })
-unfolding is_accepted
-unreported conv r items items' done e p is {number} {states} {old} =
-    let no : is_accepted (decide (convert_frame_places conv r items)) ≡ false = ap is_accepted (sym p.answered.decided) ∙ ap (λ v. is_accepted (decision v)) is ∙ error_refuses e in
+pub unreported : (conv : Converter) (r : Run) (items items' : List ℤ) (e : PcmError) → ConvertFramePromise conv r items items' (Err e)
+    → {number : ℕ} {states : List Progress} {old : List ℕ} → FrameReported conv number states r items items' old old (Err e)
+unfolding is_accepted told_length told_clips told_states
+unreported conv r items items' e p {number} {states} {old} =
+    let no : is_accepted (decide (convert_frame_places conv r items)) ≡ false = ap is_accepted (sym p.answered.decided) ∙ error_refuses e in
     record {
       decided = p.answered.decided;
       sampled = p.written;

@@ -17,7 +17,7 @@ use Rattle.reference.proofs.Locality.{reach_small, last_tap}
 use Rattle.joins.proofs.Pieces.{PieceOf, unclamped_same, piece_clips}
 use Rattle.overs.specs.Overs.{in_progress, none, channel, overs_of}
 use Rattle.overs.specs.Joins.{frame_overs}
-use Rattle.overs.specs.declared.Progress.{Progress}
+use Rattle.overs.specs.Overs.{Progress}
 use Rattle.overs.specs.declared.OverCount.{OverCount}
 use Rattle.overs.proofs.Laws.{answer_is}
 use Rattle.overs.proofs.Joins.{run_channel}

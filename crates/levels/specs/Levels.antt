@@ -1,20 +1,19 @@
 -- The figures of the level report: what it tells of each channel of a frame, and its lines.
-use Rattle.std.specs.Prelude.{◌≡◌, ℕ, suc, ◌+◌, ◌-◌, ◌*◌, ◌/◌, ◌<◌, false, cond, List, [], length, get_or, take, ℤ, pos, nat_lt, slice_index, slice_index_or}
+use Rattle.std.specs.Prelude.{◌≡◌, ℕ, suc, ◌+◌, ◌-◌, ◌*◌, ◌/◌, ◌<◌, ◌≤◌, None, false, cond, List, [], length, get_or, take, ℤ, pos, nat_lt, slice_index_or, Result, Ok, Err, IfOk}
 use Rattle.std.specs.Float.Ieee.{of_int}
 use Rattle.std.specs.Float.{binary64}
 use Rattle.numbers.specs.Extremes.{lesser, greater, extreme}
 use Rattle.numbers.specs.Lists.{tabulate, count}
 use Rattle.reference.specs.Frames.{Run, run, frame_length, frame_count, frame}
 use Rattle.reference.specs.Scaling.{db_to_linear}
-use Rattle.reference.specs.Settings.{built_in}
 use Rattle.reference.specs.Output.{samples_per_frame, sample, clipped, samples, frame_clips}
 use Rattle.reference.specs.Refusals.{accepted, decide, decision, convert_frame_places}
 use Rattle.reference.specs.Promises.{by_decision}
 use Rattle.reference.specs.declared.Settings.{Settings}
 use Rattle.reference.specs.declared.Converter.{Converter}
-use Rattle.overs.specs.Overs.{in_progress, none, overs_of}
+use Rattle.reference.specs.declared.PcmError.{PcmError}
+use Rattle.overs.specs.Overs.{Progress, in_progress, none, overs_of}
 use Rattle.overs.specs.Joins.{frame_overs}
-use Rattle.overs.specs.declared.Progress.{Progress}
 use Rattle.level_lines.specs.Text.{joined, Printed}
 use Rattle.level_lines.specs.Lines.{level_line}
 use Rattle.level_lines.specs.declared.Level.{Level}
@@ -27,7 +26,7 @@ use Rattle.levels.specs.declared.Reported.{Reported}
 unfoldable pub read_settings : LineSettings → Settings
 read_settings s =
     let db = of_int binary64 s.db in
-    record { rate = s.rate; cutoff = s.cutoff; channels = s.channels; gain = record { db = db; linear = db_to_linear db }; own = false; filter = built_in }
+    record { rate = s.rate; cutoff = s.cutoff; channels = s.channels; gain = record { db = db; linear = db_to_linear db }; filter = None }
 
 -- ---- a channel of a frame
 
@@ -47,13 +46,13 @@ module _ (conv : Converter) (r : Run) where
   unfoldable pub frame_lines : ℕ → ℕ → List ℕ
   frame_lines number f = lines_with (λ c. frame_overs conv r c f) number f
 
--- ---- the same, read off a frame's clip counts and items, and what is in progress before it: what the code works out
+-- ---- the same, read off a channel's clip count and a frame's items, and what is in progress before it: what the code works out
 
-unfoldable pub level_of : List ℕ → List ℤ → ℕ → ℕ → Progress → Level
-level_of counts items channels c p =
+unfoldable pub level_of : ℕ → List ℤ → ℕ → ℕ → Progress → Level
+level_of clips items channels c p =
     let at : ℕ → ℤ = λ n. get_or items (n * channels + c) (pos 0) in
     record {
-      clipped = slice_index counts c;
+      clipped = clips;
       low = extreme lesser at 0 (length items / channels);
       high = extreme greater at 0 (length items / channels);
       over = (overs_of items channels c p).count;
@@ -92,19 +91,36 @@ piece_lines conv number states piece = lines_with conv piece (λ c. (overs_of (s
 unfoldable pub piece_states : Converter → List Progress → Run → List Progress
 piece_states conv states piece = states_after (samples conv piece) conv.channels conv.channels states
 
--- lines and clips of frame f, and what is in progress after it, as the whole input, taken as one run, has them
-pub record AsInWhole (conv : Converter) (input : List ℕ) (f : ℕ) (old new : List ℕ) (answer : Reported) : Type 0 where
-  pub lines : Printed (frame_lines conv (whole_input conv.channels input) f f) old 0 new answer.length
-  pub counted : answer.clipped ≡ frame_clips conv (whole_input conv.channels input) f
-  pub carried : InProgress conv (whole_input conv.channels input) (suc f) answer.states
+-- what is told of a frame; a refused one prints nothing, counts nothing, and changes nothing in progress
+unfoldable pub told_length : Result Reported PcmError → ℕ
+told_length (Ok r) = r.length
+told_length (Err e) = 0
 
--- verdict, samples, lines, clips and states of the piece; and where the piece is a frame of some input and the states are what is in progress
+unfoldable pub told_clips : Result Reported PcmError → ℕ
+told_clips (Ok r) = r.clipped
+told_clips (Err e) = 0
+
+unfoldable pub told_states : List Progress → Result Reported PcmError → List Progress
+told_states states (Ok r) = r.states
+told_states states (Err e) = states
+
+-- lines of six channels at most, and clips of as many
+abbrev pub Bounded : Result Reported PcmError → Type 0
+Bounded answer = IfOk answer (λ r. (r.length ≤ 864) × (r.clipped ≤ 28224))
+
+-- lines and clips of frame f, and what is in progress after it, as the whole input, taken as one run, has them
+pub record AsInWhole (conv : Converter) (input : List ℕ) (f : ℕ) (old new : List ℕ) (states : List Progress) (answer : Result Reported PcmError) : Type 0 where
+  pub lines : Printed (frame_lines conv (whole_input conv.channels input) f f) old 0 new (told_length answer)
+  pub counted : told_clips answer ≡ frame_clips conv (whole_input conv.channels input) f
+  pub carried : InProgress conv (whole_input conv.channels input) (suc f) (told_states states answer)
+
+-- the decision, samples, lines, clips and states of the piece; and where the piece is a frame of some input and the states are what is in progress
 -- before it there, those of that input
-pub record FrameReported (conv : Converter) (number : ℕ) (states : List Progress) (piece : Run) (items items' : List ℤ) (old new : List ℕ) (answer : Reported) : Type 0 where
-  pub decided : decision answer.verdict ≡ decide (convert_frame_places conv piece items)
+pub record FrameReported (conv : Converter) (number : ℕ) (states : List Progress) (piece : Run) (items items' : List ℤ) (old new : List ℕ) (answer : Result Reported PcmError) : Type 0 where
+  pub decided : decision answer ≡ decide (convert_frame_places conv piece items)
   pub sampled : items' ≡ by_decision (decide (convert_frame_places conv piece items)) (samples conv piece) items
-  pub lines : Printed (by_decision (decide (convert_frame_places conv piece items)) (piece_lines conv number states piece) []) old 0 new answer.length
-  pub counted : answer.clipped ≡ by_decision (decide (convert_frame_places conv piece items)) (frame_clips conv piece 0) 0
-  pub carried : answer.states ≡ by_decision (decide (convert_frame_places conv piece items)) (piece_states conv states piece) states
+  pub lines : Printed (by_decision (decide (convert_frame_places conv piece items)) (piece_lines conv number states piece) []) old 0 new (told_length answer)
+  pub counted : told_clips answer ≡ by_decision (decide (convert_frame_places conv piece items)) (frame_clips conv piece 0) 0
+  pub carried : told_states states answer ≡ by_decision (decide (convert_frame_places conv piece items)) (piece_states conv states piece) states
   pub whole : decide (convert_frame_places conv piece items) ≡ accepted → (input : List ℕ) → FrameOf conv.channels input number piece
-      → InProgress conv (whole_input conv.channels input) number states → AsInWhole conv input number old new answer
+      → InProgress conv (whole_input conv.channels input) number states → AsInWhole conv input number old new states answer

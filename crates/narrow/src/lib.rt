@@ -1,5 +1,8 @@
-// Standard and Low: a block of y from its bytes, a flat function a rate. x holds v, `kept` the values of w that `between` reads at 352,800; both
-// keep their margin, the values before a block that its filters read, from block to block. `odd` is scratch.
+// Standard and Low: a block of y from its bytes, a flat function a rate. x holds v, `kept` the values of w that
+// `between` reads at 352,800; both keep their margin, the values before a block that its filters read, from block to
+// block. `odd` is scratch. The three stay apart: each is three calls, and asks and promises another rate's signal. So
+// do their parameters: every rate is lent other parts of the bytes and of y, so that a struct of them would be made
+// anew at each call.
 #![tactic(auto)]
 
 ghost use Rattle.std.specs.Prelude.{◌≡◌, ℕ, ◌+◌, ◌-◌, ◌*◌, ◌/◌, ◌%◌, ◌^◌, ◌≤◌, List, ℤ, pos, length};

@@ -4,3 +4,4 @@ pub mod Sums
 pub mod Machine
 pub mod Tests
 pub mod Extremes
+pub mod Arrays

@@ -1,18 +1,23 @@
 -- Laws of filled boxes. A right value spoils nothing, wherever it goes: no law needs that two places differ.
-use mathlib.Core.Path.{◌≡◌, refl, sym, ap, ◌∙◌, subst}
+use mathlib.Core.Path.{◌≡◌, refl, sym, ap, ap₂, ◌∙◌}
 use mathlib.Core.Logic.{◌⊎◌, inl, inr, ⊎_elim}
 use mathlib.Core.List.{List}
-use Prim.Native.Nat.{ℕ, zero, suc, ◌+◌, ◌*◌, ◌/◌, ◌%◌, ◌≤◌, ◌<◌}
+use Prim.Native.Nat.{ℕ, zero, suc, ◌+◌, ◌*◌, ◌/◌, ◌%◌, ◌^◌, ◌≤◌, ◌<◌}
 use native.Mathlib.Nat.{mod-lt, div-add-mod', div-lt_iff_lt-mul, eq-or-lt_of_le}
 use native.Mathlib.Omega.{arith}
-use lib.Arith.{digits_div, digits_mod}
-use lib.IntN.{ℤ, pos}
+use lib.Arith.{digits_lt, digits_div, digits_mod}
+use lib.IntN.{ℤ, pos, negsuc}
+use lib.Signed.{mag}
+use mir.Syntax.{w32}
+use mir.Val.{SFits, to_z, of_z}
+use mir.Facts.{to_z-of_z}
+use lib.Seq.{get_or-set_same, get_or-set_other}
 use lib.ListN.{length, get_or, set, length-set}
-use lib.Seq.{get_or-set_same, get_or-set_other, set_out}
-use Rattle.numbers.specs.Lists.{tabulate}
+use Rattle.numbers.specs.Lists.{tabulate, Held}
+use native.Mathlib.Nat.{mul_comm, mul-le-mul_left}
 use Rattle.numbers.proofs.Lists.{below_or, is_tabulate, get_d_tabulate, length_tabulate}
-use Rattle.reference.specs.Output.{s24le}
-use Rattle.output.specs.Fills.{Fills, FillsItems, FillsBytes, third, byte_of, put24}
+use Rattle.reference.specs.Output.{low24, s24le}
+use Rattle.output.specs.Fills.{Fills, Layout, items, bytes, third, Put, place_of, Drawn, Room, written}
 
 same_or : (a b : ℕ) → (a ≡ b) ⊎ (a ≡ b → ⊥)
 same_or a b = ⊎_elim (λ l. inr (λ e. omega arith)) (λ m. ⊎_elim (λ e. inl (sym e)) (λ l. inr (λ e. omega arith)) (eq-or-lt_of_le m)) (below_or a b)
@@ -41,109 +46,117 @@ module _ {A : Type 0} {d : A} {D : ℕ → A} {row col : ℕ → ℕ} where
         done = λ i a b p q. ⊎_elim (λ m. g.kept i (f.done i a b p m)) (λ m. g.done i a b m q) (below_or (col i) mid);
       }
 
-set_kept : {A : Type 0} (d : A) (D : ℕ → A) (x : List A) (k : ℕ) (v : A) → v ≡ D k → (i : ℕ) → get_or x i d ≡ D i → get_or (set x k v) i d ≡ D i
-set_kept {A} d D x k v e i h = ⊎_elim here (λ n. get_or-set_other x k i v d n ∙ h) (same_or i k)
+module _ {A : Type 0} (o : Layout A) (some : 0 < o.width) (S : ℕ → ℕ → ℤ) {ch : ℕ} where
+  -- one sample
+  pub one_sample : {n c : ℕ} {v : ℤ} {x y : List A} → c < ch → v ≡ S c n → Put o (n * ch + c) v x y → Drawn o S ch n (n + 1) c (c + 1) x y
+  one_sample {n} {c} {v} {x} {y} m e p =
+      record {
+        same = p.same;
+        kept = λ j h. ⊎_elim (here j) (λ away. p.others j away ∙ h) (same_or (j / o.width) (n * ch + c));
+        done = λ j a b q r.
+            let row : j / o.width / ch ≡ n = omega arith in
+            let col : j / o.width % ch ≡ c = omega arith in
+            here j (sym (div-add-mod' (j / o.width) ch) ∙ rw (row, col));
+      }
+    where
+      here : (j : ℕ) → j / o.width ≡ n * ch + c → get_or y j o.past ≡ place_of o ch S j
+      here j h =
+          let split : o.width * (n * ch + c) + j % o.width ≡ j = ap (λ (k : ℕ). k + j % o.width) (mul_comm o.width (n * ch + c) ∙ ap (λ (k : ℕ). k * o.width) (sym h)) ∙ div-add-mod' j o.width in
+          ap (λ (k : ℕ). get_or y k o.past) (sym split)
+          ∙ p.here (j % o.width) (mod-lt j some)
+          ∙ ap (λ (z : ℤ). o.part z (j % o.width)) (e ∙ sym (ap₂ S (digits_mod n m) (digits_div n m)))
+          ∙ ap (λ (k : ℕ). o.part (S (k % ch) (k / ch)) (j % o.width)) (sym h)
+
+  -- the whole box is the whole list
+  pub all_samples : {n : ℕ} {x y : List A} → 0 < ch → Room o (n * ch) x → Drawn o S ch 0 n 0 ch x y → y ≡ written o (tabulate (λ i. S (i % ch) (i / ch)) 0 (n * ch))
+  unfolding written
+  all_samples {n} {x} {y} p e f =
+      let zs = tabulate (λ i. S (i % ch) (i / ch)) 0 (n * ch) in
+      let size : length zs ≡ n * ch = length_tabulate (λ i. S (i % ch) (i / ch)) 0 (n * ch) in
+      is_tabulate _ 0 (o.width * length zs) o.past y (f.same ∙ e ∙ ap (λ (k : ℕ). o.width * k) (sym size)) (λ j l.
+      let z : 0 + j ≡ j = omega arith in
+      let w : 0 + j / o.width ≡ j / o.width = omega arith in
+      let inside : j / o.width < n * ch = (div-lt_iff_lt-mul some).1 (rw (size, mul_comm o.width (n * ch)) at l) in
+      let g : get_or zs (j / o.width) (pos 0) ≡ S (j / o.width % ch) (j / o.width / ch) = get_d_tabulate (λ i. S (i % ch) (i / ch)) 0 (n * ch) (j / o.width) (pos 0) inside ∙ rw w in
+      rw (z, g) (f.done j (omega arith) ((div-lt_iff_lt-mul p).1 inside) (omega arith) (mod-lt (j / o.width) p)))
+
+-- the places of a sample are within those of all
+pub within : (w n m k c : ℕ) {ch all : ℕ} → w * ((n + m) * ch) ≤ all → k < m → c < ch → w * ((n + k) * ch + c) + w ≤ all
+within w n m k c {ch} h l q =
+    let inside : (n + k) * ch + c < (n + m) * ch = digits_lt (omega arith) q in
+    let most : w * ((n + k) * ch + c + 1) ≤ w * ((n + m) * ch) = mul-le-mul_left w (omega arith) in
+    omega arith
+
+-- ---- the two forms
+
+module _ (v : ℤ) (fits : SFits w32 v) where
+  -- the bits of a sample, as a number
+  abbrev bits : ℕ
+  bits = of_z w32 (to_z w32 (of_z w32 v))
+
+  low : bits % 2 ^ 24 ≡ low24 v
+  unfolding low24
+  low = rw (to_z-of_z fits) (go v fits.sfits)
+    where
+      go : (z : ℤ) → mag z < 2 ^ 31 → of_z w32 z % 2 ^ 24 ≡ low24 z
+      go (pos n) m = refl
+      go (negsuc n) m = omega arith
+
+  pub three_bits : (bits % 256 ≡ third v 0) × (bits / 256 % 256 ≡ third v 1) × (bits / 65536 % 256 ≡ third v 2)
+  unfolding third
+  three_bits = (omega (arith, low), omega (arith, low), omega (arith, low))
+
+-- the three bytes of a sample, set one by one
+pub three_bytes : (x : List ℕ) (k : ℕ) (v : ℤ) → 3 * k + 3 ≤ length x → Put bytes k v x (set (set (set x (3 * k) (third v 0)) (3 * k + 1) (third v 1)) (3 * k + 2) (third v 2))
+three_bytes x k v room =
+    record {
+      same = simp length-set;
+      here = at;
+      others = λ j away. other j away;
+    }
   where
-    here : i ≡ k → get_or (set x k v) i d ≡ D i
-    here q =
-        ⊎_elim (λ l. ap (λ (j : ℕ). get_or (set x k v) j d) q ∙ get_or-set_same x k v d l ∙ e ∙ ap D (sym q))
-        (λ m. subst (λ (y : List A). get_or y i d ≡ D i) (sym (set_out x k v m)) h) (below_or k (length x))
+    y : List ℕ
+    y = set x (3 * k) (third v 0)
 
-module _ (S : ℕ → ℕ → ℤ) {ch : ℕ} where
-  -- ---- one sample: as an item, as three bytes
+    z : List ℕ
+    z = set y (3 * k + 1) (third v 1)
 
-  pub one_item : {n c : ℕ} {v : ℤ} {x : List ℤ} → c < ch → n * ch + c < length x → v ≡ S c n → FillsItems S ch n (n + 1) c (c + 1) x (set x (n * ch + c) v)
-  one_item {n} {c} {v} {x} m l e =
-      record {
-        same = length-set x (n * ch + c) v;
-        kept = set_kept (pos 0) (λ i. S (i % ch) (i / ch)) x (n * ch + c) v e';
-        done = λ i a b p q.
-            let r : i / ch ≡ n = omega arith in
-            let s : i % ch ≡ c = omega arith in
-            let k : i ≡ n * ch + c = sym (div-add-mod' i ch) ∙ rw (r, s) in
-            rw (r, s) (rw k (get_or-set_same x (n * ch + c) v (pos 0) l ∙ e));
-      }
-    where
-      e' : v ≡ S ((n * ch + c) % ch) ((n * ch + c) / ch)
-      e' = rw (digits_div n m, digits_mod n m) e
+    at : (b : ℕ) → b < 3 → get_or (set z (3 * k + 2) (third v 2)) (3 * k + b) 0 ≡ third v b
+    at zero l =
+        let e : 3 * k + 0 ≡ 3 * k = omega arith in
+        rw e (get_or-set_other z (3 * k + 2) (3 * k) (third v 2) 0 (omega arith) ∙ get_or-set_other y (3 * k + 1) (3 * k) (third v 1) 0 (omega arith) ∙ get_or-set_same x (3 * k) (third v 0) 0 (omega arith))
+    at (suc zero) l = get_or-set_other z (3 * k + 2) (3 * k + 1) (third v 2) 0 (omega arith) ∙ get_or-set_same y (3 * k + 1) (third v 1) 0 (simp length-set (omega arith))
+    at (suc (suc zero)) l = get_or-set_same z (3 * k + 2) (third v 2) 0 (simp length-set (omega arith))
+    at (suc (suc (suc b))) l = absurd (omega arith)
 
-  place : (n c b : ℕ) → c < ch → b < 3 → byte_of ch S (3 * (n * ch + c) + b) ≡ third (S c n) b
-  place n c b m l =
-      let e : (3 * (n * ch + c) + b) / 3 ≡ n * ch + c = omega arith in
-      let f : (3 * (n * ch + c) + b) % 3 ≡ b = omega arith in
-      rw (e, f) (rw (digits_div n m, digits_mod n m))
+    other : (j : ℕ) → (j / 3 ≡ k → ⊥) → get_or (set z (3 * k + 2) (third v 2)) j 0 ≡ get_or x j 0
+    other j away =
+        get_or-set_other z (3 * k + 2) j (third v 2) 0 (λ e. away (omega arith))
+        ∙ get_or-set_other y (3 * k + 1) j (third v 1) 0 (λ e. away (omega arith))
+        ∙ get_or-set_other x (3 * k) j (third v 0) 0 (λ e. away (omega arith))
 
-  pub one_sample : (n c : ℕ) {v : ℤ} {x : List ℕ} → c < ch → 3 * (n * ch + c) + 2 < length x → v ≡ S c n → FillsBytes S ch n (n + 1) c (c + 1) x (put24 x (3 * (n * ch + c)) v)
-  one_sample n c {v} {x} m l ev =
-      record {
-        same = simp length-set;
-        kept = λ i h. last i (next i (first i h));
-        done = λ i p q r s.
-            let e : i / 3 / ch ≡ n = omega arith in
-            let f : i / 3 % ch ≡ c = omega arith in
-            let k : i / 3 ≡ n * ch + c = sym (div-add-mod' (i / 3) ch) ∙ rw (e, f) in
-            here i (i % 3) k refl (omega arith);
-      }
-    where
-      D : ℕ → ℕ
-      D = byte_of ch S
+pub written_items : (zs : List ℤ) → written items zs ≡ zs
+unfolding written
+written_items zs =
+    let e : 1 * length zs ≡ length zs = omega arith in
+    rw e (sym (is_tabulate (λ j. get_or zs (j / 1) (pos 0)) 0 (length zs) (pos 0) zs refl (λ i l.
+    let z : (0 + i) / 1 ≡ i = omega arith in
+    rw z refl)))
 
-      z : ℕ
-      z = 3 * (n * ch + c)
+pub written_bytes : (zs : List ℤ) → written bytes zs ≡ s24le zs
+unfolding written s24le third
+written_bytes zs = refl
 
-      right0 : third v 0 ≡ D z
-      right0 =
-          let e : z ≡ z + 0 = omega arith in
-          ap (λ k. third k 0) ev ∙ sym (ap D e ∙ place n c 0 m (omega arith))
-
-      right1 : third v 1 ≡ D (z + 1)
-      right1 = ap (λ k. third k 1) ev ∙ sym (place n c 1 m (omega arith))
-
-      right2 : third v 2 ≡ D (z + 2)
-      right2 = ap (λ k. third k 2) ev ∙ sym (place n c 2 m (omega arith))
-
-      x1 : List ℕ
-      x1 = set x z (third v 0)
-
-      x2 : List ℕ
-      x2 = set x1 (z + 1) (third v 1)
-
-      first : (i : ℕ) → get_or x i 0 ≡ D i → get_or x1 i 0 ≡ D i
-      first = set_kept 0 D x z (third v 0) right0
-
-      next : (i : ℕ) → get_or x1 i 0 ≡ D i → get_or x2 i 0 ≡ D i
-      next = set_kept 0 D x1 (z + 1) (third v 1) right1
-
-      last : (i : ℕ) → get_or x2 i 0 ≡ D i → get_or (set x2 (z + 2) (third v 2)) i 0 ≡ D i
-      last = set_kept 0 D x2 (z + 2) (third v 2) right2
-
-      here : (i t : ℕ) → i / 3 ≡ n * ch + c → i % 3 ≡ t → t < 3 → get_or (set x2 (z + 2) (third v 2)) i 0 ≡ D i
-      here i zero k f o =
-          let e : i ≡ z = omega arith in
-          rw e (last z (next z (get_or-set_same x z (third v 0) 0 (omega arith) ∙ right0)))
-      here i (suc zero) k f o =
-          let e : i ≡ z + 1 = omega arith in
-          rw e (last (z + 1) (get_or-set_same x1 (z + 1) (third v 1) 0 (simp length-set (omega arith)) ∙ right1))
-      here i (suc (suc t)) k f o =
-          let e : i ≡ z + 2 = omega arith in
-          rw e (get_or-set_same x2 (z + 2) (third v 2) 0 (simp length-set (omega arith)) ∙ right2)
-
--- ---- the whole box is the whole list
-
-pub all_items : (S : ℕ → ℕ → ℤ) {ch n : ℕ} {x y : List ℤ} → 0 < ch → length x ≡ n * ch → FillsItems S ch 0 n 0 ch x y → y ≡ tabulate (λ i. S (i % ch) (i / ch)) 0 (n * ch)
-all_items S {ch} {n} {x} {y} p e f =
-    is_tabulate _ 0 (n * ch) (pos 0) y (f.same ∙ e) (λ i l.
-    let z : 0 + i ≡ i = omega arith in
-    rw z (f.done i (omega arith) ((div-lt_iff_lt-mul p).1 l) (omega arith) (mod-lt i p)))
-
-pub all_bytes : (S : ℕ → ℕ → ℤ) {ch n : ℕ} {x y : List ℕ} → 0 < ch → length x ≡ 3 * (n * ch) → FillsBytes S ch 0 n 0 ch x y
-    → y ≡ s24le (tabulate (λ i. S (i % ch) (i / ch)) 0 (n * ch))
-unfolding s24le third
-all_bytes S {ch} {n} {x} {y} p e f =
-    let zs = tabulate (λ i. S (i % ch) (i / ch)) 0 (n * ch) in
-    let size : length zs ≡ n * ch = length_tabulate (λ i. S (i % ch) (i / ch)) 0 (n * ch) in
-    is_tabulate _ 0 (3 * length zs) 0 y (f.same ∙ e ∙ ap (λ (k : ℕ). 3 * k) (sym size)) (λ i l.
-    let z : 0 + i ≡ i = omega arith in
-    let w : 0 + i / 3 ≡ i / 3 = omega arith in
-    let g : get_or zs (i / 3) (pos 0) ≡ S (i / 3 % ch) (i / 3 / ch) = get_d_tabulate (λ i. S (i % ch) (i / ch)) 0 (n * ch) (i / 3) (pos 0) (omega arith) ∙ rw w in
-    rw (z, g) (f.done i (omega arith) ((div-lt_iff_lt-mul p).1 (omega arith)) (omega arith) (mod-lt (i / 3) p)))
+-- one channel of bytes is the samples packed
+pub packed_is : (zs : List ℤ) (n : ℕ) {x y : List ℕ} → length zs ≡ n → length x ≡ 3 * n
+    → ((S : ℕ → ℕ → ℤ) → Held (pos 0) (S 0) 0 (length zs) zs → Drawn bytes S 1 0 (0 + length zs) 0 (0 + 1) x y) → y ≡ s24le zs
+packed_is zs n {x} {y} e room h =
+    let S = λ (c i : ℕ). get_or zs i (pos 0) in
+    let drawn = h S (record { is = λ k l. let z : 0 + k ≡ k = omega arith in rw z refl }) in
+    let size : length x ≡ 3 * ((0 + length zs) * 1) = omega arith in
+    let whole : (0 + length zs) * 1 ≡ length zs = omega arith in
+    all_samples bytes (omega arith) S (omega arith) size drawn
+    ∙ ap (written bytes) (rw whole (sym (is_tabulate (λ i. S (i % 1) (i / 1)) 0 (length zs) (pos 0) zs refl (λ i l.
+    let z : (0 + i) / 1 ≡ i = omega arith in
+    rw z refl))))
+    ∙ written_bytes zs

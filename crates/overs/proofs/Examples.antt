@@ -5,8 +5,9 @@ use Prim.Native.Nat.{ℕ}
 use lib.IntN.{ℤ, pos, negsuc}
 use lib.ListN.{get_or, replicate}
 use Rattle.numbers.specs.Lists.{total}
-use Rattle.overs.specs.Overs.{end_of, stands_at, third_at, third, overs, same_end, none, standing, longer, third_after, at_most_3, normal, step, overs_from, after}
-use Rattle.overs.specs.declared.End.TheVariants.{Neither, High, Low}
+use Rattle.overs.specs.Overs.{end_of, stands_at, third_at, third, overs, same_end, none, length_at, longer, third_after, normal, step_at, step, overs_from, after}
+use Rattle.overs.specs.declared.End.TheVariants.{High, Low}
+use Rattle.std.specs.Prelude.{Some}
 
 abbrev high : ℕ → List ℤ
 high n = replicate n (pos 8388607)
@@ -53,20 +54,20 @@ near = refl
 -- ---- stretches, from what is in progress before them
 
 thousand : overs_from none (low 1000) ≡ 1
-unfolding overs_from step end_of stands_at same_end standing longer third_after
+unfolding overs_from step step_at end_of stands_at same_end length_at longer third_after
 thousand = refl
 
 -- over a border: the third sample first in the next stretch, or last in this one
 first : (overs_from none (high 2) ≡ 0) × (overs_from (after none (high 2)) (high 5) ≡ 1)
-unfolding overs_from after step end_of stands_at same_end standing longer third_after
+unfolding overs_from after step step_at end_of stands_at same_end length_at longer third_after
 first = (refl, refl)
 
 last : (overs_from none (low 3) ≡ 1) × (overs_from (after none (low 3)) (low 5) ≡ 0)
-unfolding overs_from after step end_of stands_at same_end standing longer third_after
+unfolding overs_from after step step_at end_of stands_at same_end length_at longer third_after
 last = (refl, refl)
 
 -- a state from outside: over 3 is 3, 0 is none
-normals : (normal (record { end = High; length = 9 }) ≡ record { end = High; length = 3 })
-    × (normal (record { end = Low; length = 0 }) ≡ none) × (normal (record { end = Neither; length = 2 }) ≡ none)
-unfolding normal standing at_most_3
+normals : (normal (Some (record { end = High; length = 9 })) ≡ Some (record { end = High; length = 3 }))
+    × (normal (Some (record { end = Low; length = 0 })) ≡ none) × (normal none ≡ none)
+unfolding normal
 normals = (refl, refl, refl)

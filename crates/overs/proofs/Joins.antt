@@ -20,9 +20,8 @@ use Rattle.reference.proofs.Promises.{accepted_is, exit_accepted}
 use Rattle.joins.specs.Joins.{Call, convert, convert_run, run_of, samples_of, read_s24le, is_answered_accepted, keep, accepted_calls, AcceptedConverter, AcceptedRun, JoinTo}
 use Rattle.joins.proofs.Bytes.{samples_back}
 use Rattle.joins.proofs.Joins.{cut_runs_join}
-use Rattle.overs.specs.Overs.{overs, in_progress, none, overs_from, after, channel_size, channel}
+use Rattle.overs.specs.Overs.{Progress, overs, in_progress, none, overs_from, after, channel_size, channel}
 use Rattle.overs.specs.Joins.{frame_overs, by_frames, call_samples, call_frames, calls_overs, AsUncut, OversJoin}
-use Rattle.overs.specs.declared.Progress.{Progress}
 use Rattle.overs.proofs.Laws.{after_append, after_is, overs_are, starts, place_inside, place_counted}
 
 -- ---- stretches of a list

@@ -3,11 +3,13 @@ use mathlib.Core.Path.{◌≡◌, refl, ap, sym, ◌∙◌}
 use mathlib.Core.List.{List, [], ◌∷◌, ◌++◌}
 use mathlib.Core.Bool.{Bool, true, false, cond, not, ◌&&◌, or-false, and-false}
 use mathlib.Core.Logic.{⊎_elim}
-use Prim.Native.Nat.{ℕ, zero, suc, ◌+◌, ◌-◌, ◌*◌, ◌/◌, ◌≤◌, ◌<◌}
-use native.Mathlib.Nat.{add-zero, add-suc, le-div_iff_mul-le}
+use Prim.Native.Nat.{min, ℕ, zero, suc, ◌+◌, ◌-◌, ◌*◌, ◌/◌, ◌≤◌, ◌<◌}
+use native.Mathlib.Nat.{add-zero, add-suc, le-div_iff_mul-le, div-le_self}
 use native.Mathlib.Omega.{arith}
-use borrow.Author.Tests.{lt-ltb, ltb-true, ltb-false, ne_eqb}
-use lib.Dec.{eqb, ltb}
+use borrow.Author.Tests.{lt-ltb, ltb-true, ne_eqb}
+use lib.Dec.{eqb, ltb, eqb-suc-zero}
+use Rattle.std.specs.Option.{is_some, is_none}
+use Rattle.std.specs.Prelude.{Option, Some, None}
 use lib.IntN.{ℤ, pos, negsuc}
 use lib.ListN.{length}
 use lib.Signed.{lt_z}
@@ -15,10 +17,19 @@ use Rattle.numbers.specs.Lists.{tabulate, total}
 use Rattle.numbers.proofs.Extremes.{Under}
 use Rattle.numbers.proofs.Lists.{tabulate_join, below_or}
 use Rattle.overs.specs.declared.End.{End}
-use Rattle.overs.specs.declared.End.TheVariants.{Neither, High, Low}
-use Rattle.overs.specs.declared.Progress.{Progress}
+use Rattle.overs.specs.declared.End.TheVariants.{High, Low}
 use Rattle.overs.specs.declared.OverCount.{OverCount}
-use Rattle.overs.specs.Overs.{end_of, same_end, stands_at, third_at, third, overs, just_before, in_progress, none, standing, longer, third_after, at_most_3, normal, step, overs_from, after, Passed, channel_size, channel, overs_of}
+use Rattle.overs.specs.Overs.{Progress, end_of, same_end, stands_at, third_at, third, overs, just_before, in_progress, none, standing, length_at, longer, third_after, normal, step_at, step, overs_from, after, Passed, channel_size, channel, overs_of}
+
+-- ---- nothing
+
+pub nothing_some : {A : Type 0} (o : Option A) → is_some o ≡ false → o ≡ None
+nothing_some None h = refl
+nothing_some (Some x) h = let z : ◌≡◌ {A = ℕ} 0 1 = cc in absurd (omega arith)
+
+pub nothing_none : {A : Type 0} (o : Option A) → is_none o ≡ true → o ≡ None
+nothing_none None h = refl
+nothing_none (Some x) h = let z : ◌≡◌ {A = ℕ} 0 1 = cc in absurd (omega arith)
 
 -- ---- stretches end to end
 
@@ -46,12 +57,12 @@ one_at_most true = omega arith
 one_at_most false = omega arith
 
 pub step_small : (p : Progress) (z : ℤ) → (step p z).count ≤ 1
-unfolding step third_after
-step_small p z = go (same_end (end_of z) p.end)
+unfolding step step_at third_after
+step_small p z = go (end_of z)
   where
-    go : (b : Bool) → (cond {A = OverCount} b (record { count = cond (eqb p.length 2) 1 0; next = standing (end_of z) (longer p.length) }) (record { count = 0; next = standing (end_of z) 1 })).count ≤ 1
-    go true = one_at_most (eqb p.length 2)
-    go false = omega arith
+    go : (e : Option End) → (step_at p e).count ≤ 1
+    go None = omega arith
+    go (Some e) = one_at_most (eqb (length_at p e) 2)
 
 -- no more overs than samples
 pub overs_few : (p : Progress) (zs : List ℤ) → overs_from p zs ≤ length zs
@@ -61,76 +72,39 @@ overs_few p (z ∷ zs) = omega (arith, step_small p z, overs_few (step p z).next
 
 -- ---- ends
 
-same_is : (d e : End) → same_end d e ≡ true → d ≡ e
-unfolding same_end
-same_is Neither e h = let z : ◌≡◌ {A = ℕ} 0 1 = cc in absurd (omega arith)
-same_is High Neither h = let z : ◌≡◌ {A = ℕ} 0 1 = cc in absurd (omega arith)
-same_is High High h = refl
-same_is High Low h = let z : ◌≡◌ {A = ℕ} 0 1 = cc in absurd (omega arith)
-same_is Low Neither h = let z : ◌≡◌ {A = ℕ} 0 1 = cc in absurd (omega arith)
-same_is Low High h = let z : ◌≡◌ {A = ℕ} 0 1 = cc in absurd (omega arith)
-same_is Low Low h = refl
-
-same_turned : (d e : End) → same_end d e ≡ same_end e d
-unfolding same_end
-same_turned Neither Neither = refl
-same_turned Neither High = refl
-same_turned Neither Low = refl
-same_turned High Neither = refl
-same_turned High High = refl
-same_turned High Low = refl
-same_turned Low Neither = refl
-same_turned Low High = refl
-same_turned Low Low = refl
-
-none_same : (e : End) → same_end e Neither ≡ false
-unfolding same_end
-none_same Neither = refl
-none_same High = refl
-none_same Low = refl
+-- a sample's end is this one
+is_end : Option End → End → Bool
+is_end None e = false
+is_end (Some d) e = same_end d e
 
 -- to stand at an end is to have it
-stands_is : (e : End) (z : ℤ) → stands_at e z ≡ same_end (end_of z) e
-unfolding stands_at end_of same_end
-stands_is Neither z = sym (none_same (end_of z))
+stands_is : (e : End) (z : ℤ) → stands_at e z ≡ is_end (end_of z) e
+unfolding stands_at end_of same_end is_end
 stands_is High (pos a) = go (eqb a 8388607)
   where
-    go : (b : Bool) → b ≡ same_end (cond b High Neither) High
+    go : (b : Bool) → b ≡ is_end (cond b (Some High) None) High
     go true = refl
     go false = refl
 stands_is High (negsuc a) = go (eqb a 8388607)
   where
-    go : (b : Bool) → false ≡ same_end (cond b Low Neither) High
+    go : (b : Bool) → false ≡ is_end (cond b (Some Low) None) High
     go true = refl
     go false = refl
 stands_is Low (pos a) = go (eqb a 8388607)
   where
-    go : (b : Bool) → false ≡ same_end (cond b High Neither) Low
+    go : (b : Bool) → false ≡ is_end (cond b (Some High) None) Low
     go true = refl
     go false = refl
 stands_is Low (negsuc a) = go (eqb a 8388607)
   where
-    go : (b : Bool) → b ≡ same_end (cond b Low Neither) Low
+    go : (b : Bool) → b ≡ is_end (cond b (Some Low) None) Low
     go true = refl
     go false = refl
 
-standing_is : (e : End) (n : ℕ) → same_end e e ≡ true → standing e n ≡ record { end = e; length = n }
-unfolding same_end standing
-standing_is Neither n h = let z : ◌≡◌ {A = ℕ} 0 1 = cc in absurd (omega arith)
-standing_is High n h = refl
-standing_is Low n h = refl
-
-at_most_is : (n : ℕ) → n ≤ 3 → at_most_3 n ≡ n
-unfolding at_most_3
-at_most_is n h = go (ltb n 3) refl
-  where
-    go : (b : Bool) → ltb n 3 ≡ b → cond b n 3 ≡ n
-    go true e = refl
-    go false e = omega (arith, ltb-false n 3 e)
-
-real : (e : End) (j : ℕ) → same_end e e ≡ true → j ≤ 2 → normal (record { end = e; length = suc j }) ≡ record { end = e; length = suc j }
-unfolding normal
-real e j r h = rw (ne_eqb (suc j) 0 (λ e. omega arith), at_most_is (suc j) (omega arith), standing_is e (suc j) r)
+same_self : (e : End) → same_end e e ≡ true
+unfolding same_end
+same_self High = refl
+same_self Low = refl
 
 -- ---- the four samples that a third looks at
 
@@ -190,62 +164,54 @@ module _ (s : ℕ → ℤ) where
   longer_is e (suc (suc zero)) = long_2 (stands_at e (s 1)) (stands_at e (s 0))
   longer_is e (suc (suc (suc k))) = long_3 (stands_at e (s (suc (suc k)))) (stands_at e (s (suc k))) (stands_at e (s k))
 
-  -- the end that a sample stands at says which third it can be
-  third_of : (n : ℕ) (e : End) → end_of (s n) ≡ e → third s n ≡ (same_end e e && eqb (just_before s e n 3) 2)
+  -- a sample at no end stands at neither; one at an end, at that one alone
+  at_none : (n : ℕ) (e : End) → end_of (s n) ≡ None → stands_at e (s n) ≡ false
+  unfolding is_end
+  at_none n e h = rw (stands_is e (s n), h)
+
+  at_end : (n : ℕ) (d e : End) → end_of (s n) ≡ Some d → stands_at e (s n) ≡ same_end d e
+  unfolding is_end
+  at_end n d e h = rw (stands_is e (s n), h)
+
+  no_third : (n : ℕ) → end_of (s n) ≡ None → third s n ≡ false
+  unfolding third
+  no_third n h = rw (third_is High n, third_is Low n, at_none n High h, at_none n Low h)
+
+  third_of : (n : ℕ) (e : End) → end_of (s n) ≡ Some e → third s n ≡ eqb (just_before s e n 3) 2
   unfolding third same_end
-  third_of n Neither h = rw (third_is High n, third_is Low n, stands_is High (s n), stands_is Low (s n), h)
-  third_of n High h = rw (third_is High n, third_is Low n, stands_is High (s n), stands_is Low (s n), h) (or-false (eqb (just_before s High n 3) 2))
-  third_of n Low h = rw (third_is High n, third_is Low n, stands_is High (s n), stands_is Low (s n), h)
+  third_of n High h = rw (third_is High n, third_is Low n, at_end n High High h, at_end n High Low h) (or-false (eqb (just_before s High n 3) 2))
+  third_of n Low h = rw (third_is High n, third_is Low n, at_end n Low High h, at_end n Low Low h)
+
+  other : (d e : End) (n : ℕ) → cond (same_end d e) (suc (just_before s d n 2)) 0 ≡ cond (same_end d e) (suc (just_before s e n 2)) 0
+  unfolding same_end
+  other High High n = refl
+  other High Low n = refl
+  other Low High n = refl
+  other Low Low n = refl
 
   -- what is in progress at an end is what stands just before
-  held_same : (e : End) (n : ℕ) → same_end e (in_progress s n).end ≡ true → (in_progress s n).length ≡ just_before s e n 3
-  unfolding in_progress
-  held_same e zero h = let z : ◌≡◌ {A = ℕ} 0 1 = omega (arith, ap {B = ℕ} (λ b. cond b 1 0) (sym (none_same e) ∙ h)) in absurd (omega arith)
-  held_same e (suc n) h = ap (λ d. just_before s d (suc n) 3) (sym (same_is e (end_of (s n)) h))
+  held_is : (e : End) (n : ℕ) → length_at (in_progress s n) e ≡ just_before s e n 3
+  unfolding in_progress standing length_at just_before
+  held_is e zero = refl
+  held_is e (suc n) = go (end_of (s n)) refl
+    where
+      go : (d : Option End) → end_of (s n) ≡ d → length_at (standing d (λ f. just_before s f (suc n) 3)) e ≡ just_before s e (suc n) 3
+      go None h = rw (at_none n e h)
+      go (Some d) h = rw (at_end n d d h, at_end n d e h, same_self d) (other d e n)
 
-  held_other : (e : End) (n : ℕ) → same_end e (in_progress s n).end ≡ false → just_before s e n 3 ≡ 0
-  unfolding in_progress just_before
-  held_other e zero h = refl
-  held_other e (suc n) h = rw (stands_is e (s n), same_turned (end_of (s n)) e, h)
-
-  one_before : (n : ℕ) (e : End) → end_of (s n) ≡ e → same_end e e ≡ true → just_before s e (suc n) 3 ≡ suc (just_before s e n 2)
+  -- so many stand before the sample after one that stands at the end
+  one_before : (n : ℕ) (e : End) → end_of (s n) ≡ Some e → just_before s e (suc n) 3 ≡ suc (just_before s e n 2)
   unfolding just_before
-  one_before n e h r = rw (stands_is e (s n), h, r)
-
-  next_is : (n : ℕ) (e : End) → end_of (s n) ≡ e → same_end e e ≡ true → in_progress s (suc n) ≡ record { end = e; length = suc (just_before s e n 2) }
-  unfolding in_progress
-  next_is n e h r =
-      ap (λ d. record { end = d; length = just_before s d (suc n) 3 }) h ∙ ap (λ (k : ℕ). record { end = e; length = k }) (one_before n e h r)
-
-  -- the two sides of `step` at an end, by whether the sample goes on with what is in progress
-  counted : (n : ℕ) (e : End) (b : Bool) → same_end e (in_progress s n).end ≡ b → same_end e e ≡ true → end_of (s n) ≡ e
-      → cond {A = OverCount} b (record { count = third_after (in_progress s n).length; next = standing e (longer (in_progress s n).length) }) (record { count = 0; next = standing e 1 })
-      ≡ record { count = cond (third s n) 1 0; next = in_progress s (suc n) }
-  unfolding third_after longer
-  counted n e true b r h =
-      rw (third_of n e h, r, next_is n e h r, held_same e n b, standing_is e (longer (just_before s e n 3)) r, longer_is e n)
-  counted n e false b r h =
-      let z = held_other e n b in
-      let l : suc (just_before s e n 2) ≡ 1 = sym (longer_is e n) ∙ ap longer z in
-      rw (third_of n e h, r, next_is n e h r, z, l, standing_is e 1 r)
-
-  at_none : (n : ℕ) → end_of (s n) ≡ Neither → in_progress s (suc n) ≡ none
-  unfolding in_progress just_before stands_at same_end
-  at_none n h = rw h
-
-  no_third : (n : ℕ) → end_of (s n) ≡ Neither → third s n ≡ false
-  unfolding same_end
-  no_third n h = third_of n Neither h
+  one_before n e h = rw (at_end n e e h, same_self e)
 
   -- one sample more: the third of an over is counted, and what is in progress is what is in progress one place on
   one_more : (n : ℕ) → step (in_progress s n) (s n) ≡ record { count = cond (third s n) 1 0; next = in_progress s (suc n) }
-  unfolding step same_end standing
+  unfolding step step_at in_progress standing third_after longer
   one_more n = go (end_of (s n)) refl
     where
-      go : (e : End) → end_of (s n) ≡ e → step (in_progress s n) (s n) ≡ record { count = cond (third s n) 1 0; next = in_progress s (suc n) }
-      go Neither h = rw (no_third n h, at_none n h, h)
-      go High h = rw h (counted n High (same_end High (in_progress s n).end) refl refl h)
-      go Low h = rw h (counted n Low (same_end Low (in_progress s n).end) refl refl h)
+      go : (e : Option End) → end_of (s n) ≡ e → step_at (in_progress s n) e ≡ record { count = cond (third s n) 1 0; next = standing e (λ f. just_before s f (suc n) 3) }
+      go None h = rw (no_third n h)
+      go (Some e) h = rw (third_of n e h, held_is e n, one_before n e h, ← longer_is e n)
 
   -- n samples from place a on
   pub after_is : (a n : ℕ) → after (in_progress s a) (tabulate s a n) ≡ in_progress s (a + n)
@@ -277,14 +243,15 @@ module _ (s : ℕ → ℤ) where
       go false h = omega arith
 
   pub normal_is : (n : ℕ) → normal (in_progress s n) ≡ in_progress s n
-  unfolding normal same_end
-  normal_is zero = rw starts
+  unfolding in_progress standing normal
+  normal_is zero = refl
   normal_is (suc n) = go (end_of (s n)) refl
     where
-      go : (e : End) → end_of (s n) ≡ e → normal (in_progress s (suc n)) ≡ in_progress s (suc n)
-      go Neither h = rw (at_none n h)
-      go High h = rw (next_is n High h refl) (real High (just_before s High n 2) refl (held_at High n 2))
-      go Low h = rw (next_is n Low h refl) (real Low (just_before s Low n 2) refl (held_at Low n 2))
+      go : (e : Option End) → end_of (s n) ≡ e → normal (standing e (λ f. just_before s f (suc n) 3)) ≡ standing e (λ f. just_before s f (suc n) 3)
+      go None h = refl
+      go (Some e) h =
+          let l : min (suc (just_before s e n 2)) 3 ≡ suc (just_before s e n 2) = omega (arith, held_at e n 2) in
+          rw (one_before n e h, eqb-suc-zero (just_before s e n 2), l)
 
   -- what `overs` answers of items that hold the channel's samples a, …, a + n - 1, from what is in progress at a
   pub answer_is : (items : List ℤ) (channels c a n : ℕ) → channel items channels c ≡ tabulate s a n
@@ -293,6 +260,9 @@ module _ (s : ℕ → ℤ) where
   answer_is items channels c a n e = rw (normal_is a, e, overs_are a n, after_is a n)
 
 -- ---- a channel's places
+
+pub small_quotient : (a n : ℕ) → a / n ≤ a
+small_quotient a n = div-le_self a n
 
 pub place_inside : (size n c k : ℕ) → k < channel_size size n c → (c < n) × (k * n + c < size)
 unfolding channel_size
@@ -316,26 +286,26 @@ place_counted size n c k i h =
 -- ---- a stretch with no sample at full scale
 
 -- a sample between two numbers that lie between the ends
-pub between : (low z high : ℤ) → lt_z (negsuc 8388607) low ≡ true → lt_z high (pos 8388607) ≡ true → Under low z → Under z high → end_of z ≡ Neither
+pub between : (low z high : ℤ) → lt_z (negsuc 8388607) low ≡ true → lt_z high (pos 8388607) ≡ true → Under low z → Under z high → end_of z ≡ None
 unfolding end_of stands_at
 between low (pos a) (pos h) l e p q = rw (ne_eqb a 8388607 (λ i. omega (arith, ltb-true h 8388607 e)))
 between low (pos a) (negsuc h) l e p q = absurd (omega arith)
 between (negsuc b) (negsuc a) high l e p q = rw (ne_eqb a 8388607 (λ i. omega (arith, ltb-true b 8388607 l)))
 between (pos b) (negsuc a) high l e p q = absurd (omega arith)
 
-quiet_step : (p : Progress) (z : ℤ) → end_of z ≡ Neither → step p z ≡ record { count = 0; next = none }
-unfolding step same_end standing
+quiet_step : (p : Progress) (z : ℤ) → end_of z ≡ None → step p z ≡ record { count = 0; next = none }
+unfolding step step_at
 quiet_step p z h = rw h
 
 -- it has no overs, and nothing is in progress after it
 module _ (p : Progress) (f : ℕ → ℤ) (a : ℕ) where
-  pub quiet : (n : ℕ) → ((k : ℕ) → k < n → end_of (f (a + k)) ≡ Neither) → overs_from p (tabulate f a n) ≡ 0
+  pub quiet : (n : ℕ) → ((k : ℕ) → k < n → end_of (f (a + k)) ≡ None) → overs_from p (tabulate f a n) ≡ 0
   unfolding overs_from tabulate
   quiet zero h = refl
   quiet (suc n) h =
       overs_more p (tabulate f a n) (f (a + n)) ∙ rw (quiet n (λ k l. h k (omega arith)), quiet_step (after p (tabulate f a n)) (f (a + n)) (h n (omega arith)))
 
-  pub quiet_after : (n : ℕ) → 0 < n → ((k : ℕ) → k < n → end_of (f (a + k)) ≡ Neither) → after p (tabulate f a n) ≡ none
+  pub quiet_after : (n : ℕ) → 0 < n → ((k : ℕ) → k < n → end_of (f (a + k)) ≡ None) → after p (tabulate f a n) ≡ none
   unfolding tabulate
   quiet_after zero some h = absurd (omega arith)
   quiet_after (suc n) some h =
@@ -343,25 +313,28 @@ module _ (p : Progress) (f : ℕ → ℤ) (a : ℕ) where
 
 -- ---- three samples of which the third is at no end, where nothing is in progress before them
 
-first_step : (p : Progress) (z : ℤ) → p.end ≡ Neither → step p z ≡ record { count = 0; next = standing (end_of z) 1 }
-unfolding step
-first_step p z h = rw (h, none_same (end_of z))
+-- the first two give no over
+two_steps : (y z : ℤ) → ((step none y).count ≡ 0) × ((step (step none y).next z).count ≡ 0)
+unfolding step step_at length_at longer third_after
+two_steps y z = go (end_of y) (end_of z)
+  where
+    no_count : (b : Bool) → ◌≡◌ {A = ℕ} (cond (eqb (cond b 1 0) 2) 1 0) 0
+    no_count true = refl
+    no_count false = refl
 
-no_count : (b : Bool) (q r : Progress) → (cond {A = OverCount} b (record { count = 0; next = q }) (record { count = 0; next = r })).count ≡ 0
-no_count true q r = refl
-no_count false q r = refl
-
-second_step : (e : End) (z : ℤ) → (step (standing e 1) z).count ≡ 0
-unfolding step standing third_after
-second_step Neither z = rw (none_same (end_of z))
-second_step High z = no_count (same_end (end_of z) High) _ _
-second_step Low z = no_count (same_end (end_of z) Low) _ _
+    go : (d e : Option End) → ((step_at none d).count ≡ 0) × ((step_at (step_at none d).next e).count ≡ 0)
+    go None None = (refl, refl)
+    go None (Some e) = (refl, refl)
+    go (Some d) None = (refl, refl)
+    go (Some d) (Some e) = (refl, no_count (same_end d e))
 
 -- none of them is the third of an over, and nothing is in progress after them
-module _ (p : Progress) (f : ℕ → ℤ) (a : ℕ) (start : p.end ≡ Neither) (third : end_of (f (a + 2)) ≡ Neither) where
+module _ (p : Progress) (f : ℕ → ℤ) (a : ℕ) (start : p ≡ none) (third : end_of (f (a + 2)) ≡ None) where
   three_passed : overs_from p (tabulate f a 3) ≡ 0
   unfolding overs_from tabulate
-  three_passed = rw (first_step p (f (a + 0)) start, quiet_step (step (standing (end_of (f (a + 0))) 1) (f (a + 1))).next (f (a + 2)) third, second_step (end_of (f (a + 0))) (f (a + 1)))
+  three_passed =
+      let two = two_steps (f (a + 0)) (f (a + 1)) in
+      rw (start, two.0, two.1, quiet_step (step (step none (f (a + 0))).next (f (a + 1))).next (f (a + 2)) third)
 
   three_after : after p (tabulate f a 3) ≡ none
   unfolding after tabulate
@@ -374,13 +347,13 @@ module _ (s : ℕ → ℤ) (p : Progress) (a : ℕ) where
       let e : a - a ≡ 0 = omega arith in
       record { on = omega arith; no_overs = rw e; nothing = λ l. absurd (omega arith) }
 
-  module _ (e : ℕ) (so : Passed s p a e) (start : p.end ≡ Neither) (third : end_of (s (e + 2)) ≡ Neither) where
+  module _ (e : ℕ) (so : Passed s p a e) (start : p ≡ none) (third : end_of (s (e + 2)) ≡ None) where
     -- nothing is in progress at e
-    still : (after p (tabulate s a (e - a))).end ≡ Neither
+    still : after p (tabulate s a (e - a)) ≡ none
     unfolding after tabulate
     still =
         ⊎_elim
-        (λ some. ap (λ (q : Progress). q.end) (so.nothing some))
+        (λ some. so.nothing some)
         (λ same. let z : e - a ≡ 0 = omega arith in rw z start)
         (below_or a e)
 

@@ -1,9 +1,9 @@
 -- Document 02's overs: three samples in a row at one end of full scale, counted at the third.
-use Rattle.std.specs.Prelude.{◌≡◌, List, [], ◌∷◌, Bool, true, false, cond, not, ◌&&◌, ◌||◌, ℕ, zero, suc, ◌+◌, ◌-◌, ◌*◌, ◌/◌, ◌≤◌, ◌<◌, eqb, ltb, ℤ, pos, negsuc, length, get_or}
+use Rattle.std.specs.Prelude.{◌≡◌, Option, Some, None, List, [], ◌∷◌, Bool, true, false, cond, not, ◌&&◌, ◌||◌, ℕ, zero, suc, ◌+◌, ◌-◌, ◌*◌, ◌/◌, ◌≤◌, ◌<◌, min, eqb, ltb, ℤ, pos, negsuc, length, get_or}
 use Rattle.numbers.specs.Lists.{tabulate, count}
 use Rattle.overs.specs.declared.End.{End}
-use Rattle.overs.specs.declared.End.TheVariants.{Neither, High, Low}
-use Rattle.overs.specs.declared.Progress.{Progress}
+use Rattle.overs.specs.declared.End.TheVariants.{High, Low}
+use Rattle.overs.specs.declared.Standing.{Standing}
 use Rattle.overs.specs.declared.OverCount.{OverCount}
 
 -- ---- full scale
@@ -17,17 +17,25 @@ same_number (negsuc a) (negsuc b) = eqb a b
 
 -- the sample stands at this end of full scale
 unfoldable pub stands_at : End → ℤ → Bool
-stands_at Neither z = false
 stands_at High z = same_number z (pos 8388607)
 stands_at Low z = same_number z (negsuc 8388607)
 
 -- the end that a sample stands at
-unfoldable pub end_of : ℤ → End
-end_of z = cond (stands_at High z) High (cond (stands_at Low z) Low Neither)
+unfoldable pub end_of : ℤ → Option End
+end_of z = cond (stands_at High z) (Some High) (cond (stands_at Low z) (Some Low) None)
 
--- nothing in progress: the start
+-- what is in progress
+abbrev pub Progress : Type 0
+Progress = Option Standing
+
+-- nothing: the start
 abbrev pub none : Progress
-none = record { end = Neither; length = 0 }
+none = None
+
+-- so many samples at an end; at no end, nothing
+unfoldable pub standing : Option End → (End → ℕ) → Progress
+standing None n = none
+standing (Some e) n = Some (record { end = e; length = n e })
 
 -- ---- a channel's signal: its sample n is `s n`
 
@@ -53,47 +61,42 @@ module _ (s : ℕ → ℤ) where
   -- what is in progress at place n: the end of sample n - 1, and how many samples of it stand just before n, held at 3
   unfoldable pub in_progress : ℕ → Progress
   in_progress zero = none
-  in_progress (suc n) = record { end = end_of (s n); length = just_before (end_of (s n)) (suc n) 3 }
+  in_progress (suc n) = standing (end_of (s n)) (λ e. just_before e (suc n) 3)
 
 -- ---- a stretch from what is in progress before it: the samples before are not seen
 
--- both stand at one end
+-- two ends are the same
 unfoldable pub same_end : End → End → Bool
-same_end Neither e = false
-same_end High Neither = false
 same_end High High = true
 same_end High Low = false
-same_end Low Neither = false
 same_end Low High = false
 same_end Low Low = true
 
--- so many samples at an end; at no end, none
-unfoldable pub standing : End → ℕ → Progress
-standing Neither n = none
-standing High n = record { end = High; length = n }
-standing Low n = record { end = Low; length = n }
-
--- a length held at 3
-unfoldable pub at_most_3 : ℕ → ℕ
-at_most_3 n = cond (ltb n 3) n 3
+-- how many samples in progress stand at this end
+unfoldable pub length_at : Progress → End → ℕ
+length_at None e = 0
+length_at (Some q) e = cond (same_end q.end e) q.length 0
 
 -- one sample longer, held at 3
 unfoldable pub longer : ℕ → ℕ
-longer n = cond (ltb n 3) (n + 1) 3
+longer n = min n 2 + 1
 
 -- 1 where the sample after so many is the third
 unfoldable pub third_after : ℕ → ℕ
 third_after n = cond (eqb n 2) 1 0
 
--- a length over 3 counts as 3; 0, or no end, as none
+-- a length over 3 counts as 3; 0 as nothing
 unfoldable pub normal : Progress → Progress
-normal p = cond (eqb p.length 0) none (standing p.end (at_most_3 p.length))
+normal None = none
+normal (Some q) = cond (eqb q.length 0) none (Some (record { end = q.end; length = min q.length 3 }))
 
--- one sample more
+-- one sample more: at no end, at an end
+unfoldable pub step_at : Progress → Option End → OverCount
+step_at p None = record { count = 0; next = none }
+step_at p (Some e) = record { count = third_after (length_at p e); next = Some (record { end = e; length = longer (length_at p e) }) }
+
 unfoldable pub step : Progress → ℤ → OverCount
-step p z =
-    cond (same_end (end_of z) p.end) (record { count = third_after p.length; next = standing (end_of z) (longer p.length) })
-    (record { count = 0; next = standing (end_of z) 1 })
+step p z = step_at p (end_of z)
 
 -- overs of a stretch
 unfoldable pub overs_from : Progress → List ℤ → ℕ

@@ -1,13 +1,12 @@
 -- A call over WAV files leaves nothing free.
-use mathlib.Core.Path.{◌≡◌, sym, ap, ◌∙◌}
+use mathlib.Core.Path.{◌≡◌, sym, ◌∙◌}
 use mathlib.Core.List.{List}
 use Prim.Native.Nat.{ℕ}
-use Rattle.reference.specs.Refusals.{decision}
 use Rattle.reference.proofs.Promises.{decision_exact}
-use Rattle.interface.specs.Settings.{CConverter}
+use Rattle.interface.specs.Settings.{CConverter, Input}
 use Rattle.wav_format.proofs.Theorems.{read_exact}
 use Rattle.wav.proofs.Theorems.{wav_exact}
-use Rattle.puigneht.specs.Calls.{Input, Results}
+use Rattle.puigneht.specs.Calls.{Results}
 use Rattle.puigneht.specs.Wav.{WavConvertCall, WavReadCall, WavWriteCall}
 use Rattle.puigneht.proofs.Exact.{call_exact, conversion_exact}
 

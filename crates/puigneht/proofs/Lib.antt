@@ -6,3 +6,4 @@ pub mod ExactWav
 pub mod ExactTurns
 pub mod ExactOvers
 pub mod ExactSheets
+mod Changes

@@ -1,33 +1,16 @@
 -- What each call of the C interface promises: its answer, and what every lent list holds when it returns. A primed list is one at exit.
-use Rattle.std.specs.Prelude.{◌≡◌, List, Bool, true, false, ◌&&◌, ℕ, eqb, ℤ, Float, length}
-use Rattle.reference.specs.Frames.{Run, run}
-use Rattle.reference.specs.Refusals.{rack, desk, decision, gain_decision}
-use Rattle.reference.specs.Promises.{by_decision, GainPromise, OpeningPromise, ConvertRunPromise, ConvertFramePromise, BytesPromise}
+use Rattle.std.specs.Prelude.{◌≡◌, Result, List, Bool, true, false, ◌&&◌, ℕ, eqb, ℤ, Float, length}
+use Rattle.reference.specs.Frames.{Run}
+use Rattle.reference.specs.Refusals.{rack, desk, decision}
+use Rattle.reference.specs.Promises.{by_decision, Converted, GainPromise, OpeningPromise, ConvertRunPromise, ConvertFramePromise, BytesPromise}
 use Rattle.reference.specs.Changes.{Change, change, ChangePromise}
+use Rattle.reference.specs.declared.Gain.{Gain}
 use Rattle.reference.specs.declared.Converter.{Converter}
-use Rattle.reference.specs.declared.FromDb.{FromDb}
-use Rattle.reference.specs.declared.Opened.{Opened}
-use Rattle.reference.specs.declared.Converted.{Converted}
+use Rattle.reference.specs.declared.PcmError.{PcmError}
 use Rattle.reference.specs.declared.Limit.{Limit}
 use Rattle.interface.specs.Codes.{rate_of, cutoff_of, known_flag, flag}
-use Rattle.interface.specs.Settings.{CSettings, known_settings, gain_of, settings_of, CConverter, stored, held_converter}
-use Rattle.interface.specs.Told.{room, room_for_stats, StatLists, told_stats, Told, ToldWhole, gain_floats}
-
--- ---- arguments
-
--- a run whose neighbours are there by a flag
-pub record Input : Type 0 where
-  pub has_before : ℕ
-  pub before : List ℕ
-  pub frames : List ℕ
-  pub has_after : ℕ
-  pub after : List ℕ
-
-abbrev pub input : ℕ → List ℕ → List ℕ → ℕ → List ℕ → Input
-input hb b f ha a = record { has_before = hb; before = b; frames = f; has_after = ha; after = a }
-
-abbrev pub run_of : Input → Run
-run_of i = run (flag i.has_before) i.before i.frames (flag i.has_after) i.after
+use Rattle.interface.specs.Settings.{CSettings, known_settings, gain_of, settings_of, CConverter, known_converter, stored, held_converter, Input, run_of, known_run}
+use Rattle.interface.specs.Told.{room, StatLists, has_room, told_stats, if_ok, Told, ToldWhole, gain_floats}
 
 -- ---- results
 
@@ -49,10 +32,10 @@ pub record Call (understood : Bool) (answer : ℕ) (Kept Done : Type 0) : Type 0
 
 -- the gain call's answer keeps its promise, and is told
 pub record GainDone (db : Float) (gain gain' decibels' : List Float) (answer : ℕ) : Type 0 where
-  pub made : FromDb
+  pub made : Result Gain PcmError
   pub promise : GainPromise db made
-  pub told : Told (gain_decision made) answer decibels'
-  pub written : gain' ≡ gain_floats made gain
+  pub told : Told (decision made) answer decibels'
+  pub written : gain' ≡ if_ok gain_floats made gain
 
 abbrev pub gain_understood : List Float → List Float → Bool
 gain_understood gain decibels = eqb (length gain) 2 && eqb (length decibels) 1
@@ -63,13 +46,21 @@ GainCall db gain gain' decibels decibels' answer =
     ((gain' ≡ gain) × (decibels' ≡ decibels))
     (GainDone db gain gain' decibels' answer)
 
--- so for opening, and for a change: the numbers that the new converter stores are written if it was accepted. `stored₀` is the list lent for them (C's
--- `numbers`), `numbers` the one for a refusal's data
-pub record OpenDone (Promise : Opened → Type 0) (stored₀ stored' numbers' : List ℕ) (decibels' : List Float) (answer : ℕ) : Type 0 where
-  pub made : Opened
+-- so for opening: the numbers that the converter stores are written if it was accepted. `stored₀` is the list lent for them (C's `numbers`),
+-- `numbers` the one for a refusal's data
+pub record OpenDone (Promise : Result Converter PcmError → Type 0) (stored₀ stored' numbers' : List ℕ) (decibels' : List Float) (answer : ℕ) : Type 0 where
+  pub made : Result Converter PcmError
   pub promise : Promise made
-  pub told : ToldWhole (decision made.verdict) answer numbers' decibels'
-  pub written : stored' ≡ by_decision (decision made.verdict) (stored made.converter) stored₀
+  pub told : ToldWhole (decision made) answer numbers' decibels'
+  pub written : stored' ≡ if_ok stored made stored₀
+
+-- and for a change, of a converter that is `held` then
+pub record ChangeDone (Promise : Converter → Result (Unit {0}) PcmError → Type 0) (stored₀ stored' numbers' : List ℕ) (decibels' : List Float) (answer : ℕ) : Type 0 where
+  pub held : Converter
+  pub made : Result (Unit {0}) PcmError
+  pub promise : Promise held made
+  pub told : ToldWhole (decision made) answer numbers' decibels'
+  pub written : stored' ≡ by_decision (decision made) (stored held) stored₀
 
 abbrev pub open_understood : CSettings → List ℕ → List ℕ → List Float → Bool
 open_understood s stored₀ numbers decibels =
@@ -101,24 +92,17 @@ abbrev pub ChangeCall : CConverter → CChange → List ℕ → List ℕ → Lis
 ChangeCall c w stored' numbers numbers' decibels decibels' answer =
     Call (known_change w && open_understood c.settings c.numbers numbers decibels) answer
     ((stored' ≡ c.numbers) × (numbers' ≡ numbers) × (decibels' ≡ decibels))
-    (OpenDone (ChangePromise (held_converter c) (change_of w)) c.numbers stored' numbers' decibels' answer)
+    (ChangeDone (ChangePromise (held_converter c) (change_of w)) c.numbers stored' numbers' decibels' answer)
 
 -- and for a conversion, whose statistics are written besides if it was accepted
 pub record ConversionDone (Promise : Converted → Type 0) (old new : Results) (answer : ℕ) : Type 0 where
   pub made : Converted
   pub promise : Promise made
-  pub told : ToldWhole (decision made.verdict) answer new.numbers new.decibels
-  pub counted : new.stats ≡ by_decision (decision made.verdict) (told_stats made.stats) old.stats
-
-abbrev pub has_room : StatLists → Bool
-has_room s = room_for_stats (length s.clipped) (length s.lowest) (length s.highest) (length s.empty)
+  pub told : ToldWhole (decision made) answer new.numbers new.decibels
+  pub counted : new.stats ≡ if_ok told_stats made old.stats
 
 abbrev pub conversion_understood : CConverter → Input → Results → Bool
-conversion_understood c i old =
-    let s = c.settings in
-    known_settings s.rate s.cutoff (length s.gain) s.own
-    && (eqb (length c.numbers) 3
-    && (known_flag i.has_before && (known_flag i.has_after && (has_room old.stats && room (length old.numbers) (length old.decibels)))))
+conversion_understood c i old = known_converter c && (known_run i && (has_room old.stats && room (length old.numbers) (length old.decibels)))
 
 -- a call for 32-bit samples
 abbrev pub SamplesCall : (Converter → Run → List ℤ → List ℤ → Converted → Type 0) → CConverter → Input → List ℤ → List ℤ → Results → Results → ℕ → Type 0

@@ -1,7 +1,5 @@
 -- What the calls about level sheets promise. A primed list is one at exit.
 use Rattle.std.specs.Prelude.{◌≡◌, List, ◌&&◌, ℕ, eqb, length}
-use Rattle.reference.specs.Refusals.{decide}
-use Rattle.reference.specs.Promises.{by_decision}
 use Rattle.reference.specs.Statistics.{joined_stats}
 use Rattle.sheet.specs.Sheet.{sheet}
 use Rattle.sheet.specs.Promises.{sheet_places}

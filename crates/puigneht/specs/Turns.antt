@@ -1,7 +1,7 @@
 -- What the call `puigneht_turns` promises. A primed list is one at exit.
-use Rattle.std.specs.Prelude.{◌≡◌, List, Bool, ◌&&◌, ℕ, eqb, ℤ, length}
+use Rattle.std.specs.Prelude.{◌≡◌, Result, List, Bool, ◌&&◌, ℕ, eqb, ℤ, length}
 use Rattle.reference.specs.Refusals.{decision, refusal_number}
-use Rattle.reference.specs.declared.Verdict.{Verdict}
+use Rattle.reference.specs.declared.PcmError.{PcmError}
 use Rattle.schedule.specs.Promise.{SimulatePromise}
 use Rattle.puigneht.specs.Calls.{Call}
 
@@ -12,7 +12,7 @@ turns_understood frames dues finishes late =
 
 -- the simulation keeps its promise, and the number of its decision is answered
 pub record TurnsDone (frames dues : List ℕ) (turn : ℕ) (finishes : List ℕ) (late : List ℤ) (finishes' : List ℕ) (late' : List ℤ) (answer : ℕ) : Type 0 where
-  pub made : Verdict
+  pub made : Result (Unit {0}) PcmError
   pub promise : SimulatePromise frames dues turn finishes late finishes' late' made
   pub told : answer ≡ refusal_number (decision made)
 

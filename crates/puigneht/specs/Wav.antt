@@ -1,17 +1,17 @@
 -- What the calls over WAV files promise. A primed list is one at exit.
-use Rattle.std.specs.Prelude.{◌≡◌, List, [], ◌∷◌, Bool, not, ◌&&◌, ℕ, eqb, length}
+use Rattle.std.specs.Prelude.{◌≡◌, Result, List, [], ◌∷◌, not, ◌&&◌, ℕ, eqb, length}
 use Rattle.reference.specs.Refusals.{Place, place, decision, decide, refusal_number}
 use Rattle.reference.specs.Promises.{by_decision}
-use Rattle.reference.specs.declared.Verdict.{Verdict}
+use Rattle.reference.specs.declared.PcmError.{PcmError}
 use Rattle.interface.specs.Codes.{hertz, rate_of, known_rate, known_flag, flag, data_numbers}
-use Rattle.interface.specs.Settings.{CConverter, held_converter}
+use Rattle.interface.specs.Settings.{CConverter, held_converter, Input, run_of}
+use Rattle.interface.specs.Told.{if_ok}
 use Rattle.wav_format.specs.Wav.{wav_file}
-use Rattle.wav_format.specs.Places.{read_decision, write_places}
+use Rattle.wav_format.specs.Places.{write_places}
 use Rattle.wav_format.specs.Promises.{ReadPromise, file_samples}
-use Rattle.wav_format.specs.declared.WavRead.{WavRead}
-use Rattle.wav_format.specs.declared.WavRead.TheVariants as answer
+use Rattle.wav_format.specs.declared.WavFormat.{WavFormat}
 use Rattle.wav.specs.Promises.{WavPromise}
-use Rattle.puigneht.specs.Calls.{Input, run_of, Results, Call, ConversionDone, conversion_understood}
+use Rattle.puigneht.specs.Calls.{Results, Call, ConversionDone, conversion_understood}
 
 -- ---- a file from a run
 
@@ -24,15 +24,14 @@ WavConvertCall c i lent out out' counts counts' old new answer =
 -- ---- the reader
 
 -- rate, channels, and where the sample bytes begin and how many there are, of a file that was taken
-abbrev pub read_numbers : WavRead → ℕ → List ℕ → List ℕ
-read_numbers (answer.Wav f) n old = hertz f.rate ∷ f.channels ∷ 44 ∷ n ∷ []
-read_numbers (answer.Refused e) n old = old
+abbrev pub read_numbers : ℕ → WavFormat → List ℕ
+read_numbers n f = hertz f.rate ∷ f.channels ∷ 44 ∷ n ∷ []
 
 pub record ReadDone (file told told' : List ℕ) (answer : ℕ) : Type 0 where
-  pub made : WavRead
+  pub made : Result WavFormat PcmError
   pub promise : ReadPromise file made
-  pub number : answer ≡ refusal_number (read_decision made)
-  pub written : told' ≡ read_numbers made (length (file_samples file)) told
+  pub number : answer ≡ refusal_number (decision made)
+  pub written : told' ≡ if_ok (read_numbers (length (file_samples file))) made told
 
 abbrev pub WavReadCall : List ℕ → List ℕ → List ℕ → ℕ → Type 0
 WavReadCall file told told' answer = Call (eqb (length told) 4) answer (told' ≡ told) (ReadDone file told told' answer)
@@ -43,12 +42,12 @@ WavReadCall file told told' answer = Call (eqb (length told) 4) answer (told' �
 unfoldable pub rate_places : ℕ → ℕ → List ℕ → ℕ → List Place
 rate_places rate channels bytes out = place (not (known_rate rate)) 12 [] ∷ write_places (rate_of rate) channels bytes out
 
-pub record WavWritten (rate channels : ℕ) (bytes out out' : List ℕ) (made : Verdict) : Type 0 where
+pub record WavWritten (rate channels : ℕ) (bytes out out' : List ℕ) (made : Result (Unit {0}) PcmError) : Type 0 where
   pub decided : decision made ≡ decide (rate_places rate channels bytes (length out))
   pub written : out' ≡ by_decision (decide (rate_places rate channels bytes (length out))) (wav_file (rate_of rate) channels bytes) out
 
 pub record WriteDone (rate channels : ℕ) (bytes out out' numbers' : List ℕ) (answer : ℕ) : Type 0 where
-  pub made : Verdict
+  pub made : Result (Unit {0}) PcmError
   pub promise : WavWritten rate channels bytes out out' made
   pub number : answer ≡ refusal_number (decision made)
   pub numbers : numbers' ≡ data_numbers (decision made)

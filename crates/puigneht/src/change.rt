@@ -2,7 +2,7 @@
 ghost use Rattle.interface.specs.Settings.{c_settings, c_converter};
 ghost use Rattle.puigneht.specs.Calls.{c_change, ChangeCall};
 
-use interface::{both, converter, cutoff_of, gain_of, known_settings, rate_of, room, tell_opening};
+use interface::{ConverterNumbers, NOT_UNDERSTOOD, SettingNumbers, tell_opening};
 
 // Another rate, cutoff and gain. The stored numbers become those of the new converter if it is accepted.
 #[unsafe(no_mangle)]
@@ -22,16 +22,34 @@ pub extern "C" fn puigneht_change(
 ) -> u8
     ensures { ChangeCall (c_converter (c_settings rate cutoff channels gain.now own taps.now) numbers.old) (c_change wanted_rate wanted_cutoff wanted_gain.now) numbers.new «data».old «data».new decibels.old decibels.new result }
 {
-    let wanted = known_settings(wanted_rate, wanted_cutoff, wanted_gain.len(), 0);
-    let known = known_settings(rate, cutoff, gain.len(), own);
-    let fits = both(numbers.len() == 3, room(data.len(), decibels.len()));
-    if both(wanted, both(known, fits)) {
-        let conv = converter(rate, cutoff, channels, gain, own, taps, numbers);
-        let rate = rate_of(wanted_rate);
-        let cutoff = cutoff_of(wanted_cutoff);
-        let gain = gain_of(wanted_gain);
-        let made = scarletbook_pcm::change(conv, rate, cutoff, gain);
-        return tell_opening(made, numbers, data, decibels);
+    let asked = ConverterNumbers {
+        settings: SettingNumbers {
+            rate,
+            cutoff,
+            channels,
+            gain,
+            own,
+            taps,
+        },
+        stored: numbers,
+    };
+    let wanted = SettingNumbers {
+        rate: wanted_rate,
+        cutoff: wanted_cutoff,
+        channels,
+        gain: wanted_gain,
+        own: 0,
+        taps: &[],
+    };
+    let Some(w) = wanted.settings() else {
+        return NOT_UNDERSTOOD;
+    };
+    let Some(mut conv) = asked.converter() else {
+        return NOT_UNDERSTOOD;
+    };
+    if data.len() != 2 || decibels.len() != 1 {
+        return NOT_UNDERSTOOD;
     }
-    255
+    let changed = scarletbook_pcm::change(&mut conv, w.rate, w.cutoff, w.gain);
+    tell_opening(changed.and(Ok(conv)), numbers, data, decibels)
 }

@@ -2,9 +2,9 @@
 #![tactic(auto)]
 
 ghost use Rattle.reference.specs.Promises.{PackPromise};
-ghost use Rattle.interface.specs.Settings.{c_settings, c_converter};
+ghost use Rattle.interface.specs.Settings.{c_settings, c_converter, input};
 ghost use Rattle.interface.specs.Told.{stat_lists};
-ghost use Rattle.puigneht.specs.Calls.{input, results, GainCall, OpenCall, ConvertRunCall, ConvertFrameCall, ConvertCall};
+ghost use Rattle.puigneht.specs.Calls.{results, GainCall, OpenCall, ConvertRunCall, ConvertFrameCall, ConvertCall};
 
 mod files;
 
@@ -14,8 +14,8 @@ pub use files::{
     puigneht_dsf_write,
 };
 use interface::{
-    both, converter, known_flag, known_settings, room, room_for_stats, settings, tell_conversion,
-    tell_gain, tell_opening, understood,
+    ConverterNumbers, NOT_UNDERSTOOD, ResultLists, RunNumbers, SettingNumbers, StatNumbers,
+    flag_of, tell_conversion, tell_gain, tell_opening, understood,
 };
 
 mod change;
@@ -33,15 +33,15 @@ pub use turns::puigneht_turns;
 pub use wav_files::{puigneht_wav_convert, puigneht_wav_read, puigneht_wav_write};
 
 // The gain record of some decibels.
+#[tactic(auto, using(crate::proofs::Calls::turned_away, crate::proofs::Calls::worked, crate::proofs::Calls::not_left, crate::proofs::Calls::not_right, crate::proofs::Calls::both_hold, crate::proofs::Done::gain_done))]
 #[unsafe(no_mangle)]
 pub extern "C" fn puigneht_gain(db: f64, gain: &mut [f64], decibels: &mut [f64]) -> u8
     ensures { GainCall db gain.old gain.new decibels.old decibels.new result }
 {
-    if both(gain.len() == 2, decibels.len() == 1) {
-        let made = gain::from_db(db);
-        return tell_gain(made, gain, decibels);
+    if gain.len() != 2 || decibels.len() != 1 {
+        return NOT_UNDERSTOOD;
     }
-    255
+    tell_gain(gain::from_db(db), gain, decibels)
 }
 
 // The numbers that an accepted converter stores: samples per frame, reach, frame length.
@@ -59,131 +59,153 @@ pub extern "C" fn puigneht_open(
 ) -> u8
     ensures { OpenCall (c_settings rate cutoff channels gain.now own taps.now) numbers.old numbers.new «data».old «data».new decibels.old decibels.new result }
 {
-    let known = known_settings(rate, cutoff, gain.len(), own);
-    let fits = both(numbers.len() == 3, room(data.len(), decibels.len()));
-    if both(known, fits) {
-        let made = scarletbook_pcm::open(settings(rate, cutoff, channels, gain, own, taps));
-        return tell_opening(made, numbers, data, decibels);
+    let asked = SettingNumbers {
+        rate,
+        cutoff,
+        channels,
+        gain,
+        own,
+        taps,
+    };
+    let Some(settings) = asked.settings() else {
+        return NOT_UNDERSTOOD;
+    };
+    if numbers.len() != 3 || data.len() != 2 || decibels.len() != 1 {
+        return NOT_UNDERSTOOD;
     }
-    255
+    tell_opening(scarletbook_pcm::open(settings), numbers, data, decibels)
 }
 
 // 32-bit samples of a run.
 #[unsafe(no_mangle)]
-pub extern "C" fn puigneht_convert_run<'a>(
+pub extern "C" fn puigneht_convert_run<'a, 'b>(
     rate: u32,
     cutoff: u8,
     channels: u8,
-    gain: &[f64],
+    gain: &'a [f64],
     own: u8,
-    taps: &[i32],
-    numbers: &[u64],
+    taps: &'a [i32],
+    numbers: &'a [u64],
     has_before: u8,
     before: &'a [u8],
     frames: &'a [u8],
     has_after: u8,
     after: &'a [u8],
     out: &mut [i32],
-    clipped: &mut [u64],
-    lowest: &mut [i64],
-    highest: &mut [i64],
-    empty: &mut [u8],
-    data: &mut [u64],
-    decibels: &mut [f64],
+    clipped: &'b mut [u64],
+    lowest: &'b mut [i64],
+    highest: &'b mut [i64],
+    empty: &'b mut [u8],
+    data: &'b mut [u64],
+    decibels: &'b mut [f64],
 ) -> u8
     ensures { ConvertRunCall (c_converter (c_settings rate cutoff channels gain.now own taps.now) numbers.now) (input has_before before.now frames.now has_after after.now) out.old out.new (results (stat_lists clipped.old lowest.old highest.old empty.old) «data».old decibels.old) (results (stat_lists clipped.new lowest.new highest.new empty.new) «data».new decibels.new) result }
 {
-    let fits = room_for_stats(clipped.len(), lowest.len(), highest.len(), empty.len());
-    if understood(
-        rate,
-        cutoff,
-        gain.len(),
-        own,
-        numbers.len(),
+    let asked = ConverterNumbers {
+        settings: SettingNumbers {
+            rate,
+            cutoff,
+            channels,
+            gain,
+            own,
+            taps,
+        },
+        stored: numbers,
+    };
+    let input = RunNumbers {
         has_before,
+        before,
+        frames,
         has_after,
-        fits,
-        data.len(),
-        decibels.len(),
-    ) {
-        let conv = converter(rate, cutoff, channels, gain, own, taps, numbers);
-        let made = scarletbook_pcm::convert_run_parts(
-            conv,
-            has_before == 1,
-            before,
-            frames,
-            has_after == 1,
-            after,
-            out,
-        );
-        return tell_conversion(made, clipped, lowest, highest, empty, data, decibels);
-    }
-    255
+        after,
+    };
+    let told = ResultLists {
+        stats: StatNumbers {
+            clipped,
+            lowest,
+            highest,
+            empty,
+        },
+        data,
+        decibels,
+    };
+    let Some((conv, run)) = understood(asked, input, told) else {
+        return NOT_UNDERSTOOD;
+    };
+    let made = scarletbook_pcm::convert_run(conv, run, out);
+    tell_conversion(made, clipped, lowest, highest, empty, data, decibels)
 }
 
 // 32-bit samples of exactly one frame.
 #[unsafe(no_mangle)]
-pub extern "C" fn puigneht_convert_frame<'a>(
+pub extern "C" fn puigneht_convert_frame<'a, 'b>(
     rate: u32,
     cutoff: u8,
     channels: u8,
-    gain: &[f64],
+    gain: &'a [f64],
     own: u8,
-    taps: &[i32],
-    numbers: &[u64],
+    taps: &'a [i32],
+    numbers: &'a [u64],
     has_before: u8,
     before: &'a [u8],
     frames: &'a [u8],
     has_after: u8,
     after: &'a [u8],
     out: &mut [i32],
-    clipped: &mut [u64],
-    lowest: &mut [i64],
-    highest: &mut [i64],
-    empty: &mut [u8],
-    data: &mut [u64],
-    decibels: &mut [f64],
+    clipped: &'b mut [u64],
+    lowest: &'b mut [i64],
+    highest: &'b mut [i64],
+    empty: &'b mut [u8],
+    data: &'b mut [u64],
+    decibels: &'b mut [f64],
 ) -> u8
     ensures { ConvertFrameCall (c_converter (c_settings rate cutoff channels gain.now own taps.now) numbers.now) (input has_before before.now frames.now has_after after.now) out.old out.new (results (stat_lists clipped.old lowest.old highest.old empty.old) «data».old decibels.old) (results (stat_lists clipped.new lowest.new highest.new empty.new) «data».new decibels.new) result }
 {
-    let fits = room_for_stats(clipped.len(), lowest.len(), highest.len(), empty.len());
-    if understood(
-        rate,
-        cutoff,
-        gain.len(),
-        own,
-        numbers.len(),
+    let asked = ConverterNumbers {
+        settings: SettingNumbers {
+            rate,
+            cutoff,
+            channels,
+            gain,
+            own,
+            taps,
+        },
+        stored: numbers,
+    };
+    let input = RunNumbers {
         has_before,
+        before,
+        frames,
         has_after,
-        fits,
-        data.len(),
-        decibels.len(),
-    ) {
-        let conv = converter(rate, cutoff, channels, gain, own, taps, numbers);
-        let made = scarletbook_pcm::convert_frame_parts(
-            conv,
-            has_before == 1,
-            before,
-            frames,
-            has_after == 1,
-            after,
-            out,
-        );
-        return tell_conversion(made, clipped, lowest, highest, empty, data, decibels);
-    }
-    255
+        after,
+    };
+    let told = ResultLists {
+        stats: StatNumbers {
+            clipped,
+            lowest,
+            highest,
+            empty,
+        },
+        data,
+        decibels,
+    };
+    let Some((conv, run)) = understood(asked, input, told) else {
+        return NOT_UNDERSTOOD;
+    };
+    let made = scarletbook_pcm::convert_frame(conv, run, out);
+    tell_conversion(made, clipped, lowest, highest, empty, data, decibels)
 }
 
 // Samples of a run, three bytes each, and the clips of each frame if `counts` is lent.
 #[unsafe(no_mangle)]
-pub extern "C" fn puigneht_convert<'a>(
+pub extern "C" fn puigneht_convert<'a, 'b>(
     rate: u32,
     cutoff: u8,
     channels: u8,
-    gain: &[f64],
+    gain: &'a [f64],
     own: u8,
-    taps: &[i32],
-    numbers: &[u64],
+    taps: &'a [i32],
+    numbers: &'a [u64],
     has_before: u8,
     before: &'a [u8],
     frames: &'a [u8],
@@ -192,44 +214,51 @@ pub extern "C" fn puigneht_convert<'a>(
     lent: u8,
     out: &mut [u8],
     counts: &mut [u64],
-    clipped: &mut [u64],
-    lowest: &mut [i64],
-    highest: &mut [i64],
-    empty: &mut [u8],
-    data: &mut [u64],
-    decibels: &mut [f64],
+    clipped: &'b mut [u64],
+    lowest: &'b mut [i64],
+    highest: &'b mut [i64],
+    empty: &'b mut [u8],
+    data: &'b mut [u64],
+    decibels: &'b mut [f64],
 ) -> u8
     ensures { ConvertCall (c_converter (c_settings rate cutoff channels gain.now own taps.now) numbers.now) (input has_before before.now frames.now has_after after.now) lent out.old out.new counts.old counts.new (results (stat_lists clipped.old lowest.old highest.old empty.old) «data».old decibels.old) (results (stat_lists clipped.new lowest.new highest.new empty.new) «data».new decibels.new) result }
 {
-    let fits = room_for_stats(clipped.len(), lowest.len(), highest.len(), empty.len());
-    let known = understood(
-        rate,
-        cutoff,
-        gain.len(),
-        own,
-        numbers.len(),
+    let asked = ConverterNumbers {
+        settings: SettingNumbers {
+            rate,
+            cutoff,
+            channels,
+            gain,
+            own,
+            taps,
+        },
+        stored: numbers,
+    };
+    let input = RunNumbers {
         has_before,
+        before,
+        frames,
         has_after,
-        fits,
-        data.len(),
-        decibels.len(),
-    );
-    if both(known_flag(lent), known) {
-        let conv = converter(rate, cutoff, channels, gain, own, taps, numbers);
-        let made = scarletbook_pcm::convert_parts(
-            conv,
-            has_before == 1,
-            before,
-            frames,
-            has_after == 1,
-            after,
-            lent == 1,
-            out,
-            counts,
-        );
-        return tell_conversion(made, clipped, lowest, highest, empty, data, decibels);
-    }
-    255
+        after,
+    };
+    let told = ResultLists {
+        stats: StatNumbers {
+            clipped,
+            lowest,
+            highest,
+            empty,
+        },
+        data,
+        decibels,
+    };
+    let Some((conv, run)) = understood(asked, input, told) else {
+        return NOT_UNDERSTOOD;
+    };
+    let Some(lent) = flag_of(lent) else {
+        return NOT_UNDERSTOOD;
+    };
+    let made = scarletbook_pcm::convert(conv, run, lent, out, counts);
+    tell_conversion(made, clipped, lowest, highest, empty, data, decibels)
 }
 
 // 32-bit samples as three bytes each, as many as there are bytes for.

@@ -1,9 +1,10 @@
 // Turns on one board, for C and Rust.
 ghost use Rattle.puigneht.specs.Turns.{TurnsCall};
 
-use interface::{both, of_verdict};
+use interface::{NOT_UNDERSTOOD, Report};
 
 // Finishing turn and lateness of each album.
+#[tactic(auto, using(crate::proofs::Calls::turned_away, crate::proofs::Calls::worked, crate::proofs::Calls::not_left, crate::proofs::Calls::not_right, crate::proofs::Calls::both_hold, crate::proofs::Done::turns_done))]
 #[unsafe(no_mangle)]
 pub extern "C" fn puigneht_turns(
     frames: &[u64],
@@ -15,11 +16,9 @@ pub extern "C" fn puigneht_turns(
     ensures { TurnsCall frames.now dues.now turn finishes.old late.old finishes.new late.new result }
 {
     let albums = frames.len();
-    let lent = both(finishes.len() == albums, late.len() == albums);
-    if both(dues.len() == albums, lent) {
-        let verdict = schedule::simulate(frames, dues, turn, finishes, late);
-        let report = of_verdict(verdict);
-        return report.number;
+    if dues.len() != albums || finishes.len() != albums || late.len() != albums {
+        return NOT_UNDERSTOOD;
     }
-    255
+    let made = schedule::simulate(frames, dues, turn, finishes, late);
+    Report::of(&made).number
 }

@@ -1,18 +1,16 @@
 -- What each call of the command's library promises: its answer, and what every lent list holds when it returns. A primed list is one at exit.
-use Rattle.std.specs.Prelude.{◌≡◌, List, [], ◌∷◌, Bool, true, false, ◌&&◌, ℕ, eqb, Float, ℤ, length}
+use Rattle.std.specs.Prelude.{◌≡◌, Result, List, [], ◌∷◌, Bool, true, false, ◌&&◌, ℕ, eqb, Float, ℤ, length}
 use Rattle.reference.specs.Refusals.{Decision, decide, decision, refusal_number}
-use Rattle.reference.specs.Promises.{by_decision}
-use Rattle.reference.specs.declared.Verdict.{Verdict}
-use Rattle.reference.specs.declared.Converted.{Converted}
-use Rattle.interface.specs.Codes.{hertz, rate_of, cutoff_number, cutoff_of}
+use Rattle.reference.specs.Promises.{by_decision, Converted}
+use Rattle.reference.specs.declared.PcmError.{PcmError}
+use Rattle.interface.specs.Codes.{rate_of, cutoff_of}
 use Rattle.interface.specs.Settings.{known_settings}
-use Rattle.interface.specs.Told.{room, room_for_stats, StatLists, told_stats, ToldWhole}
+use Rattle.interface.specs.Told.{room, room_for_stats, StatLists, told_stats, if_ok, ToldWhole}
 use Rattle.dsf.specs.Dsf.{channels, samples}
 use Rattle.command_words.specs.Words.{words_of}
 use Rattle.command_grammar.specs.Grammar.{LineRead}
-use Rattle.command_grammar.specs.declared.Asked.{Asked}
-use Rattle.command_grammar.specs.declared.Asked.TheVariants.{Convert, Help, Version, Usage}
 use Rattle.command_grammar.specs.declared.Line.{Line}
+use Rattle.command_line.specs.Numbers.{kind, numbers}
 use Rattle.album.specs.Album.{wanted_of, album_places, album_of, HeaderPromise}
 use Rattle.album.specs.declared.Wanted.{Wanted}
 use Rattle.album_told.specs.Told.{album_numbers, said_of}
@@ -26,27 +24,12 @@ pub record Call (understood : Bool) (answer : ℕ) (Kept Done : Type 0) : Type 0
   pub unclear : understood ≡ false → (answer ≡ 255) × Kept
   pub done : understood ≡ true → Done
 
-abbrev pub asked_number : Asked → ℕ
-asked_number Convert = 0
-asked_number Help = 1
-asked_number Version = 2
-asked_number Usage = 3
-
-abbrev pub flag : Bool → ℕ
-flag true = 1
-flag false = 0
-
-unfoldable pub line_numbers : Line → List ℕ
-line_numbers l =
-    hertz l.options.rate ∷ cutoff_number l.options.cutoff ∷ l.options.gain ∷ flag l.options.force ∷ l.options.jobs ∷ l.options.sheet
-    ∷ l.input ∷ l.output ∷ l.fault ∷ []
-
 -- the line that the words are read as, told
 pub record LineDone (words asked' : List ℕ) (answer : ℕ) : Type 0 where
   pub line : Line
   pub read : LineRead (words_of words) line
-  pub kind : answer ≡ asked_number line.asked
-  pub numbers : asked' ≡ line_numbers line
+  pub kind : answer ≡ kind line
+  pub numbers : asked' ≡ numbers line
 
 abbrev pub LineCall : List ℕ → List ℕ → List ℕ → ℕ → Type 0
 LineCall words asked asked' answer = Call (eqb (length asked) 9) answer (asked' ≡ asked) (LineDone words asked' answer)
@@ -76,7 +59,7 @@ OpenCall rate cutoff db head n album album' said said' answer =
 -- ---- header, plan
 
 pub record HeaderDone (rate channels bytes : ℕ) (out out' : List ℕ) (answer : ℕ) : Type 0 where
-  pub made : Verdict
+  pub made : Result (Unit {0}) PcmError
   pub promise : HeaderPromise (rate_of rate) channels bytes out out' made
   pub told : answer ≡ refusal_number (decision made)
 
@@ -124,8 +107,8 @@ has_room r =
 pub record StepDone (Promise : Converted → Type 0) (old new : Results) (answer : ℕ) : Type 0 where
   pub made : Converted
   pub promise : Promise made
-  pub told : ToldWhole (decision made.verdict) answer new.numbers new.decibels
-  pub counted : new.stats ≡ by_decision (decision made.verdict) (told_stats made.stats) old.stats
+  pub told : ToldWhole (decision made) answer new.numbers new.decibels
+  pub counted : new.stats ≡ if_ok told_stats made old.stats
 
 abbrev pub StepCall : ℕ → ℕ → ℤ → List ℕ → ℕ → ℕ → ℕ → List ℕ → ℕ → Lists → Lists → Results → Results → ℕ → Type 0
 StepCall rate cutoff db head n first count window start l l' old new answer =

@@ -1,74 +1,47 @@
-// The command's calls for C. None asks anything of its arguments: where a list of fixed length has another, or a rate or a cutoff is unknown,
-// a call answers 255 and writes nothing.
+// The command's calls for C. None asks anything of its arguments: where a list of fixed length has another, or a rate or a
+// cutoff is unknown, a call answers 255 and writes nothing.
 #![tactic(auto)]
 
 ghost use Rattle.std.specs.Prelude.{◌≡◌};
 ghost use Rattle.puigneht_command.specs.Calls as calls;
+ghost use Rattle.interface.specs.Codes.{if_known};
+ghost use Rattle.interface.specs.Settings.{known_settings};
 ghost use Rattle.interface.specs.Told.{stat_lists};
 ghost use Rattle.puigneht_command.specs.Calls.{LineCall, OpenCall, HeaderCall, PartCall, PieceCall, StepCall, lists, results};
 ghost use Rattle.sentences.specs.Sentences.{Said};
 
 use album::Wanted;
-use album_told::put;
-use command_grammar::Asked;
+use album_gather::Window;
+use album_plan::{Part, Piece};
 use interface::{
-    both, cutoff_number, cutoff_of, known_settings, put_two, rate_of, room, room_for_stats,
-    tell_conversion,
+    NOT_UNDERSTOOD, Report, ResultLists, StatNumbers, cutoff_of, rate_of, tell_conversion,
 };
-
-fn asked_number(asked: Asked) -> u8
-    ensures { result ≡ calls.asked_number asked }
-{
-    match asked {
-        Asked::Convert => 0,
-        Asked::Help => 1,
-        Asked::Version => 2,
-        Asked::Usage => 3,
-    }
-}
-
-fn flag(b: bool) -> u64
-    ensures { result ≡ calls.flag b }
-{
-    if b { 1 } else { 0 }
-}
 
 // What the arguments ask for.
 #[unsafe(no_mangle)]
 pub extern "C" fn puigneht_command_line(words: &[u8], asked: &mut [u64]) -> u8
     ensures { LineCall words.now asked.old asked.new result }
 {
-    if asked.len() == 9 {
-        let line = command_line::read(words);
-        let o = line.options;
-        let rate = o.rate;
-        let cutoff = o.cutoff;
-        let told = [
-            interface::hertz(rate),
-            cutoff_number(cutoff),
-            o.gain,
-            flag(o.force),
-            o.jobs,
-            o.sheet,
-            line.input,
-            line.output,
-            line.fault,
-        ];
-        put(&told, asked);
-        let kind = line.asked;
-        return asked_number(kind);
+    if asked.len() != 9 {
+        return NOT_UNDERSTOOD;
     }
-    255
+    let line = command_line::read(words);
+    asked.copy_from_slice(&command_line::numbers(line));
+    command_line::kind(line)
 }
 
 // What known numbers want.
-fn wanted(rate: u32, cutoff: u8, db: i32) -> Wanted
-    ensures { result ≡ calls.wanted rate cutoff db }
+#[tactic(auto, using(interface::proofs::Known::some_known, interface::proofs::Known::none_known), unfolding(interface::specs::Codes::if_known))]
+fn wanted(rate: u32, cutoff: u8, db: i32) -> Option<Wanted>
+    ensures { result ≡ if_known (known_settings rate cutoff 2 0) (calls.wanted rate cutoff db) }
 {
-    album::wanted_of(rate_of(rate), cutoff_of(cutoff), db)
+    let rate = rate_of(rate)?;
+    let cutoff = cutoff_of(cutoff)?;
+    Some(album::wanted_of(rate, cutoff, db))
 }
 
 // Opens an album.
+#[tactic(auto, using(crate::proofs::Answers::turned_away, crate::proofs::Answers::done_so, crate::proofs::Answers::not_left, crate::proofs::Answers::not_right, crate::proofs::Answers::both_hold, interface::proofs::Known::some_known, interface::proofs::Known::none_known))]
 #[unsafe(no_mangle)]
 pub extern "C" fn puigneht_command_open(
     rate: u32,
@@ -81,45 +54,47 @@ pub extern "C" fn puigneht_command_open(
 ) -> u8
     ensures { OpenCall rate cutoff db head.now «length» album.old album.new said.old said.new result }
 {
-    let fits = both(album.len() == 7, said.len() == 2);
-    if both(known_settings(rate, cutoff, 2, 0), fits) {
-        let opened = album::open(head, length, wanted(rate, cutoff, db));
-        let number = album_told::tell_album(opened, album);
-        let told = album_told::said_of(head, length, rate_of(rate), number);
-        put_two(said, told.first, told.second);
-        return number;
+    let Some(w) = wanted(rate, cutoff, db) else {
+        return NOT_UNDERSTOOD;
+    };
+    if album.len() != 7 || said.len() != 2 {
+        return NOT_UNDERSTOOD;
     }
-    255
+    let number = album_told::tell_album(album::open(head, length, w), album);
+    let told = album_told::said_of(head, length, w.rate, number);
+    said.copy_from_slice(&[told.first, told.second]);
+    number
 }
 
 // The header of the WAV file.
+#[tactic(auto, using(crate::proofs::Answers::turned_away, crate::proofs::Answers::done_so, crate::proofs::Answers::not_left, crate::proofs::Answers::not_right, crate::proofs::Answers::both_hold, interface::proofs::Known::some_known, interface::proofs::Known::none_known, crate::proofs::Answers::header_done, crate::proofs::Answers::known_only))]
 #[unsafe(no_mangle)]
 pub extern "C" fn puigneht_command_header(rate: u32, channels: u8, bytes: u64, out: &mut [u8]) -> u8
     ensures { HeaderCall rate channels bytes out.old out.new result }
 {
-    if known_settings(rate, 0, 2, 0) {
-        let rate = rate_of(rate);
-        let verdict = album::header(rate, channels, bytes, out);
-        let report = interface::of_verdict(verdict);
-        return report.number;
-    }
-    255
+    let Some(rate) = rate_of(rate) else {
+        return NOT_UNDERSTOOD;
+    };
+    Report::of(&album::header(rate, channels, bytes, out)).number
 }
 
 // The pieces of a part.
+#[tactic(auto, using(crate::proofs::Answers::turned_away, crate::proofs::Answers::done_so, crate::proofs::Answers::not_left, crate::proofs::Answers::not_right, crate::proofs::Answers::both_hold), unfolding(album_plan::specs::Plan::part))]
 #[unsafe(no_mangle)]
 pub extern "C" fn puigneht_command_part(frames: u64, jobs: u64, part: u64, pieces: &mut [u64]) -> u8
     ensures { PartCall frames jobs part pieces.old pieces.new result }
 {
-    if pieces.len() == 2 {
-        let found = album_plan::part_of(frames, jobs, part);
-        put_two(pieces, found.first, found.end);
-        return 0;
+    if pieces.len() != 2 {
+        return NOT_UNDERSTOOD;
     }
-    255
+    let none = Part { first: 0, end: 0 };
+    let found = album_plan::part_of(frames, jobs, part).unwrap_or(none);
+    pieces.copy_from_slice(&[found.first, found.end]);
+    0
 }
 
 // A piece of the plan.
+#[tactic(auto, using(crate::proofs::Answers::turned_away, crate::proofs::Answers::done_so, crate::proofs::Answers::not_left, crate::proofs::Answers::not_right, crate::proofs::Answers::both_hold, interface::proofs::Known::some_known, interface::proofs::Known::none_known, crate::proofs::Answers::known_only), unfolding(crate::specs::Calls::piece_numbers, album_plan::specs::Plan::piece, album_plan::specs::Plan::no_piece))]
 #[unsafe(no_mangle)]
 pub extern "C" fn puigneht_command_piece(
     rate: u32,
@@ -130,24 +105,32 @@ pub extern "C" fn puigneht_command_piece(
 ) -> u8
     ensures { PieceCall rate channels samples piece told.old told.new result }
 {
+    let Some(rate) = rate_of(rate) else {
+        return NOT_UNDERSTOOD;
+    };
     if told.len() != 7 {
-        return 255;
+        return NOT_UNDERSTOOD;
     }
-    if known_settings(rate, 0, 2, 0) {
-        let rate = rate_of(rate);
-        let p = album_plan::piece_of(rate, channels, samples, piece);
-        let numbers = [
-            p.first, p.count, p.start, p.window, p.place, p.bytes, p.room,
-        ];
-        put(&numbers, told);
-        return 0;
-    }
-    255
+    let none = Piece {
+        first: 0,
+        count: 0,
+        start: 0,
+        window: 0,
+        place: 0,
+        bytes: 0,
+        room: 0,
+    };
+    let p = album_plan::piece_of(rate, channels, samples, piece).unwrap_or(none);
+    told.copy_from_slice(&[
+        p.first, p.count, p.start, p.window, p.place, p.bytes, p.room,
+    ]);
+    0
 }
 
 // A step.
+#[tactic(auto, using(crate::proofs::Answers::turned_away, crate::proofs::Answers::done_so, crate::proofs::Answers::not_left, crate::proofs::Answers::not_right, crate::proofs::Answers::both_hold, interface::proofs::Known::some_known, interface::proofs::Known::none_known))]
 #[unsafe(no_mangle)]
-pub extern "C" fn puigneht_command_step<'a>(
+pub extern "C" fn puigneht_command_step<'a, 'b>(
     rate: u32,
     cutoff: u8,
     db: i32,
@@ -161,34 +144,40 @@ pub extern "C" fn puigneht_command_step<'a>(
     frames: &mut [u8],
     after: &mut [u8],
     out: &mut [u8],
-    clipped: &mut [u64],
-    lowest: &mut [i64],
-    highest: &mut [i64],
-    empty: &mut [u8],
-    data: &mut [u64],
-    decibels: &mut [f64],
+    clipped: &'b mut [u64],
+    lowest: &'b mut [i64],
+    highest: &'b mut [i64],
+    empty: &'b mut [u8],
+    data: &'b mut [u64],
+    decibels: &'b mut [f64],
 ) -> u8
     ensures { StepCall rate cutoff db head.now «length» first count window.now start (lists before.old frames.old after.old out.old) (lists before.new frames.new after.new out.new) (results (stat_lists clipped.old lowest.old highest.old empty.old) «data».old decibels.old) (results (stat_lists clipped.new lowest.new highest.new empty.new) «data».new decibels.new) result }
 {
-    let stats = room_for_stats(clipped.len(), lowest.len(), highest.len(), empty.len());
-    let fits = both(stats, room(data.len(), decibels.len()));
-    if both(known_settings(rate, cutoff, 2, 0), fits) {
-        let made = album_step::step(
-            head,
-            length,
-            wanted(rate, cutoff, db),
-            first,
-            count,
-            window,
-            start,
-            before,
-            frames,
-            after,
-            out,
-        );
-        return tell_conversion(made, clipped, lowest, highest, empty, data, decibels);
+    let Some(w) = wanted(rate, cutoff, db) else {
+        return NOT_UNDERSTOOD;
+    };
+    let stats = StatNumbers {
+        clipped,
+        lowest,
+        highest,
+        empty,
+    };
+    let told = ResultLists {
+        stats,
+        data,
+        decibels,
+    };
+    if !told.fit() {
+        return NOT_UNDERSTOOD;
     }
-    255
+    let window = Window {
+        head,
+        length,
+        bytes: window,
+        start,
+    };
+    let made = album_step::step(window, w, first, count, before, frames, after, out);
+    tell_conversion(made, clipped, lowest, highest, empty, data, decibels)
 }
 
 // The sentence of a refusal.

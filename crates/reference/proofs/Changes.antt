@@ -1,5 +1,6 @@
 -- Changes keep what opening gives; a change's promise leaves nothing free.
 use mathlib.Core.Path.{◌≡◌, refl, ap, sym, ◌∙◌}
+use Rattle.std.specs.Prelude.{Result}
 use mathlib.Core.List.{List, [], ◌∷◌}
 use mathlib.Core.Bool.{Bool, cond}
 use Rattle.reference.specs.Settings.{converter_of, filter_of, held_settings}
@@ -8,7 +9,7 @@ use Rattle.reference.specs.Promises.{by_decision}
 use Rattle.reference.specs.Changes.{Change, with_wanted, change_places, changed, ChangePromise, after_changes, last_accepted, ChangesKeep}
 use Rattle.reference.specs.declared.Settings.{Settings}
 use Rattle.reference.specs.declared.Converter.{Converter}
-use Rattle.reference.specs.declared.Opened.{Opened}
+use Rattle.reference.specs.declared.PcmError.{PcmError}
 use Rattle.reference.proofs.Refusals.{at_next, pass, decide_skip}
 use Rattle.reference.proofs.Promises.{decision_exact}
 use Rattle.reference.proofs.Opening.{opened_true, held_as_opened}
@@ -54,8 +55,5 @@ changes_keep s ok ws =
     let h = after_held s ok ws in
     (h.0, rw h.0 (opened_true (last_accepted s ws)), rw h.0 (held_as_opened (last_accepted s ws) ∙ h.1))
 
-pub change_exact : (conv : Converter) (w : Change) (a b : Opened) → ChangePromise conv w a → ChangePromise conv w b → a ≡ b
-change_exact conv w a b p q =
-    let v = decision_exact a.verdict b.verdict (p.decided ∙ sym q.decided) in
-    let c = p.converter ∙ sym q.converter in
-    λ i. record { verdict = v i; converter = c i }
+pub change_exact : (conv : Converter) (w : Change) (c c' : Converter) (a b : Result (Unit {0}) PcmError) → ChangePromise conv w c a → ChangePromise conv w c' b → (a ≡ b) × (c ≡ c')
+change_exact conv w c c' a b p q = (decision_exact a b (p.decided ∙ sym q.decided), p.converter ∙ sym q.converter)

@@ -1,6 +1,6 @@
 -- The marked figures hold.
 use mathlib.Core.Path.{◌≡◌, refl, ap, ◌∙◌}
-use mathlib.Core.List.{◌++◌}
+use mathlib.Core.List.{◌++◌, map}
 use mathlib.Core.Bool.{Bool, true, false, cond}
 use Prim.Native.Nat.{ℕ, zero, suc, ◌+◌, ◌-◌, ◌*◌, ◌/◌, ◌%◌, ◌<◌}
 use native.Mathlib.Nat.{zero-add}
@@ -10,7 +10,7 @@ use lib.Dec.{lit≤}
 use lib.IntN.{ℤ, pos, negsuc}
 use lib.Ieee.{of_int, of_bits, mul, div, add, lt}
 use lib.ListN.{replicate, length-replicate, get_or-replicate, replicate-append-replicate}
-use Rattle.numbers.specs.Lists.{Each}
+use Rattle.numbers.specs.Lists.{Each, tabulate}
 use Rattle.numbers.specs.Sums.{sum_to}
 use Rattle.numbers.proofs.Lists.{tabulate_constant, total_none}
 use Rattle.reference.specs.Rounding.{rest, nearer, R}
@@ -19,7 +19,7 @@ use Rattle.reference.specs.Frames.{Run, frame_count, neighbour, sequence, channe
 use Rattle.reference.specs.Stages.{fir, bit, sign, entry, x, u, w, y_narrow, y, reach}
 use Rattle.reference.specs.Scaling.{whole, LN_10, magnitude, exponent, series, squared, db_to_linear, eighth, scaled, clamp, clips}
 use Rattle.reference.specs.Settings.{filter_of, converter_of}
-use Rattle.reference.specs.Output.{samples_per_frame, unclamped, sample, clipped, item, channel_samples, all_samples, samples, channel_clips, stats}
+use Rattle.reference.specs.Output.{samples_per_frame, unclamped, sample, clipped, item, channel_samples, all_samples, samples, channel_clips, channel_stats, stats}
 use Rattle.reference.specs.declared.PcmRate.TheVariants.{Hz88200}
 use Rattle.reference.specs.declared.Cutoff.TheVariants.{Standard}
 use Rattle.reference.specs.Figures.{mono, one_byte, frame_of, Holds, figures}
@@ -71,9 +71,9 @@ module _ (b : ℕ) (r : Run) (bytes : (p : ℕ) → p < 14112 → channel_byte 1
   clips_are zero = rw channel_is (total_none (λ k. cond (clipped mono r 0 k) 1 0) 0 1176 (λ k l. rw zero-add (rw (unclamped_is k l, no-clip))))
   clips_are (suc c) = rw (le-ltb (suc c) 1 (omega arith))
 
-  none_clipped : (stats mono r).clipped ≡ replicate 6 0
-  unfolding stats
-  none_clipped = tabulate_constant (channel_clips mono r) 0 6 0 (λ k l. clips_are (0 + k))
+  none_clipped : map (λ c. c.clipped) (stats mono r).channels ≡ replicate 6 0
+  unfolding stats channel_stats tabulate
+  none_clipped = rw (clips_are 0, clips_are 1, clips_are 2, clips_are 3, clips_are 4, clips_are 5) refl
 
 -- ---- the rows
 

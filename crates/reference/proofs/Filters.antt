@@ -1,8 +1,11 @@
 -- The built-in filter: its taps are F40, and it passes its places; the places of a filter record past its number of taps are free.
-use mathlib.Core.Path.{◌≡◌, refl, ap, ap₂}
+use mathlib.Core.Path.{◌≡◌, refl, ap, ap₂, sym, ◌∙◌}
 use mathlib.Core.List.{List, [], ◌∷◌}
 use mathlib.Core.Bool.{not, ◌&&◌}
 use Prim.Native.Nat.{ℕ, ◌+◌}
+use native.Mathlib.Omega.{arith}
+use Rattle.std.specs.Prelude.{min, length, take}
+use Rattle.std.proofs.lemmas.List.{take_min, take_all}
 use lib.Dec.{leb}
 use lib.IntN.{ℤ}
 use Rattle.reference.specs.Frames.{Run, sequence, channel_byte}
@@ -44,3 +47,8 @@ module _ (conv : Converter) (f : Filter) where
 pub filter_places_free : FilterPlacesFree
 filter_places_free conv f n e r =
     (decides_alike conv f (filter_alike conv f n e) e, ap (reach conv.rate conv.cutoff) e, unclamped_alike conv f e r)
+
+-- the taps of a record of 117 places
+pub first_taps : (f : Filter) → length f.taps ≡ 117 → take (min f.count 117) f.taps ≡ taps_of f
+unfolding taps_of
+first_taps f e = ap (λ n. take (min f.count n) f.taps) (sym e) ∙ (take_min f.count f.taps ∙ ap (take f.count) (sym (take_all 117 f.taps (omega (arith, e)))))

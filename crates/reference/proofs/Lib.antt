@@ -10,3 +10,4 @@ pub mod Figures
 pub mod Filters
 pub mod Opening
 pub mod Changes
+pub mod Statistics

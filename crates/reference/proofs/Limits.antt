@@ -7,10 +7,9 @@ use native.Mathlib.Omega.{arith}
 use Rattle.reference.specs.Frames.{Run, frame_count}
 use Rattle.reference.specs.Output.{samples, stats, per_frame_clips, s24le}
 use Rattle.reference.specs.Refusals.{accepted, refused, Place, decide, rack, desk, most, run_length, held_places, input_places, byte_lengths, convert_places}
-use Rattle.reference.specs.Promises.{by_decision, if_lent, BytesPromise, DeskAsRack}
+use Rattle.reference.specs.Promises.{by_decision, Converted, if_lent, BytesPromise, DeskAsRack}
 use Rattle.reference.specs.Statistics.{no_stats}
 use Rattle.reference.specs.declared.Converter.{Converter}
-use Rattle.reference.specs.declared.Converted.{Converted}
 use Rattle.reference.specs.declared.Limit.{Limit}
 use Rattle.reference.proofs.Refusals.{at_next, within, few_frames, rack_most}
 use Rattle.reference.proofs.Promises.{convert_exact}

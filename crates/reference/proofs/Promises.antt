@@ -1,5 +1,6 @@
 -- A promise leaves nothing free: two answers to one call are the same, and so is what they leave in each lent list.
 use mathlib.Core.Path.{◌≡◌, refl, ap, sym, ◌∙◌}
+use Rattle.std.specs.Prelude.{Result, Ok, Err}
 use mathlib.Core.List.{List}
 use mathlib.Core.Bool.{Bool, true, false, cond}
 use Prim.Native.Nat.{ℕ}
@@ -10,7 +11,7 @@ use lib.ListN.{get_or}
 use lib.Ieee.{Float, nan}
 use Rattle.reference.specs.Frames.{Run}
 use Rattle.reference.specs.Refusals.{Datum, number, rate, cutoff, decibels, Decision, accepted, refused, error_decision, decision, is_accepted, Place}
-use Rattle.reference.specs.Promises.{by_decision, GainPromise, OpeningPromise, Answered, SamplesPromise, BytesPromise}
+use Rattle.reference.specs.Promises.{by_decision, Converted, stats_told, GainPromise, OpeningPromise, Answered, SamplesPromise, BytesPromise}
 use Rattle.reference.specs.declared.PcmRate.{PcmRate}
 use Rattle.reference.specs.declared.PcmRate.TheVariants.{Hz88200}
 use Rattle.reference.specs.declared.Cutoff.{Cutoff}
@@ -20,12 +21,9 @@ use Rattle.reference.specs.declared.Converter.{Converter}
 use Rattle.reference.specs.declared.Limit.{Limit}
 use Rattle.reference.specs.declared.PcmError.{PcmError}
 use Rattle.reference.specs.declared.PcmError.TheVariants as error
-use Rattle.reference.specs.declared.Verdict.{Verdict}
-use Rattle.reference.specs.declared.Verdict.TheVariants as verdict
-use Rattle.reference.specs.declared.FromDb.{FromDb}
-use Rattle.reference.specs.declared.FromDb.TheVariants as from-db
-use Rattle.reference.specs.declared.Opened.{Opened}
-use Rattle.reference.specs.declared.Converted.{Converted}
+use Rattle.reference.specs.declared.Gain.{Gain}
+use Rattle.reference.specs.declared.Length.{Length}
+use Rattle.reference.specs.declared.Length.TheVariants.{WholeFrames, OneFrame}
 use Rattle.reference.proofs.Refusals.{error_refuses}
 
 -- ---- a decision at exit
@@ -64,6 +62,12 @@ cutoff_of (rate r) = Wide
 cutoff_of (cutoff c) = c
 cutoff_of (decibels d) = Wide
 
+length_of : Datum → Length
+length_of (number n) = cond (eqb n 1) OneFrame WholeFrames
+length_of (rate r) = WholeFrames
+length_of (cutoff c) = WholeFrames
+length_of (decibels d) = WholeFrames
+
 db_of : Datum → Float
 db_of (number n) = nan
 db_of (rate r) = nan
@@ -75,7 +79,7 @@ case_of n a b =
     cond (eqb n 1) (error.Channels (n_of a))
     (cond (eqb n 2) (error.Unsupported (rate_of a) (cutoff_of b))
     (cond (eqb n 3) (error.Gain (db_of a))
-    (cond (eqb n 4) (error.InputLength (n_of a) (n_of b))
+    (cond (eqb n 4) (error.InputLength (n_of a) (length_of b))
     (cond (eqb n 5) (error.Frames (n_of a))
     (cond (eqb n 6) (error.OutputLength (n_of a) (n_of b))
     (cond (eqb n 7) (error.OutputBytes (n_of a) (n_of b))
@@ -97,11 +101,12 @@ error_of accepted = error.Frames 0
 error_of (refused n d) = case_of n (get_or d 0 (number 0)) (get_or d 1 (number 0))
 
 error_back : (e : PcmError) → error_of (error_decision e) ≡ e
-unfolding error_of case_of n_of rate_of cutoff_of db_of
+unfolding error_of case_of n_of rate_of cutoff_of length_of db_of
 error_back (error.Channels n) = refl
 error_back (error.Unsupported r c) = refl
 error_back (error.Gain d) = refl
-error_back (error.InputLength n k) = refl
+error_back (error.InputLength n WholeFrames) = refl
+error_back (error.InputLength n OneFrame) = refl
 error_back (error.Frames n) = refl
 error_back (error.OutputLength n k) = refl
 error_back (error.OutputBytes n k) = refl
@@ -123,36 +128,43 @@ error_exact : (a b : PcmError) → error_decision a ≡ error_decision b → a �
 error_exact a b e = sym (error_back a) ∙ ap error_of e ∙ error_back b
 
 -- a refusal is no acceptance
-apart : {A : Type 0} (e : PcmError) → error_decision e ≡ accepted → A
+pub apart : {A : Type 0} (e : PcmError) → error_decision e ≡ accepted → A
 unfolding is_accepted
 apart e p =
     let q : false ≡ true = sym (error_refuses e) ∙ ap is_accepted p in
     let z : ◌≡◌ {A = ℕ} 0 1 = cc in absurd (omega arith)
 
-pub decision_exact : (a b : Verdict) → decision a ≡ decision b → a ≡ b
-decision_exact verdict.Accepted verdict.Accepted p = refl
-decision_exact verdict.Accepted (verdict.Refused e) p = apart e (sym p)
-decision_exact (verdict.Refused e) verdict.Accepted p = apart e p
-decision_exact (verdict.Refused e) (verdict.Refused f) p = ap verdict.Refused (error_exact e f p)
+-- an answer that brings nothing is its decision
+pub decision_exact : (a b : Result (Unit {0}) PcmError) → decision a ≡ decision b → a ≡ b
+decision_exact (Ok x) (Ok y) p = refl
+decision_exact (Ok x) (Err e) p = apart e (sym p)
+decision_exact (Err e) (Ok y) p = apart e p
+decision_exact (Err e) (Err f) p = ap Err (error_exact e f p)
+
+-- an answer that an acceptance gives a value of its own
+made_exact : {A : Type 0} (d : Decision) (v : A) (a b : Result A PcmError) → decision a ≡ d → decision b ≡ d
+    → (d ≡ accepted → a ≡ Ok v) → (d ≡ accepted → b ≡ Ok v) → a ≡ b
+made_exact d v (Ok x) b p q f g = f (sym p) ∙ sym (g (sym p))
+made_exact d v (Err e) (Ok y) p q f g = apart e (p ∙ sym q)
+made_exact d v (Err e) (Err e') p q f g = ap Err (error_exact e e' (p ∙ sym q))
 
 -- ---- each promise
 
-pub gain_exact : (db : Float) (a b : FromDb) → GainPromise db a → GainPromise db b → a ≡ b
-gain_exact db (from-db.Made g) b p q = p.made (sym p.decided) ∙ sym (q.made (sym p.decided))
-gain_exact db (from-db.Refused e) (from-db.Made g) p q = apart e (p.decided ∙ sym q.decided)
-gain_exact db (from-db.Refused e) (from-db.Refused f) p q = ap from-db.Refused (error_exact e f (p.decided ∙ sym q.decided))
+pub gain_exact : (db : Float) (a b : Result Gain PcmError) → GainPromise db a → GainPromise db b → a ≡ b
+gain_exact db a b p q = made_exact _ _ a b p.decided q.decided p.made q.made
 
-pub opening_exact : (settings : Settings) (a b : Opened) → OpeningPromise settings a → OpeningPromise settings b → a ≡ b
-opening_exact settings a b p q =
-    let v = decision_exact a.verdict b.verdict (p.decided ∙ sym q.decided) in
-    let c = p.converter ∙ sym q.converter in
-    λ i. record { verdict = v i; converter = c i }
+pub opening_exact : (settings : Settings) (a b : Result Converter PcmError) → OpeningPromise settings a → OpeningPromise settings b → a ≡ b
+opening_exact settings a b p q = made_exact _ _ a b p.decided q.decided p.converter q.converter
+
+pub answers_exact : (a b : Converted) → decision a ≡ decision b → stats_told a ≡ stats_told b → a ≡ b
+unfolding stats_told
+answers_exact (Ok x) (Ok y) p q = ap Ok q
+answers_exact (Ok x) (Err e) p q = apart e (sym p)
+answers_exact (Err e) (Ok y) p q = apart e p
+answers_exact (Err e) (Err f) p q = ap Err (error_exact e f p)
 
 answered_exact : (places : List Place) (conv : Converter) (r : Run) (a b : Converted) → Answered places conv r a → Answered places conv r b → a ≡ b
-answered_exact places conv r a b p q =
-    let v = decision_exact a.verdict b.verdict (p.decided ∙ sym q.decided) in
-    let s = p.counted ∙ sym q.counted in
-    λ i. record { verdict = v i; stats = s i }
+answered_exact places conv r a b p q = answers_exact a b (p.decided ∙ sym q.decided) (p.counted ∙ sym q.counted)
 
 pub samples_exact : (places : List Place) (conv : Converter) (r : Run) (out o o' : List ℤ) (a b : Converted)
     → SamplesPromise places conv r out o a → SamplesPromise places conv r out o' b → (a ≡ b) × (o ≡ o')

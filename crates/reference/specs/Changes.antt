@@ -1,5 +1,5 @@
 -- Request 7: settings changed while a converter is open.
-use Rattle.std.specs.Prelude.{◌≡◌, List, [], ◌∷◌, ◌++◌, true, cond}
+use Rattle.std.specs.Prelude.{◌≡◌, Result, List, [], ◌∷◌, ◌++◌, true, cond}
 use Rattle.reference.specs.Settings.{converter_of, held_settings, true_numbers}
 use Rattle.reference.specs.Refusals.{accepted, is_accepted, Place, decide, decision, wanted_places, opening_places, held_places}
 use Rattle.reference.specs.Promises.{by_decision}
@@ -8,7 +8,7 @@ use Rattle.reference.specs.declared.Cutoff.{Cutoff}
 use Rattle.reference.specs.declared.Gain.{Gain}
 use Rattle.reference.specs.declared.Settings.{Settings}
 use Rattle.reference.specs.declared.Converter.{Converter}
-use Rattle.reference.specs.declared.Opened.{Opened}
+use Rattle.reference.specs.declared.PcmError.{PcmError}
 
 -- what a change wants
 pub record Change : Type 0 where
@@ -21,7 +21,7 @@ change r c g = record { rate = r; cutoff = c; gain = g }
 
 -- settings with what is wanted in place of their rate, cutoff and gain
 unfoldable pub with_wanted : Settings → Change → Settings
-with_wanted s w = record { rate = w.rate; cutoff = w.cutoff; channels = s.channels; gain = w.gain; own = s.own; filter = s.filter }
+with_wanted s w = record { rate = w.rate; cutoff = w.cutoff; channels = s.channels; gain = w.gain; filter = s.filter }
 
 -- the record as held, then what is wanted
 unfoldable pub change_places : Converter → Change → List Place
@@ -31,9 +31,10 @@ change_places conv w = held_places conv ++ wanted_places w.rate w.cutoff w.gain
 unfoldable pub changed : Converter → Change → Converter
 changed conv w = by_decision (decide (change_places conv w)) (converter_of (with_wanted (held_settings conv) w)) conv
 
-pub record ChangePromise (conv : Converter) (w : Change) (answer : Opened) : Type 0 where
-  pub decided : decision answer.verdict ≡ decide (change_places conv w)
-  pub converter : answer.converter ≡ changed conv w
+-- a call on the record conv, which is conv' then
+pub record ChangePromise (conv : Converter) (w : Change) (conv' : Converter) (answer : Result (Unit {0}) PcmError) : Type 0 where
+  pub decided : decision answer ≡ decide (change_places conv w)
+  pub converter : conv' ≡ changed conv w
 
 -- ---- any list of changes
 

@@ -1,11 +1,11 @@
 -- Document 01's figures at the edges that are marked: rows of one statement, proved in proofs/Figures.
-use Rattle.std.specs.Prelude.{◌≡◌, List, [], ◌∷◌, Bool, true, false, ℕ, ℤ, pos, negsuc, replicate}
+use Rattle.std.specs.Prelude.{◌≡◌, None, List, [], ◌∷◌, map, Bool, true, false, ℕ, ℤ, pos, negsuc, replicate}
 use Rattle.reference.specs.Rounding.{R}
 use Rattle.reference.specs.Taps.{S1}
 use Rattle.reference.specs.Frames.{Run, run}
 use Rattle.reference.specs.Stages.{entry}
 use Rattle.reference.specs.Scaling.{whole, db_to_linear}
-use Rattle.reference.specs.Settings.{built_in, converter_of}
+use Rattle.reference.specs.Settings.{converter_of}
 use Rattle.reference.specs.Output.{samples, stats}
 use Rattle.reference.specs.declared.PcmRate.TheVariants.{Hz88200}
 use Rattle.reference.specs.declared.Cutoff.TheVariants.{Standard}
@@ -15,7 +15,7 @@ use Rattle.reference.specs.declared.Converter.{Converter}
 unfoldable pub mono : Converter
 mono =
     converter_of
-    (record { rate = Hz88200; cutoff = Standard; channels = 1; gain = record { db = whole 0; linear = db_to_linear (whole 0) }; own = false; filter = built_in })
+    (record { rate = Hz88200; cutoff = Standard; channels = 1; gain = record { db = whole 0; linear = db_to_linear (whole 0) }; filter = None })
 
 -- one frame of a byte, with neighbours of the same, or with none
 unfoldable pub one_byte : ℕ → Bool → Run
@@ -33,7 +33,7 @@ pub data Figure : Type 0 where
 abbrev pub Holds : Figure → Type 0
 Holds (rounding v q z) = R v q ≡ z
 Holds (table_entry j b z) = entry S1 8 j b ≡ z
-Holds (frame_of b there z) = (samples mono (one_byte b there) ≡ replicate 1176 z) × ((stats mono (one_byte b there)).clipped ≡ replicate 6 0)
+Holds (frame_of b there z) = (samples mono (one_byte b there) ≡ replicate 1176 z) × (map (λ c. c.clipped) (stats mono (one_byte b there)).channels ≡ replicate 6 0)
 
 unfoldable pub figures : List Figure
 figures =

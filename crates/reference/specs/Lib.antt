@@ -10,3 +10,4 @@ pub mod Refusals
 pub mod Promises
 pub mod Changes
 pub mod Figures
+pub mod Codes

@@ -1,14 +1,16 @@
 -- Modules 7 and 8: the samples of a run, as numbers and as bytes, and its statistics.
-use Rattle.std.specs.Prelude.{List, Bool, true, cond, ℕ, ◌+◌, ◌-◌, ◌*◌, ◌/◌, ◌%◌, ◌^◌, eqb, ltb, ℤ, pos, negsuc, length, get_or}
-use Rattle.numbers.specs.Extremes.{lesser, greater, extreme0}
+use Rattle.std.specs.Prelude.{Option, None, List, Bool, cond, ℕ, ◌+◌, ◌-◌, ◌*◌, ◌/◌, ◌%◌, ◌^◌, ltb, ℤ, pos, negsuc, length, get_or}
 use Rattle.numbers.specs.Lists.{tabulate, total, count}
 use Rattle.reference.specs.Frames.{Run, frame_count, sequence, channel_byte}
 use Rattle.reference.specs.Stages.{taps_of, y}
 use Rattle.reference.specs.Scaling.{scaled, clamp, clips}
+use Rattle.reference.specs.Statistics.{extremes_of}
 use Rattle.reference.specs.declared.PcmRate.{PcmRate}
 use Rattle.reference.specs.declared.PcmRate.TheVariants.{Hz88200, Hz176400, Hz352800}
 use Rattle.reference.specs.declared.Converter.{Converter}
 use Rattle.reference.specs.declared.ConvertStats.{ConvertStats}
+use Rattle.reference.specs.declared.ChannelStats.{ChannelStats}
+use Rattle.reference.specs.declared.Extremes.{Extremes}
 
 -- samples of one channel in a frame
 unfoldable pub samples_per_frame : PcmRate → ℕ
@@ -62,21 +64,15 @@ module _ (conv : Converter) (r : Run) where
 
   -- ---- request 6: how far over
 
-  -- the least or the greatest number of channel c before the clamp; 0 where it has no samples
-  unfoldable pub channel_extreme : (ℤ → ℤ → ℤ) → ℕ → ℤ
-  channel_extreme pick c = cond (ltb c conv.channels) (extreme0 pick (unclamped c) 0 channel_samples) (pos 0)
+  -- the least and the greatest number of channel c before the clamp; none where it has no samples, as an unused channel, and each of a run of no frames
+  unfoldable pub channel_extremes : ℕ → Option Extremes
+  channel_extremes c = cond (ltb c conv.channels) (extremes_of (unclamped c) 0 channel_samples) None
 
-  -- whether it has none: an unused channel, and every one of a run of no frames
-  unfoldable pub channel_empty : ℕ → Bool
-  channel_empty c = cond (ltb c conv.channels) (eqb channel_samples 0) true
+  unfoldable pub channel_stats : ℕ → ChannelStats
+  channel_stats c = record { clipped = channel_clips c; extremes = channel_extremes c }
 
   unfoldable pub stats : ConvertStats
-  stats = record {
-    clipped = tabulate channel_clips 0 6;
-    lowest = tabulate (channel_extreme lesser) 0 6;
-    highest = tabulate (channel_extreme greater) 0 6;
-    empty = tabulate channel_empty 0 6;
-  }
+  stats = record { channels = tabulate channel_stats 0 6 }
 
 -- ---- bytes
 

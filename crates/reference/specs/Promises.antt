@@ -1,20 +1,19 @@
 -- What each call promises: its answer, and what every lent list holds when it returns. The contracts cite these records.
-use Rattle.std.specs.Prelude.{◌≡◌, List, ◌++◌, Bool, true, false, ℕ, ◌*◌, ◌/◌, ◌≤◌, min, ℤ, Float, length, take, drop}
+use Rattle.std.specs.Prelude.{◌≡◌, Result, Ok, Err, List, ◌++◌, Bool, true, false, ℕ, ◌*◌, ◌/◌, ◌≤◌, min, ℤ, Float, length, take, drop}
 use Rattle.reference.specs.Frames.{Run, frame_count}
 use Rattle.reference.specs.Scaling.{db_to_linear}
 use Rattle.reference.specs.Stages.{taps_of}
 use Rattle.reference.specs.Settings.{converter_of, with_filter, reach_of}
 use Rattle.reference.specs.Output.{unclamped, samples, stats, per_frame_clips, s24le}
 use Rattle.reference.specs.Statistics.{no_stats}
-use Rattle.reference.specs.Refusals.{rack, desk, most, Decision, accepted, refused, Place, decide, decision, gain_decision, gain_places, opening_places, held_places, convert_run_places, convert_places, convert_frame_places}
+use Rattle.reference.specs.Refusals.{rack, desk, most, Decision, accepted, refused, Place, decide, decision, gain_places, opening_places, held_places, convert_run_places, convert_places, convert_frame_places}
 use Rattle.reference.specs.declared.Filter.{Filter}
 use Rattle.reference.specs.declared.Settings.{Settings}
 use Rattle.reference.specs.declared.Converter.{Converter}
 use Rattle.reference.specs.declared.Limit.{Limit}
-use Rattle.reference.specs.declared.FromDb.{FromDb}
-use Rattle.reference.specs.declared.FromDb.TheVariants.{Made}
-use Rattle.reference.specs.declared.Opened.{Opened}
-use Rattle.reference.specs.declared.Converted.{Converted}
+use Rattle.reference.specs.declared.Gain.{Gain}
+use Rattle.reference.specs.declared.ConvertStats.{ConvertStats}
+use Rattle.reference.specs.declared.PcmError.{PcmError}
 
 -- the one where the call is accepted, the other where it is refused
 unfoldable pub by_decision : {A : Type 0} → Decision → A → A → A
@@ -23,20 +22,29 @@ by_decision (refused n d) new old = old
 
 -- ---- gain and opening
 
-pub record GainPromise (db : Float) (answer : FromDb) : Type 0 where
-  pub decided : gain_decision answer ≡ decide (gain_places db)
-  pub made : decide (gain_places db) ≡ accepted → answer ≡ Made (record { db = db; linear = db_to_linear db })
+pub record GainPromise (db : Float) (answer : Result Gain PcmError) : Type 0 where
+  pub decided : decision answer ≡ decide (gain_places db)
+  pub made : decide (gain_places db) ≡ accepted → answer ≡ Ok (record { db = db; linear = db_to_linear db })
 
-pub record OpeningPromise (settings : Settings) (answer : Opened) : Type 0 where
-  pub decided : decision answer.verdict ≡ decide (opening_places settings)
-  pub converter : answer.converter ≡ converter_of settings
+pub record OpeningPromise (settings : Settings) (answer : Result Converter PcmError) : Type 0 where
+  pub decided : decision answer ≡ decide (opening_places settings)
+  pub converter : decide (opening_places settings) ≡ accepted → answer ≡ Ok (converter_of settings)
 
 -- ---- conversions: `out` and `counts` are the lent lists at entry, `out'` and `counts'` at exit
 
+-- what a conversion answers
+abbrev pub Converted : Type 0
+Converted = Result ConvertStats PcmError
+
+-- what an answer tells of the samples: a refused call has counted nothing
+unfoldable pub stats_told : Converted → ConvertStats
+stats_told (Ok s) = s
+stats_told (Err e) = no_stats
+
 -- the answer of a conversion that tries these places
 pub record Answered (places : List Place) (conv : Converter) (r : Run) (answer : Converted) : Type 0 where
-  pub decided : decision answer.verdict ≡ decide places
-  pub counted : answer.stats ≡ by_decision (decide places) (stats conv r) no_stats
+  pub decided : decision answer ≡ decide places
+  pub counted : stats_told answer ≡ by_decision (decide places) (stats conv r) no_stats
 
 -- 32-bit output
 pub record SamplesPromise (places : List Place) (conv : Converter) (r : Run) (out out' : List ℤ) (answer : Converted) : Type 0 where

@@ -1,5 +1,5 @@
 -- Where a call is turned down: document 01's table as data.
-use Rattle.std.specs.Prelude.{List, [], ◌∷◌, ◌++◌, Bool, true, false, cond, not, ◌&&◌, ℕ, ◌*◌, ◌%◌, eqb, ltb, leb, ℤ, pos, length, Float}
+use Rattle.std.specs.Prelude.{Result, Ok, Err, List, [], ◌∷◌, ◌++◌, Bool, true, false, cond, not, ◌&&◌, ℕ, ◌*◌, ◌%◌, eqb, ltb, leb, ℤ, pos, length, Float}
 use Rattle.std.specs.Int.Signed.{le_z}
 use Rattle.reference.specs.Frames.{Run, frame_length, frame_count}
 use Rattle.reference.specs.Stages.{taps_of, whole_sum, whole_size}
@@ -16,12 +16,10 @@ use Rattle.reference.specs.declared.Settings.{Settings}
 use Rattle.reference.specs.declared.Converter.{Converter}
 use Rattle.reference.specs.declared.Limit.{Limit}
 use Rattle.reference.specs.declared.Limit.TheVariants as limit
+use Rattle.reference.specs.declared.Length.{Length}
+use Rattle.reference.specs.declared.Length.TheVariants as kind
 use Rattle.reference.specs.declared.PcmError.{PcmError}
 use Rattle.reference.specs.declared.PcmError.TheVariants as error
-use Rattle.reference.specs.declared.Verdict.{Verdict}
-use Rattle.reference.specs.declared.Verdict.TheVariants as verdict
-use Rattle.reference.specs.declared.FromDb.{FromDb}
-use Rattle.reference.specs.declared.FromDb.TheVariants as from-db
 
 -- ---- a decision
 
@@ -46,12 +44,17 @@ abbrev pub refusal_number : Decision → ℕ
 refusal_number accepted = 0
 refusal_number (refused n d) = n
 
+-- the number of what an input is to be
+abbrev pub length_number : Length → ℕ
+length_number kind.WholeFrames = 0
+length_number kind.OneFrame = 1
+
 -- number and data of each case of the answers' enums
 abbrev pub error_decision : PcmError → Decision
 error_decision (error.Channels n) = refused 1 (number n ∷ [])
 error_decision (error.Unsupported r c) = refused 2 (rate r ∷ cutoff c ∷ [])
 error_decision (error.Gain db) = refused 3 (decibels db ∷ [])
-error_decision (error.InputLength n kind) = refused 4 (number n ∷ number kind ∷ [])
+error_decision (error.InputLength n kind) = refused 4 (number n ∷ number (length_number kind) ∷ [])
 error_decision (error.Frames n) = refused 5 (number n ∷ [])
 error_decision (error.OutputLength n expected) = refused 6 (number n ∷ number expected ∷ [])
 error_decision (error.OutputBytes n expected) = refused 7 (number n ∷ number expected ∷ [])
@@ -69,13 +72,9 @@ error_decision error.TapSums = refused 18 []
 error_decision error.Sheet = refused 20 []
 error_decision error.Stored = refused 15 []
 
-abbrev pub decision : Verdict → Decision
-decision verdict.Accepted = accepted
-decision (verdict.Refused e) = error_decision e
-
-abbrev pub gain_decision : FromDb → Decision
-gain_decision (from-db.Made g) = accepted
-gain_decision (from-db.Refused e) = error_decision e
+abbrev pub decision : {A : Type 0} → Result A PcmError → Decision
+decision (Ok a) = accepted
+decision (Err e) = error_decision e
 
 -- ---- places
 

@@ -1,5 +1,5 @@
 -- What opening is given, and the converter that it gives.
-use Rattle.std.specs.Prelude.{Bool, true, cond, ◌&&◌, ◌++◌, ℕ, eqb, pos, replicate}
+use Rattle.std.specs.Prelude.{Bool, Some, unwrap_or, ◌&&◌, ◌++◌, ℕ, eqb, pos, replicate}
 use Rattle.reference.specs.Taps.{F40}
 use Rattle.reference.specs.Frames.{frame_length}
 use Rattle.reference.specs.Stages.{taps_of, reach}
@@ -14,7 +14,7 @@ built_in = record { taps = F40 ++ replicate 56 (pos 0); count = 61 }
 
 -- the filter given, or F40 where none is
 unfoldable pub filter_of : Settings → Filter
-filter_of s = cond s.own s.filter built_in
+filter_of s = unwrap_or s.filter built_in
 
 -- with the three numbers that a converter stores (request 7)
 unfoldable pub converter_of : Settings → Converter
@@ -33,7 +33,7 @@ converter_of s =
 -- the settings that a converter holds
 abbrev pub held_settings : Converter → Settings
 held_settings conv =
-    record { rate = conv.rate; cutoff = conv.cutoff; channels = conv.channels; gain = conv.gain; own = true; filter = conv.filter }
+    record { rate = conv.rate; cutoff = conv.cutoff; channels = conv.channels; gain = conv.gain; filter = Some conv.filter }
 
 -- the reach of a converter's settings
 abbrev pub reach_of : Converter → ℕ

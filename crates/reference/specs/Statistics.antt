@@ -1,31 +1,53 @@
--- Statistics of no samples, and of stretches taken as one.
-use Rattle.std.specs.Prelude.{List, [], ◌∷◌, true, ◌&&◌, ℕ, ◌+◌, ◌-◌, ◌^◌, min, ℤ, pos, get_or, replicate}
-use Rattle.numbers.specs.Sums.{at0}
-use Rattle.numbers.specs.Extremes.{lesser, greater, pick_unmarked}
-use Rattle.numbers.specs.Lists.{tabulate}
+-- Statistics of samples and of no samples, and of stretches taken as one.
+use Rattle.std.specs.Prelude.{Option, Some, None, List, [], ◌∷◌, ℕ, zero, suc, ◌+◌, ◌-◌, ◌^◌, min, ℤ, get_or, replicate}
+use Rattle.numbers.specs.Extremes.{lesser, greater, extreme}
+use Rattle.numbers.specs.Lists.{tabulate, total}
 use Rattle.reference.specs.declared.ConvertStats.{ConvertStats}
+use Rattle.reference.specs.declared.ChannelStats.{ChannelStats}
+use Rattle.reference.specs.declared.Extremes.{Extremes}
 
--- no samples in any channel
-unfoldable pub no_stats : ConvertStats
-no_stats = record { clipped = replicate 6 0; lowest = replicate 6 (pos 0); highest = replicate 6 (pos 0); empty = replicate 6 true }
+-- ---- of one channel
+
+-- the least and the greatest of f a, …, f (a + n - 1), where there are any
+unfoldable pub extremes_of : (ℕ → ℤ) → ℕ → ℕ → Option Extremes
+extremes_of f a zero = None
+extremes_of f a (suc n) = Some (record { lowest = extreme lesser f a (suc n); highest = extreme greater f a (suc n) })
+
+-- of no samples
+unfoldable pub no_samples : ChannelStats
+no_samples = record { clipped = 0; extremes = None }
 
 -- a clip count that does not fit 64 bits is held at the greatest that does
 unfoldable pub add_clips : ℕ → ℕ → ℕ
 add_clips a b = min (a + b) (2 ^ 64 - 1)
 
-module _ (a b : ConvertStats) where
-  -- what is picked of the two in channel c, of those that have samples
-  unfoldable pub of_both : (ℤ → ℤ → ℤ) → List ℤ → List ℤ → ℕ → ℤ
-  of_both pick xs ys c = pick_unmarked pick (get_or a.empty c true) (at0 xs c) (get_or b.empty c true) (at0 ys c)
+-- the least and the greatest of two stretches, as far as they have samples
+unfoldable pub joined_extremes : Option Extremes → Option Extremes → Option Extremes
+joined_extremes None b = b
+joined_extremes (Some x) None = Some x
+joined_extremes (Some x) (Some y) = Some (record { lowest = lesser x.lowest y.lowest; highest = greater x.highest y.highest })
 
-  -- two stretches taken as one: clips added, the least and the greatest of those that have samples, the mark where neither has
-  unfoldable pub joined_stats : ConvertStats
-  joined_stats = record {
-    clipped = tabulate (λ c. add_clips (get_or a.clipped c 0) (get_or b.clipped c 0)) 0 6;
-    lowest = tabulate (of_both lesser a.lowest b.lowest) 0 6;
-    highest = tabulate (of_both greater a.highest b.highest) 0 6;
-    empty = tabulate (λ c. get_or a.empty c true && get_or b.empty c true) 0 6;
-  }
+-- two stretches taken as one
+unfoldable pub joined_channel : ChannelStats → ChannelStats → ChannelStats
+joined_channel a b = record { clipped = add_clips a.clipped b.clipped; extremes = joined_extremes a.extremes b.extremes }
+
+-- ---- of all channels
+
+-- no samples in any channel
+unfoldable pub no_stats : ConvertStats
+no_stats = record { channels = replicate 6 no_samples }
+
+-- what is told of channel c
+unfoldable pub channel_of : ConvertStats → ℕ → ChannelStats
+channel_of s c = get_or s.channels c no_samples
+
+-- clips over the first n channels
+unfoldable pub clip_sum : ConvertStats → ℕ → ℕ
+clip_sum s n = total (λ c. (channel_of s c).clipped) 0 n
+
+-- two stretches taken as one, channel by channel
+unfoldable pub joined_stats : ConvertStats → ConvertStats → ConvertStats
+joined_stats a b = record { channels = tabulate (λ c. joined_channel (channel_of a c) (channel_of b c)) 0 6 }
 
 -- many stretches
 unfoldable pub all_joined : List ConvertStats → ConvertStats

@@ -6,14 +6,11 @@ use native.Mathlib.Nat.{div-add-mod', mod-lt}
 use native.Mathlib.Omega.{arith}
 use lib.Arith.{digits_div}
 use lib.Pow.{pow_pos}
+use Rattle.std.proofs.lemmas.Nat.{pow-add}
+use Rattle.std.proofs.Math.Nat.{mul-div_cancel}
 use lib.IntN.{ℤ, pos, negsuc, neg_ℤ, nat_abs, ◌+ℤ◌, ◌-ℤ◌, ◌*ℤ◌}
-use lib.Signed.{non_neg, shr_z}
-use lib.Dec.{T}
-use mir.Syntax.{w64}
-use mir.Val.{SFits, Fits}
-use mir.Facts.{to_z-of_z}
+use lib.Signed.{shr_z}
 use Rattle.numbers.proofs.Integers.{zext, add_parts, pp_neg, nn_neg, add_mul, neg_mul}
-use Rattle.numbers.proofs.Machine.{t}
 use Rattle.numbers.proofs.Lists.{below_or}
 use Rattle.reference.specs.Rounding.{R, rest, lowest_kept, one_sum}
 use Rattle.reference.proofs.Rounding.{rest_is, R_one_sum}
@@ -106,20 +103,38 @@ module _ (D b w : ℕ) (some : 0 < D) where
       ∙ ap (λ (z : ℤ). pos w -ℤ pos ((b + b) * D) -ℤ z) (ap (λ (z : ℤ). z *ℤ pos D) floor ∙ minus_mul k (b + b) D)
       ∙ minus_minus w (k * D) ((b + b) * D) r split)
 
--- what the code works out; h is one less than half a step
-module _ (q b w h : ℕ) (some : 1 ≤ q) (half : 2 ^ (q - 1) ≡ h + 1) where
-  pub lifted_R : R (pos w -ℤ pos ((b + b) * 2 ^ q)) q ≡ pos (w / 2 ^ q + (w % 2 ^ q + h + w / 2 ^ q % 2) / 2 ^ q) -ℤ pos (b + b)
-  unfolding one_sum lowest_kept v k r
-  lifted_R =
-      R_one_sum (pos w -ℤ pos ((b + b) * 2 ^ q)) q some
-      ∙ ap₂ (λ (z : ℤ) (n : ℕ). z +ℤ pos ((n + 2 ^ (q - 1) - 1 + nat_abs z % 2) / 2 ^ q)) (floor (2 ^ q) b w (pow_pos q)) (left_over (2 ^ q) b w (pow_pos q))
-      ∙ ap₂ (λ (n m : ℕ). pos (w / 2 ^ q) -ℤ pos (b + b) +ℤ pos ((n + m) / 2 ^ q)) (omega arith) (odd_even (w / 2 ^ q) b)
-      ∙ plus_over (w / 2 ^ q) ((w % 2 ^ q + h + w / 2 ^ q % 2) / 2 ^ q) (b + b)
+-- what the code works out at a unit D
+abbrev pub near : ℕ → ℕ → ℕ
+near D w = w / D + (w % D + D / 2 - 1 + w / D % 2) / D
 
--- a number that is not negative, as the code reads it
-pub whole_cast : {s : ℤ} → SFits w64 s → s ≡ pos (nat_abs s) → T (non_neg (t s)) × Fits w64 (nat_abs (t s))
-whole_cast {s} f e = rw (to_z-of_z f) (rw e (tt, record { fits = small s f }))
-  where
-    small : (z : ℤ) → SFits w64 z → nat_abs z < 2 ^ 64
-    small (pos n) g = omega (arith, g.sfits)
-    small (negsuc n) g = omega (arith, g.sfits)
+module _ (q : ℕ) (some : 1 ≤ q) (few : q ≤ 52) where
+  unit_is : 2 ^ q ≡ 2 * 2 ^ (q - 1)
+  unit_is = let e : 1 + (q - 1) ≡ q = omega arith in ap (λ (n : ℕ). 2 ^ n) (sym e) ∙ pow-add 2 1 (q - 1)
+
+  half_is : 2 ^ q / 2 ≡ 2 ^ (q - 1)
+  half_is = omega (arith, unit_is)
+
+  pub half_some : 1 ≤ 2 ^ q / 2
+  half_some = omega (arith, half_is, pow_pos (q - 1))
+
+  lift_is : 2 ^ 53 ≡ (2 ^ (52 - q) + 2 ^ (52 - q)) * 2 ^ q
+  lift_is =
+      let e : 52 - q + q ≡ 52 = omega arith in
+      let p : 2 ^ 52 ≡ 2 ^ (52 - q) * 2 ^ q = ap (λ (n : ℕ). 2 ^ n) (sym e) ∙ pow-add 2 (52 - q) q in
+      omega arith
+
+  lift_by_unit : 2 ^ 53 / 2 ^ q ≡ 2 ^ (52 - q) + 2 ^ (52 - q)
+  lift_by_unit =
+      ap (λ (n : ℕ). n / 2 ^ q) lift_is ∙ mul-div_cancel (2 ^ (52 - q) + 2 ^ (52 - q)) (pow_pos q)
+
+  -- R of the sum
+  pub lifted_R : (w : ℕ) → R (pos w -ℤ pos (2 ^ 53)) q ≡ pos (near (2 ^ q) w) -ℤ pos (2 ^ 53 / 2 ^ q)
+  unfolding one_sum lowest_kept v k r
+  lifted_R w =
+      let b : ℕ = 2 ^ (52 - q) in
+      ap (λ (n : ℕ). R (pos w -ℤ pos n) q) lift_is
+      ∙ R_one_sum (pos w -ℤ pos ((b + b) * 2 ^ q)) q some
+      ∙ ap₂ (λ (z : ℤ) (n : ℕ). z +ℤ pos ((n + 2 ^ (q - 1) - 1 + nat_abs z % 2) / 2 ^ q)) (floor (2 ^ q) b w (pow_pos q)) (left_over (2 ^ q) b w (pow_pos q))
+      ∙ ap₂ (λ (n m : ℕ). pos (w / 2 ^ q) -ℤ pos (b + b) +ℤ pos ((w % 2 ^ q + n - 1 + m) / 2 ^ q)) (sym half_is) (odd_even (w / 2 ^ q) b)
+      ∙ plus_over (w / 2 ^ q) ((w % 2 ^ q + 2 ^ q / 2 - 1 + w / 2 ^ q % 2) / 2 ^ q) (b + b)
+      ∙ ap (λ (n : ℕ). pos (near (2 ^ q) w) -ℤ pos n) (sym lift_by_unit)

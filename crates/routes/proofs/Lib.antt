@@ -1,3 +1,4 @@
 pub mod Arrays
 pub mod Filters
 pub mod Routes
+pub mod Props

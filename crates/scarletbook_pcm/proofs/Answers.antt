@@ -1,23 +1,29 @@
 -- What an accepted call has, and the promises of a call that is accepted or refused.
-use mathlib.Core.Path.{◌≡◌, sym, ◌∙◌}
+use mathlib.Core.Path.{◌≡◌, refl, sym, ap, ◌∙◌}
+use Rattle.std.specs.Prelude.{Ok, Err}
 use mathlib.Core.List.{List, [], ◌∷◌, ◌++◌}
-use mathlib.Core.Bool.{Bool, true, false, true≢false}
+use mathlib.Core.Bool.{Bool, true, false}
 use Prim.Native.Nat.{ℕ, ◌*◌}
 use borrow.Author.Tests.{eqb-true, not-false}
 use lib.IntN.{ℤ}
 use lib.ListN.{length}
 use Rattle.reference.specs.Frames.{Run, frame_count}
-use Rattle.reference.specs.Output.{all_samples, samples, stats, s24le, per_frame_clips}
-use Rattle.reference.specs.Refusals.{rack, accepted, decision, is_accepted, Place, decide, if_present, lent_length, held_places, input_places, run_lengths, byte_lengths, convert_run_places, convert_frame_places, convert_places}
-use Rattle.reference.specs.Promises.{Answered, SamplesPromise, BytesPromise, if_lent}
+use Rattle.reference.specs.Output.{all_samples, samples, stats, s24le, frame_clips, per_frame_clips}
+use Rattle.reference.specs.Refusals.{rack, accepted, error_decision, is_accepted, Place, decide, if_present, lent_length, opening_places, held_places, input_places, run_lengths, byte_lengths, convert_run_places, convert_frame_places, convert_places}
+use Rattle.reference.specs.Settings.{converter_of}
+use Rattle.reference.specs.Promises.{stats_told, OpeningPromise, Answered, SamplesPromise, BytesPromise, if_lent}
 use Rattle.reference.specs.Statistics.{no_stats}
 use Rattle.reference.specs.declared.Converter.{Converter}
 use Rattle.reference.specs.declared.ConvertStats.{ConvertStats}
 use Rattle.reference.specs.declared.Limit.{Limit}
-use Rattle.reference.specs.declared.Verdict.{Verdict}
-use Rattle.reference.proofs.Refusals.{pass, decide_first, decide_skip}
-use Rattle.reference.proofs.Promises.{exit_accepted, exit_refused}
+use Rattle.reference.specs.declared.PcmError.{PcmError}
+use Rattle.reference.specs.declared.Settings.{Settings}
+use Rattle.reference.proofs.Refusals.{pass, decide_first, decide_skip, error_refuses}
+use Rattle.reference.proofs.Promises.{apart, exit_accepted, exit_refused}
 use Rattle.reference.proofs.Limits.{rack_fits}
+use Rattle.numbers.specs.Lists.{tabulate}
+use Rattle.output.specs.Fills.{items, bytes, written}
+use Rattle.output.proofs.Boxes.{written_items, written_bytes}
 use Rattle.scarletbook_pcm.specs.Calls.{AcceptedCall}
 
 both : (ps qs : List Place) → decide (ps ++ qs) ≡ accepted → (decide ps ≡ accepted) × (decide qs ≡ accepted)
@@ -34,68 +40,96 @@ module _ (conv : Converter) (r : Run) (out : List ℤ) where
       let h = both (input_places rack conv r) _ e in
       (record { opens = o; fits = h.0 }, right_length 6 (length out) (all_samples conv r) [] h.1)
 
-  pub run_accepted : decide (convert_run_places conv r out) ≡ accepted → AcceptedCall conv r × (length out ≡ all_samples conv r)
+  pub run_accepted : accepted ≡ decide (convert_run_places conv r out) → AcceptedCall conv r × (length out ≡ all_samples conv r)
   unfolding convert_run_places
-  run_accepted e = let h = both (held_places conv) _ e in items_fit h.0 h.1
+  run_accepted e = let h = both (held_places conv) _ (sym e) in items_fit h.0 h.1
 
-  pub frame_accepted : decide (convert_frame_places conv r out) ≡ accepted → AcceptedCall conv r × (length out ≡ all_samples conv r)
+  pub frame_accepted : accepted ≡ decide (convert_frame_places conv r out) → AcceptedCall conv r × (length out ≡ all_samples conv r)
   unfolding convert_frame_places
-  frame_accepted e = let h = both (held_places conv) _ e in items_fit h.0 (pass _ _ h.1).1
+  frame_accepted e = let h = both (held_places conv) _ (sym e) in items_fit h.0 (pass _ _ h.1).1
 
-pub bytes_accepted : (whose : Limit) (conv : Converter) (r : Run) (out : List ℕ) (lent : Bool) (counts : List ℕ) → decide (convert_places whose conv r out lent counts) ≡ accepted
-    → AcceptedCall conv r × (length out ≡ 3 * all_samples conv r) × (lent ≡ true → length counts ≡ frame_count conv.channels r.frames)
-unfolding convert_places byte_lengths if_present
-bytes_accepted whose conv r out lent counts e =
-    let h = both (held_places conv) _ e in
-    let k = both (input_places whose conv r) _ h.1 in
-    (record { opens = h.0; fits = rack_fits whose conv r k.0 }, right_length 7 (length out) (3 * all_samples conv r) _ k.1, λ t. counted lent t (pass _ _ k.1).1)
-  where
-    counted : (b : Bool) → b ≡ true → decide (if_present b (lent_length 8 (length counts) (frame_count conv.channels r.frames))) ≡ accepted → length counts ≡ frame_count conv.channels r.frames
-    counted true t q = right_length 8 (length counts) _ [] q
-    counted false t q = absurd (true≢false (sym t))
+module _ (whose : Limit) (conv : Converter) (r : Run) (out : List ℕ) where
+  pub lent_accepted : (counts : List ℕ) → accepted ≡ decide (convert_places whose conv r out true counts)
+      → AcceptedCall conv r × (length out ≡ 3 * all_samples conv r) × (length counts ≡ frame_count conv.channels r.frames)
+  unfolding convert_places byte_lengths if_present
+  lent_accepted counts e =
+      let h = both (held_places conv) _ (sym e) in
+      let k = both (input_places whose conv r) _ h.1 in
+      (record { opens = h.0; fits = rack_fits whose conv r k.0 }, right_length 7 (length out) (3 * all_samples conv r) _ k.1, right_length 8 (length counts) _ [] (pass _ _ k.1).1)
+
+  pub unlent_accepted : accepted ≡ decide (convert_places whose conv r out false []) → AcceptedCall conv r × (length out ≡ 3 * all_samples conv r)
+  unfolding convert_places byte_lengths if_present
+  unlent_accepted e =
+      let h = both (held_places conv) _ (sym e) in
+      let k = both (input_places whose conv r) _ h.1 in
+      (record { opens = h.0; fits = rack_fits whose conv r k.0 }, right_length 7 (length out) (3 * all_samples conv r) _ k.1)
 
 -- ---- the promises, of a call that is accepted and of one that is refused
 
-module _ (places : List Place) (conv : Converter) (r : Run) (v : Verdict) (decided : decision v ≡ decide places) where
-  module _ (ok : decide places ≡ accepted) (told : ConvertStats) (is_stats : told ≡ stats conv r) where
-    answered : Answered places conv r (record { verdict = v; stats = told })
-    answered = record { decided = decided; counted = is_stats ∙ sym (exit_accepted (decide places) (stats conv r) no_stats ok) }
+module _ (s : Settings) where
+  pub opened : accepted ≡ decide (opening_places s) → OpeningPromise s (Ok (converter_of s))
+  opened e = record { decided = e; converter = λ h. refl }
 
-    pub samples_promise : (out out' : List ℤ) → out' ≡ samples conv r → SamplesPromise places conv r out out' (record { verdict = v; stats = told })
-    samples_promise out out' e = record { answered = answered; written = e ∙ sym (exit_accepted (decide places) (samples conv r) out ok) }
+  pub not_opened : (e : PcmError) → error_decision e ≡ decide (opening_places s) → OpeningPromise s (Err e)
+  not_opened e h = record { decided = h; converter = λ k. apart e (h ∙ k) }
 
-  module _ (down : is_accepted (decide places) ≡ false) (told : ConvertStats) (is_stats : told ≡ no_stats) where
-    unanswered : Answered places conv r (record { verdict = v; stats = told })
-    unanswered = record { decided = decided; counted = is_stats ∙ sym (exit_refused (decide places) (stats conv r) no_stats down) }
+module _ (places : List Place) (conv : Converter) (r : Run) where
+  module _ (ok : accepted ≡ decide places) (told : ConvertStats) (is_stats : told ≡ stats conv r) where
+    answered : Answered places conv r (Ok told)
+    unfolding stats_told
+    answered = record { decided = ok; counted = is_stats ∙ sym (exit_accepted (decide places) (stats conv r) no_stats (sym ok)) }
 
-    pub samples_refused : (out : List ℤ) → SamplesPromise places conv r out out (record { verdict = v; stats = told })
+    pub samples_promise : (out out' : List ℤ) → out' ≡ written items (samples conv r) → SamplesPromise places conv r out out' (Ok told)
+    samples_promise out out' e = record { answered = answered; written = e ∙ written_items (samples conv r) ∙ sym (exit_accepted (decide places) (samples conv r) out (sym ok)) }
+
+  module _ (e : PcmError) (no : error_decision e ≡ decide places) where
+    down : is_accepted (decide places) ≡ false
+    down = ap is_accepted (sym no) ∙ error_refuses e
+
+    unanswered : Answered places conv r (Err e)
+    unfolding stats_told
+    unanswered = record { decided = no; counted = sym (exit_refused (decide places) (stats conv r) no_stats down) }
+
+    pub samples_refused : (out : List ℤ) → SamplesPromise places conv r out out (Err e)
     samples_refused out = record { answered = unanswered; written = sym (exit_refused (decide places) (samples conv r) out down) }
 
-module _ (whose : Limit) (conv : Converter) (r : Run) (lent : Bool) (out counts : List ℕ) (v : Verdict) (decided : decision v ≡ decide (convert_places whose conv r out lent counts)) where
-  abbrev places : List Place
-  places = convert_places whose conv r out lent counts
+module _ (whose : Limit) (conv : Converter) (r : Run) (out counts : List ℕ) where
+  -- a list that is not lent is not measured
+  unlent_places : (cs : List ℕ) → convert_places whose conv r out false cs ≡ convert_places whose conv r out false counts
+  unfolding convert_places byte_lengths if_present
+  unlent_places cs = refl
 
-  pub convert_promise : decide places ≡ accepted → (told : ConvertStats) → told ≡ stats conv r → (out' counts' : List ℕ) → out' ≡ s24le (samples conv r)
-      → counts' ≡ if_lent lent (per_frame_clips conv r) counts → BytesPromise whose conv r lent out counts out' counts' (record { verdict = v; stats = told })
-  convert_promise ok told e out' counts' w k =
+  module _ (lent : Bool) (told : ConvertStats) (is_stats : told ≡ stats conv r) (ok : accepted ≡ decide (convert_places whose conv r out lent counts)) where
+    bytes_promise : (out' counts' : List ℕ) → out' ≡ s24le (samples conv r) → counts' ≡ if_lent lent (per_frame_clips conv r) counts → BytesPromise whose conv r lent out counts out' counts' (Ok told)
+    bytes_promise out' counts' w k =
+        let places = convert_places whose conv r out lent counts in
+        record {
+          answered = answered places conv r ok told is_stats;
+          written = w ∙ sym (exit_accepted (decide places) (s24le (samples conv r)) out (sym ok));
+          per_frame = k ∙ sym (exit_accepted (decide places) (if_lent lent (per_frame_clips conv r) counts) counts (sym ok));
+        }
+
+  module _ (told : ConvertStats) (is_stats : told ≡ stats conv r) where
+    pub lent_promise : accepted ≡ decide (convert_places whose conv r out true counts) → (out' counts' : List ℕ) → out' ≡ written bytes (samples conv r)
+        → length counts ≡ frame_count conv.channels r.frames → counts' ≡ tabulate (frame_clips conv r) 0 (length counts) → BytesPromise whose conv r true out counts out' counts' (Ok told)
+    unfolding if_lent per_frame_clips
+    lent_promise ok out' counts' w l k = bytes_promise true told is_stats ok out' counts' (w ∙ written_bytes (samples conv r)) (k ∙ ap (λ n. tabulate (frame_clips conv r) 0 n) l)
+
+    pub unlent_promise : accepted ≡ decide (convert_places whose conv r out false []) → (out' : List ℕ) → out' ≡ written bytes (samples conv r) → BytesPromise whose conv r false out counts out' counts (Ok told)
+    unfolding if_lent
+    unlent_promise ok out' w = bytes_promise false told is_stats (ok ∙ ap decide (unlent_places [])) out' counts (w ∙ written_bytes (samples conv r)) refl
+
+  bytes_refused : (lent : Bool) (e : PcmError) → error_decision e ≡ decide (convert_places whose conv r out lent counts) → BytesPromise whose conv r lent out counts out counts (Err e)
+  bytes_refused lent e h =
+      let places = convert_places whose conv r out lent counts in
       record {
-        answered = answered places conv r v decided ok told e;
-        written = w ∙ sym (exit_accepted (decide places) (s24le (samples conv r)) out ok);
-        per_frame = k ∙ sym (exit_accepted (decide places) (if_lent lent (per_frame_clips conv r) counts) counts ok);
+        answered = unanswered places conv r e h;
+        written = sym (exit_refused (decide places) (s24le (samples conv r)) out (down places conv r e h));
+        per_frame = sym (exit_refused (decide places) (if_lent lent (per_frame_clips conv r) counts) counts (down places conv r e h));
       }
 
-  pub convert_refused : is_accepted (decide places) ≡ false → (told : ConvertStats) → told ≡ no_stats → BytesPromise whose conv r lent out counts out counts (record { verdict = v; stats = told })
-  convert_refused down told e =
-      record {
-        answered = unanswered places conv r v decided down told e;
-        written = sym (exit_refused (decide places) (s24le (samples conv r)) out down);
-        per_frame = sym (exit_refused (decide places) (if_lent lent (per_frame_clips conv r) counts) counts down);
-      }
+  pub lent_refused : (e : PcmError) → error_decision e ≡ decide (convert_places whose conv r out true counts) → BytesPromise whose conv r true out counts out counts (Err e)
+  lent_refused e h = bytes_refused true e h
 
-pub counts_lent : (lent : Bool) (new old : List ℕ) → lent ≡ true → new ≡ if_lent lent new old
-unfolding if_lent
-counts_lent lent new old e = rw e
-
-pub counts_kept : (lent : Bool) (new old : List ℕ) → lent ≡ false → old ≡ if_lent lent new old
-unfolding if_lent
-counts_kept lent new old e = rw e
+  pub unlent_refused : (e : PcmError) → error_decision e ≡ decide (convert_places whose conv r out false []) → BytesPromise whose conv r false out counts out counts (Err e)
+  unlent_refused e h = bytes_refused false e (h ∙ ap decide (unlent_places []))

@@ -12,13 +12,12 @@ use borrow.Fn.Kinds.{Dens, res_t, ended_of}
 use denote.Triple.Entry.{Args, Res}
 use denote.Triple.Clauses.{AtExit}
 use denote.Triple.Spec.{exits}
-use Rattle.reference.specs.Frames.{Run, run}
+use Rattle.reference.specs.Frames.{Run, run, run_of}
 use Rattle.reference.specs.Refusals.{rack, desk}
 use Rattle.reference.specs.Promises.{ConvertPromise, DeskPromise, ConvertRunPromise}
 use Rattle.reference.specs.declared.Converter.{Converter}
 use Rattle.joins.specs.Joins.{Call, convert, convert_run, AcceptedConverter, AcceptedRun, JoinTo, GiveWholeRun}
 use Rattle.joins.proofs.Joins.{cut_runs_join}
-use Rattle.scarletbook_pcm.specs.Calls.{run_of}
 use Rattle.scarletbook_pcm.proofs.convert_parts.Kinds as bytes-kinds
 use Rattle.scarletbook_pcm.proofs.convert_parts.Reads as bytes
 use Rattle.scarletbook_pcm.proofs.convert_desk_parts.Kinds as desk-kinds

@@ -5,16 +5,18 @@ use mathlib.Core.Bool.{Bool, true, false, cond}
 use Prim.Native.Nat.{ℕ, ◌+◌, ◌*◌, ◌/◌, ◌%◌, ◌<◌}
 use native.Mathlib.Omega.{arith}
 use borrow.Author.Tests.{lt-ltb, eqb-true, not-false}
-use lib.Dec.{T, eqb, ltb}
-use lib.IntN.{ℤ, pos}
+use lib.Dec.{T, ltb}
+use lib.IntN.{ℤ}
 use lib.ListN.{length}
 use lib.Ieee.{binary64, fits}
-use Rattle.numbers.specs.Extremes.{lesser, greater, extreme0}
 use Rattle.numbers.specs.Lists.{tabulate, total, count}
 use Rattle.reference.specs.Frames.{Run, run, frame_length, frame_count, neighbour, sequence, channel_byte}
 use Rattle.reference.specs.Stages.{taps_of, y}
 use Rattle.reference.specs.Scaling.{scaled, clamp, clips}
-use Rattle.reference.specs.Output.{samples_per_frame, unclamped, sample, clipped, item, channel_samples, all_samples, samples, channel_clips, channel_extreme, channel_empty, stats, frame_clips, per_frame_clips, s24le}
+use Rattle.reference.specs.Output.{samples_per_frame, unclamped, sample, clipped, item, channel_samples, all_samples, samples, channel_clips, channel_extremes, channel_stats, stats, frame_clips}
+use Rattle.reference.specs.Statistics.{extremes_of}
+use Rattle.std.specs.Prelude.{None}
+use Rattle.output.specs.Fills.{Layout, written}
 use Rattle.reference.specs.Refusals.{rack, accepted, decide, Datum, Place, if_present, one_long, run_length, input_places}
 use Rattle.reference.specs.declared.Converter.{Converter}
 use Rattle.reference.specs.declared.ConvertStats.{ConvertStats}
@@ -40,17 +42,11 @@ module _ (conv : Converter) (r q : Run) (e : sequence conv.channels r ≡ sequen
       unclamped_same g
 
   pub stats_same : stats conv r ≡ stats conv q
-  unfolding stats channel_clips channel_extreme channel_empty clipped channel_samples
+  unfolding stats channel_stats channel_clips channel_extremes clipped channel_samples
   stats_same =
       ap₂ {C = ConvertStats} (λ (u : ℕ → ℕ → ℤ) (f : List ℕ).
       let n = frame_count conv.channels f * samples_per_frame conv.rate in
-      record {
-        clipped = tabulate (λ c. cond (ltb c conv.channels) (count (λ k. clips (u c k)) 0 n) 0) 0 6;
-        lowest = tabulate (λ c. cond (ltb c conv.channels) (extreme0 lesser (u c) 0 n) (pos 0)) 0 6;
-        highest = tabulate (λ c. cond (ltb c conv.channels) (extreme0 greater (u c) 0 n) (pos 0)) 0 6;
-        empty = tabulate (λ c. cond (ltb c conv.channels) (eqb n 0) true) 0 6;
-      })
-      unclamped_same g
+      record { channels = tabulate (λ c. record { clipped = cond (ltb c conv.channels) (count (λ k. clips (u c k)) 0 n) 0; extremes = cond (ltb c conv.channels) (extremes_of (u c) 0 n) None }) 0 6 }) unclamped_same g
 
   pub frame_clips_same : frame_clips conv r ≡ frame_clips conv q
   unfolding frame_clips clipped
@@ -109,19 +105,15 @@ module _ (conv : Converter) (hb : Bool) (b f : List ℕ) (ha : Bool) (a : List �
         factor = right_bounded conv.gain h (right conv ok.opens);
       }
 
-  module _ {packed : Bool} {told : ConvertStats} {out out' : List ℤ} {raw raw' counts counts' : List ℕ} (ran : Ran packed conv (lent_run (present hb b) f (present ha a)) told out out' raw raw' counts counts') where
-    pub ran_items : packed ≡ false → out' ≡ samples conv (run hb b f ha a)
+  module _ {A : Type 0} {o : Layout A} {told : ConvertStats} {out' : List A} {counts counts' : List ℕ} (ran : Ran o conv (lent_run (present hb b) f (present ha a)) told out' counts counts') where
+    pub ran_places : out' ≡ written o (samples conv (run hb b f ha a))
     unfolding lent_run
-    ran_items e = (ran.items e).0 ∙ samples_same conv _ _ sequence_same refl
-
-    pub ran_bytes : packed ≡ true → raw' ≡ s24le (samples conv (run hb b f ha a))
-    unfolding lent_run
-    ran_bytes e = (ran.bytes e).0 ∙ ap s24le (samples_same conv _ _ sequence_same refl)
+    ran_places = ran.places ∙ ap (written o) (samples_same conv _ _ sequence_same refl)
 
     pub ran_stats : told ≡ stats conv (run hb b f ha a)
     unfolding lent_run
     ran_stats = ran.is_stats ∙ stats_same conv _ _ sequence_same refl
 
-    pub ran_counts : length counts ≡ frame_count conv.channels f → counts' ≡ per_frame_clips conv (run hb b f ha a)
-    unfolding lent_run per_frame_clips
-    ran_counts e = ran.counted ∙ ap₂ (λ (g : ℕ → ℕ) (n : ℕ). tabulate g 0 n) (frame_clips_same conv _ _ sequence_same refl) e
+    pub ran_counts : counts' ≡ tabulate (frame_clips conv (run hb b f ha a)) 0 (length counts)
+    unfolding lent_run
+    ran_counts = ran.counted ∙ ap (λ (g : ℕ → ℕ). tabulate g 0 (length counts)) (frame_clips_same conv _ _ sequence_same refl)

@@ -1,13 +1,8 @@
--- The run that a call is given, and what a conversion goes by once its call is accepted.
+-- What a conversion goes by once its call is accepted.
 use Rattle.std.specs.Prelude.{◌≡◌, List, [], Bool, true, false, ℕ}
-use Rattle.reference.specs.Frames.{Run, run}
+use Rattle.reference.specs.Frames.{Run}
 use Rattle.reference.specs.Refusals.{rack, accepted, decide, held_places, input_places}
 use Rattle.reference.specs.declared.Converter.{Converter}
-use Rattle.scarletbook_pcm.specs.declared.record.Run.{Run as Record}
-
--- the definition's run that a run record stands for
-abbrev pub run_of : Record → Run
-run_of d = run d.has_before d.before.now d.frames.now d.has_after d.after.now
 
 -- what its places before the output's lengths find: an accepted converter and an accepted run
 pub record AcceptedCall (conv : Converter) (r : Run) : Type 0 where

@@ -2,28 +2,26 @@
 #![tactic(auto)]
 
 ghost use Rattle.std.specs.Prelude.{◌≡◌};
-ghost use Rattle.reference.specs.Frames.{run};
+ghost use Rattle.reference.specs.Frames.{run, run_of};
 ghost use Rattle.reference.specs.Output as output;
 ghost use Rattle.reference.specs.Changes as changes;
 ghost use Rattle.reference.specs.Changes.{ChangePromise};
 ghost use Rattle.reference.specs.Promises.{OpeningPromise, ConvertRunPromise, ConvertFramePromise, BytesPromise, ConvertPromise, DeskPromise, PackPromise};
 
-use reference::{Converted, Converter, Cutoff, Gain, Limit, Opened, PcmRate, Settings};
+pub use reference::Run;
+use reference::{ConvertStats, Converter, Cutoff, Gain, Limit, PcmError, PcmRate, Settings};
 
 mod record;
 mod work;
 
-// The run record, and the calls over it; the functions `.._of` make it of its fields, and the functions `.._parts` below do without it.
-pub use record::{
-    Run, convert, convert_desk, convert_desk_of, convert_frame, convert_frame_of, convert_of,
-    convert_run, convert_run_of,
-};
+// The calls over the run record; the functions `.._parts` below do without it.
+pub use record::{convert, convert_desk, convert_frame, convert_run};
 
 // Samples of one channel in a frame.
 pub fn samples_per_frame(rate: PcmRate) -> usize
     ensures { result ≡ output.samples_per_frame rate }
 {
-    reference::samples_per_frame(rate)
+    rate.samples_per_frame()
 }
 
 // Bytes of each channel before and after a stretch of frames that its samples may depend on: the number that the converter stores.
@@ -33,22 +31,28 @@ pub fn context_bytes(conv: Converter) -> usize
     conv.reach
 }
 
-pub fn open(settings: Settings) -> Opened
+#[tactic(auto, using(crate::proofs::Answers::opened, crate::proofs::Answers::not_opened))]
+pub fn open(settings: Settings) -> Result<Converter, PcmError>
     ensures { OpeningPromise settings result }
 {
-    let verdict = refusals::opening(settings);
-    let converter = reference::converter_of(settings);
-    Opened { verdict, converter }
+    refusals::opening(settings)?;
+    Ok(settings.converter())
 }
 
-// Other rate, cutoff and gain for an open converter. A refused change gives the record as held.
-pub fn change(conv: Converter, rate: PcmRate, cutoff: Cutoff, gain: Gain) -> Opened
-    ensures { ChangePromise conv (changes.change rate cutoff gain) result }
+// Other rate, cutoff and gain for an open converter. A refused change leaves the record as held.
+pub fn change(
+    conv: &mut Converter,
+    rate: PcmRate,
+    cutoff: Cutoff,
+    gain: Gain,
+) -> Result<(), PcmError>
+    ensures { ChangePromise conv.old (changes.change rate cutoff gain) conv.new result }
 {
     changes::change(conv, rate, cutoff, gain)
 }
 
 // 32-bit samples of a run. An absent neighbour's slice is neither read nor measured.
+#[tactic(auto, using(crate::proofs::Answers::run_accepted, crate::proofs::Answers::samples_promise, crate::proofs::Answers::samples_refused))]
 pub fn convert_run_parts<'a>(
     conv: Converter,
     has_before: bool,
@@ -57,19 +61,22 @@ pub fn convert_run_parts<'a>(
     has_after: bool,
     after: &'a [u8],
     out: &mut [i32],
-) -> Converted
+) -> Result<ConvertStats, PcmError>
     ensures { ConvertRunPromise conv (run has_before before.now frames.now has_after after.now) out.old out.new result }
 {
-    let verdict = refusals::run_call(conv, has_before, before, frames, has_after, after, out);
-    if refusals::accepted(verdict) {
-        let stats = work::items(conv, has_before, before, frames, has_after, after, out);
-        return Converted { verdict, stats };
-    }
-    let stats = reference::no_stats();
-    Converted { verdict, stats }
+    let run = Run {
+        has_before,
+        before,
+        frames,
+        has_after,
+        after,
+    };
+    refusals::run_call(conv, run, out)?;
+    Ok(work::converted(conv, run, out, &mut []))
 }
 
 // 32-bit samples of exactly one frame. An absent neighbour's slice is neither read nor measured.
+#[tactic(auto, using(crate::proofs::Answers::frame_accepted, crate::proofs::Answers::samples_promise, crate::proofs::Answers::samples_refused))]
 pub fn convert_frame_parts<'a>(
     conv: Converter,
     has_before: bool,
@@ -78,48 +85,39 @@ pub fn convert_frame_parts<'a>(
     has_after: bool,
     after: &'a [u8],
     out: &mut [i32],
-) -> Converted
+) -> Result<ConvertStats, PcmError>
     ensures { ConvertFramePromise conv (run has_before before.now frames.now has_after after.now) out.old out.new result }
 {
-    let verdict = refusals::frame_call(conv, has_before, before, frames, has_after, after, out);
-    if refusals::accepted(verdict) {
-        let stats = work::items(conv, has_before, before, frames, has_after, after, out);
-        return Converted { verdict, stats };
-    }
-    let stats = reference::no_stats();
-    Converted { verdict, stats }
+    let run = Run {
+        has_before,
+        before,
+        frames,
+        has_after,
+        after,
+    };
+    refusals::frame_call(conv, run, out)?;
+    Ok(work::converted(conv, run, out, &mut []))
 }
 
-// Bytes of a run of as many frames as the rack or the desk takes.
+// Bytes of a run of as many frames as the rack or the desk takes. The flag beside the list of counts stays, as the
+// contract tells the list at exit, and of a `&mut` inside an `Option` it can tell nothing.
+#[tactic(auto, using(crate::proofs::Answers::lent_accepted, crate::proofs::Answers::unlent_accepted, crate::proofs::Answers::lent_promise, crate::proofs::Answers::unlent_promise, crate::proofs::Answers::lent_refused, crate::proofs::Answers::unlent_refused))]
 fn bytes_under<'a>(
     whose: Limit,
     conv: Converter,
-    has_before: bool,
-    before: &'a [u8],
-    frames: &'a [u8],
-    has_after: bool,
-    after: &'a [u8],
+    run: Run<'a>,
     lent: bool,
     out: &mut [u8],
     counts: &mut [u64],
-) -> Converted
-    ensures { BytesPromise whose conv (run has_before before.now frames.now has_after after.now) lent out.old counts.old out.new counts.new result }
+) -> Result<ConvertStats, PcmError>
+    ensures { BytesPromise whose conv (run_of run.entry) lent out.old counts.old out.new counts.new result }
 {
-    let verdict = refusals::byte_call(
-        whose, conv, has_before, before, frames, has_after, after, out, lent, counts,
-    );
-    if refusals::accepted(verdict) {
-        if lent {
-            let stats = work::bytes_and_counts(
-                conv, has_before, before, frames, has_after, after, out, counts,
-            );
-            return Converted { verdict, stats };
-        }
-        let stats = work::bytes(conv, has_before, before, frames, has_after, after, out);
-        return Converted { verdict, stats };
+    if lent {
+        refusals::byte_call(whose, conv, run, out, Some(&*counts))?;
+        return Ok(work::converted(conv, run, out, counts));
     }
-    let stats = reference::no_stats();
-    Converted { verdict, stats }
+    refusals::byte_call(whose, conv, run, out, None)?;
+    Ok(work::converted(conv, run, out, &mut []))
 }
 
 // Samples of a run, three bytes each, and the clips of each frame if a list for them is lent.
@@ -133,21 +131,17 @@ pub fn convert_parts<'a>(
     lent: bool,
     out: &mut [u8],
     counts: &mut [u64],
-) -> Converted
+) -> Result<ConvertStats, PcmError>
     ensures { ConvertPromise conv (run has_before before.now frames.now has_after after.now) lent out.old counts.old out.new counts.new result }
 {
-    bytes_under(
-        Limit::Rack,
-        conv,
+    let run = Run {
         has_before,
         before,
         frames,
         has_after,
         after,
-        lent,
-        out,
-        counts,
-    )
+    };
+    bytes_under(Limit::Rack, conv, run, lent, out, counts)
 }
 
 // For the listening desk, which takes at most 8 frames.
@@ -161,21 +155,17 @@ pub fn convert_desk_parts<'a>(
     lent: bool,
     out: &mut [u8],
     counts: &mut [u64],
-) -> Converted
+) -> Result<ConvertStats, PcmError>
     ensures { DeskPromise conv (run has_before before.now frames.now has_after after.now) lent out.old counts.old out.new counts.new result }
 {
-    bytes_under(
-        Limit::Desk,
-        conv,
+    let run = Run {
         has_before,
         before,
         frames,
         has_after,
         after,
-        lent,
-        out,
-        counts,
-    )
+    };
+    bytes_under(Limit::Desk, conv, run, lent, out, counts)
 }
 
 // 32-bit samples as three bytes each, their low 24 bits, least first: as many as there are bytes for. Later bytes are kept.

@@ -1,24 +1,50 @@
 // The conversions once their calls are accepted.
-ghost use Rattle.std.specs.Prelude.{◌≡◌, length, ◌*◌};
-ghost use Rattle.reference.specs.Frames.{run, frame_count};
-ghost use Rattle.reference.specs.Output.{all_samples, samples, stats, s24le, per_frame_clips};
+ghost use Rattle.std.specs.Prelude.{◌≡◌, ◌≤◌, ◌*◌, length};
+ghost use Rattle.numbers.specs.Lists.{tabulate};
+ghost use Rattle.reference.specs.Frames.{run, run_of, frame_count};
+ghost use Rattle.reference.specs.Output.{all_samples, samples, stats, s24le, frame_clips, per_frame_clips};
+ghost use Rattle.output.specs.Fills.{Room, written};
 ghost use Rattle.scarletbook_pcm.specs.Calls as calls;
 ghost use Rattle.scarletbook_pcm.specs.Calls.{AcceptedCall};
 
-use reference::{ConvertStats, Converter};
+use channel_bytes::Slices;
+use output::Place;
+use reference::{ConvertStats, Converter, Run};
 
 // A neighbour's slice, or an empty part of it where the neighbour is absent.
 #[tactic(auto, unfolding(crate::specs::Calls::present))]
 fn present<'a>(there: bool, bytes: &'a [u8]) -> &'a [u8]
     ensures { result.now ≡ calls.present there bytes.now }
 {
-    if there {
-        return bytes;
-    }
-    &bytes[0..0]
+    if there { bytes } else { &bytes[..0] }
 }
 
-// 32-bit output.
+// A run in the form of the output, with the counts of its frames as far as their list is long.
+pub fn converted<'a, P: Place>(
+    conv: Converter,
+    run: Run<'a>,
+    out: &mut [P],
+    counts: &mut [u64],
+) -> ConvertStats
+    requires accepted_call { AcceptedCall conv (run_of run) }
+    requires room { Room P.layout (all_samples conv (run_of run)) out.old }
+    requires few { length counts.old ≤ frame_count conv.channels run.frames.now }
+    ensures out_after { out.new ≡ written P.layout (samples conv (run_of run.entry)) }
+    ensures counts_after { counts.new ≡ tabulate (frame_clips conv (run_of run.entry)) 0 (length counts.old) }
+    ensures value { result ≡ stats conv (run_of run.entry) }
+{
+    let slices = Slices {
+        before: present(run.has_before, run.before),
+        frames: run.frames,
+        after: present(run.has_after, run.after),
+        channels: conv.channels as usize,
+        count: run.frames.len() / conv.frame_length,
+    };
+    workspace::convert_slices(conv, slices, out, counts)
+}
+
+// The same with plain parameters, for 32-bit output.
+#[tactic(auto, using(output::proofs::Boxes::written_items))]
 pub fn items<'a>(
     conv: Converter,
     has_before: bool,
@@ -33,25 +59,18 @@ pub fn items<'a>(
     ensures out_after { out.new ≡ samples conv (run has_before before.now frames.now has_after after.now) }
     ensures value { result ≡ stats conv (run has_before before.now frames.now has_after after.now) }
 {
-    let count = frames.len() / conv.frame_length;
-    let b = present(has_before, before);
-    let a = present(has_after, after);
-    let mut raw = [0u8; 1];
-    let mut counts = [0u64; 1];
-    workspace::convert_slices(
-        conv,
-        b,
+    let run = Run {
+        has_before,
+        before,
         frames,
-        a,
-        count,
-        false,
-        out,
-        &mut raw[..0],
-        &mut counts[..0],
-    )
+        has_after,
+        after,
+    };
+    converted(conv, run, out, &mut [])
 }
 
-// Byte output, with the counts of each frame.
+// For byte output, with the counts of each frame.
+#[tactic(auto, using(output::proofs::Boxes::written_bytes), unfolding(reference::specs::Output::per_frame_clips))]
 pub fn bytes_and_counts<'a>(
     conv: Converter,
     has_before: bool,
@@ -68,24 +87,18 @@ pub fn bytes_and_counts<'a>(
     ensures value { result ≡ stats conv (run has_before before.now frames.now has_after after.now) }
     ensures counts_after { counts.new ≡ per_frame_clips conv (run has_before before.now frames.now has_after after.now) }
 {
-    let count = frames.len() / conv.frame_length;
-    let b = present(has_before, before);
-    let a = present(has_after, after);
-    let mut items = [0i32; 1];
-    workspace::convert_slices(
-        conv,
-        b,
+    let run = Run {
+        has_before,
+        before,
         frames,
-        a,
-        count,
-        true,
-        &mut items[..0],
-        out,
-        counts,
-    )
+        has_after,
+        after,
+    };
+    converted(conv, run, out, counts)
 }
 
-// Byte output alone.
+// For byte output alone.
+#[tactic(auto, using(output::proofs::Boxes::written_bytes))]
 pub fn bytes<'a>(
     conv: Converter,
     has_before: bool,
@@ -100,20 +113,12 @@ pub fn bytes<'a>(
     ensures out_after { out.new ≡ s24le (samples conv (run has_before before.now frames.now has_after after.now)) }
     ensures value { result ≡ stats conv (run has_before before.now frames.now has_after after.now) }
 {
-    let count = frames.len() / conv.frame_length;
-    let b = present(has_before, before);
-    let a = present(has_after, after);
-    let mut items = [0i32; 1];
-    let mut counts = [0u64; 1];
-    workspace::convert_slices(
-        conv,
-        b,
+    let run = Run {
+        has_before,
+        before,
         frames,
-        a,
-        count,
-        true,
-        &mut items[..0],
-        out,
-        &mut counts[..0],
-    )
+        has_after,
+        after,
+    };
+    converted(conv, run, out, &mut [])
 }

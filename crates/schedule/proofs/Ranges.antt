@@ -1,14 +1,14 @@
 -- What the ranges say, from the tests and to them.
-use mathlib.Core.Path.{◌≡◌, refl, sym}
-use mathlib.Core.List.{List}
-use mathlib.Core.Bool.{Bool, true, false, ◌&&◌, and_assoc}
-use Prim.Native.Nat.{ℕ, ◌+◌, ◌<◌, ◌≤◌}
-use native.Mathlib.Numerals.{add-one}
+use mathlib.Core.Path.{◌≡◌, refl, ap, ◌∙◌}
+use mathlib.Core.List.{List, [], ◌∷◌}
+use mathlib.Core.Bool.{Bool, true, false, ◌&&◌}
+use Prim.Native.Nat.{ℕ, zero, suc, ◌<◌, ◌≤◌}
 use native.Mathlib.Omega.{arith}
 use borrow.Author.Tests.{leb-true, eqb-true}
 use denote.Floats.{passes, is_true}
 use lib.Dec.{leb, eqb}
-use lib.ListN.{length}
+use lib.ListN.{length, get_or}
+use Rattle.std.specs.List.{list_all, zip}
 use Rattle.numbers.proofs.Tests.{each_below, each_below_at}
 use Rattle.schedule.specs.Turns.{Board, board, within, in_range}
 use Rattle.schedule.specs.Promise.{fitting}
@@ -21,10 +21,33 @@ pub within_true : (least most n : ℕ) → within least most n ≡ true → (lea
 unfolding within
 within_true least most n e = let w = both (leb least n) (leb n most) e in (leb-true least n w.0, leb-true n most w.1)
 
--- the test of one album more
-pub each_more : (w : Bool) (p : ℕ → Bool) (a : ℕ) (ok : Bool) → ok ≡ (each_below p a && w) → (p a && ok) ≡ (each_below p (a + 1) && w)
+-- ---- the tests of all albums, from the first on
+
+swapped : (a b c : Bool) → (a && (b && c)) ≡ (b && (a && c))
+swapped true true c = refl
+swapped true false c = refl
+swapped false true c = refl
+swapped false false c = refl
+
+first_of : (f : ℕ → Bool) (n : ℕ) → (f 0 && each_below (λ k. f (suc k)) n) ≡ each_below f (suc n)
 unfolding each_below
-each_more w p a ok e = rw (e, add-one) (sym (and_assoc (p a) (each_below p a) w))
+first_of f zero = refl
+first_of f (suc n) = swapped (f 0) (f (suc n)) (each_below (λ k. f (suc k)) n) ∙ ap (λ b. f (suc n) && b) (first_of f n)
+
+listed : (frames dues : List ℕ) → length dues ≡ length frames
+    → list_all (λ (p : ℕ × ℕ). within 1 540000 p.0 && within 0 1000000 p.1) (zip frames dues)
+    ≡ each_below (λ a. within 1 540000 (get_or frames a 0) && within 0 1000000 (get_or dues a 0)) (length frames)
+unfolding each_below
+listed [] dues e = refl
+listed (f ∷ fs) [] e = absurd (omega arith)
+listed (f ∷ fs) (d ∷ ds) e =
+    ap (λ b. (within 1 540000 f && within 0 1000000 d) && b) (listed fs ds (omega arith))
+    ∙ first_of (λ a. within 1 540000 (get_or (f ∷ fs) a 0) && within 0 1000000 (get_or (d ∷ ds) a 0)) (length fs)
+
+pub all_in_range : (frames dues : List ℕ) {r : Bool} → length dues ≡ length frames
+    → r ≡ list_all (λ (p : ℕ × ℕ). within 1 540000 p.0 && within 0 1000000 p.1) (zip frames dues)
+    → r ≡ each_below (λ a. within 1 540000 (get_or frames a 0) && within 0 1000000 (get_or dues a 0)) (length frames)
+all_in_range frames dues e h = h ∙ listed frames dues e
 
 -- the test of an album's numbers, and what it says
 abbrev pub each : Board → ℕ → Bool

@@ -1,9 +1,9 @@
 -- What a call of `simulate` promises.
-use Rattle.std.specs.Prelude.{◌≡◌, List, [], ◌∷◌, Bool, not, ◌&&◌, ℕ, ◌-◌, eqb, ℤ, pos, length, get_or, ◌≤ℤ◌}
+use Rattle.std.specs.Prelude.{◌≡◌, Result, List, [], ◌∷◌, Bool, not, ◌&&◌, ℕ, ◌-◌, eqb, ℤ, pos, length, get_or, ◌≤ℤ◌}
 use Rattle.numbers.specs.Lists.{tabulate}
 use Rattle.reference.specs.Refusals.{Place, place, decide, decision, accepted}
 use Rattle.reference.specs.Promises.{by_decision}
-use Rattle.reference.specs.declared.Verdict.{Verdict}
+use Rattle.reference.specs.declared.PcmError.{PcmError}
 use Rattle.schedule.specs.Turns.{board, in_range, simulated, finish_in, lateness_in, GivesTurns, greatest, greatest_lateness}
 
 -- every number is in its range, and each list has a place for each album
@@ -16,7 +16,7 @@ unfoldable pub simulate_places : List ℕ → List ℕ → ℕ → ℕ → ℕ �
 simulate_places frames dues turn finishes late = place (not (fitting frames dues turn finishes late)) 19 [] ∷ []
 
 -- the lent lists at entry and at exit. Where the call is refused, they keep what they held
-pub record SimulatePromise (frames dues : List ℕ) (turn : ℕ) (finishes : List ℕ) (late : List ℤ) (finishes' : List ℕ) (late' : List ℤ) (answer : Verdict) : Type 0 where
+pub record SimulatePromise (frames dues : List ℕ) (turn : ℕ) (finishes : List ℕ) (late : List ℤ) (finishes' : List ℕ) (late' : List ℤ) (answer : Result (Unit {0}) PcmError) : Type 0 where
   pub decided : decision answer ≡ decide (simulate_places frames dues turn (length finishes) (length late))
   pub finished : finishes' ≡ by_decision (decide (simulate_places frames dues turn (length finishes) (length late))) (tabulate (finish_in (board frames dues turn) (simulated (board frames dues turn))) 0 (length frames)) finishes
   pub measured : late' ≡ by_decision (decide (simulate_places frames dues turn (length finishes) (length late))) (tabulate (lateness_in (board frames dues turn) (simulated (board frames dues turn))) 0 (length frames)) late
@@ -24,7 +24,7 @@ pub record SimulatePromise (frames dues : List ℕ) (turn : ℕ) (finishes : Lis
 -- no order that gives each album its turns has a smaller greatest lateness than an accepted call returns; proved in proofs/Calls
 abbrev pub ReturnsTheBest : Type 0
 ReturnsTheBest =
-    (frames dues : List ℕ) (turn : ℕ) (finishes : List ℕ) (late : List ℤ) (finishes' : List ℕ) (late' : List ℤ) (answer : Verdict)
+    (frames dues : List ℕ) (turn : ℕ) (finishes : List ℕ) (late : List ℤ) (finishes' : List ℕ) (late' : List ℤ) (answer : Result (Unit {0}) PcmError)
     → SimulatePromise frames dues turn finishes late finishes' late' answer → decision answer ≡ accepted
     → (order : List ℕ) → GivesTurns (board frames dues turn) order
     → greatest (λ a. get_or late' a (pos 0)) (length late' - 1) ≤ℤ greatest_lateness (board frames dues turn) order

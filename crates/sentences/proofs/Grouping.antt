@@ -1,17 +1,15 @@
 -- Digits in groups of three.
-use mathlib.Core.Path.{◌≡◌, refl, sym}
-use mathlib.Core.List.{List, ◌∷◌, ◌++◌}
+use mathlib.Core.Path.{◌≡◌, refl}
+use mathlib.Core.List.{[], ◌∷◌, ◌++◌}
 use Prim.Native.Nat.{ℕ, zero, suc, ◌-◌, ◌/◌, ◌%◌, ◌≤◌, ◌<◌}
-use native.Mathlib.Nat.{add-zero}
 use native.Mathlib.Omega.{arith}
-use lib.ListN.{take-append-drop}
 use borrow.Author.Tests.{lt-ltb, le-ltb}
-use Rattle.level_lines.specs.Text.{decimal, with_text, Printed}
+use Rattle.level_lines.specs.Text.{decimal}
 use Rattle.sentences.specs.Sentences.{three, groups}
 
-pub no_groups : (k n at : ℕ) (old : List ℕ) → k ≡ 0 → Printed (groups k n) old at old at
-unfolding groups with_text
-no_groups k n at old e = rw e (record { written = rw (add-zero at) (sym (take-append-drop at old)); after = sym (add-zero at) })
+pub no_groups : (k n : ℕ) → k ≡ 0 → groups k n ≡ []
+unfolding groups
+no_groups k n e = rw e
 
 pub few : (k n : ℕ) → 0 < k → n < 1000 → groups k n ≡ decimal n
 unfolding groups

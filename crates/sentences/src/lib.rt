@@ -2,63 +2,60 @@
 #![tactic(auto)]
 
 ghost use Rattle.std.specs.Prelude.{◌++◌, ◌+◌, ◌*◌, ◌≤◌, length};
-ghost use Rattle.level_lines.specs.Text.{Printed};
+ghost use Rattle.level_lines.specs.Writing.{Prints};
 ghost use Rattle.sentences.specs.Sentences as texts;
 ghost use Rattle.sentences.specs.Sentences.{Said};
 
-use level_lines::text::{labelled, put};
+use level_lines::Text;
 
 // n in decimal, its digits in groups of three, at most k of them.
-fn groups(out: &mut [u8], at: usize, k: u64, n: u64) -> usize
-    requires { (at + (4 * k + 20) ≤ length out.old) × (k ≤ 7) }
-    ensures printed { Printed (texts.groups k n) out.old at out.new result }
-    ensures upper_bound { result ≤ at + (4 * k + 20) }
+fn groups(text: &mut Text, k: u64, n: u64)
+    requires { (text.old.at + (4 * k + 20) ≤ length text.old.out.now) × (k ≤ 7) }
+    ensures printed { Prints (texts.groups k n) text.old text.new }
+    ensures upper_bound { text.new.at ≤ text.old.at + (4 * k + 20) }
 {
     if k == 0 {
-        return at;
+        return text.put(b"");
     }
     if n < 1000 {
-        return labelled(out, at, b"", n);
+        return text.labelled(b"", n);
     }
-    let next = groups(out, at, k - 1, n / 1000);
+    groups(text, k - 1, n / 1000);
     let d = n % 1000;
-    let last = [
-        44,
-        48 + (d / 100) as u8,
-        48 + (d / 10 % 10) as u8,
-        48 + (d % 10) as u8,
-    ];
-    put(out, next, &last)
+    text.put(&[
+        b',',
+        b'0' + (d / 100) as u8,
+        b'0' + (d / 10 % 10) as u8,
+        b'0' + (d % 10) as u8,
+    ]);
 }
 
 // A number between two words.
-fn around(out: &mut [u8], at: usize, first: &[u8], n: u64, last: &[u8]) -> usize
-    requires { at + (length first.now + (48 + length last.now)) ≤ length out.old }
-    ensures printed { Printed (first.now ++ (texts.grouped n ++ last.now)) out.old at out.new result }
-    ensures upper_bound { result ≤ at + (length first.now + (48 + length last.now)) }
+fn around(text: &mut Text, first: &[u8], n: u64, last: &[u8])
+    requires { text.old.at + (length first.now + (48 + length last.now)) ≤ length text.old.out.now }
+    ensures printed { Prints (first.now ++ (texts.grouped n ++ last.now)) text.old text.new }
+    ensures upper_bound { text.new.at ≤ text.old.at + (length first.now + (48 + length last.now)) }
 {
-    let a = put(out, at, first);
-    let b = groups(out, a, 7, n);
-    put(out, b, last)
+    text.put(first);
+    groups(text, 7, n);
+    text.put(last);
 }
 
 // 10: another frequency, or samples that are no whole bytes.
-fn format(out: &mut [u8], a: u64, b: u64) -> usize
-    requires { 256 ≤ length out.old }
-    ensures { Printed (texts.format a b) out.old 0 out.new result }
+fn format(text: &mut Text, a: u64, b: u64)
+    requires { text.old.at + 256 ≤ length text.old.out.now }
+    ensures { Prints (texts.format a b) text.old text.new }
 {
     if a == 2822400 {
         return around(
-            out,
-            0,
+            text,
             b"refused 10: ",
             b,
             b" samples of a channel, which are no whole bytes",
         );
     }
     around(
-        out,
-        0,
+        text,
         b"refused 10: ",
         a,
         b" one-bit samples a second: only 2,822,400 (DSD64) are converted",
@@ -66,38 +63,37 @@ fn format(out: &mut [u8], a: u64, b: u64) -> usize
 }
 
 // 11: lengths.
-fn lengths(out: &mut [u8], a: u64, b: u64) -> usize
-    requires { 256 ≤ length out.old }
-    ensures { Printed (texts.lengths a b) out.old 0 out.new result }
+fn lengths(text: &mut Text, a: u64, b: u64)
+    requires { text.old.at + 256 ≤ length text.old.out.now }
+    ensures { Prints (texts.lengths a b) text.old text.new }
 {
     if a == b {
-        return put(
-            out,
-            0,
+        return text.put(
             b"refused 11: the data chunk is not what the file's samples need: a damaged file?",
         );
     }
-    let n = around(out, 0, b"refused 11: the file says ", a, b" bytes and has ");
-    around(out, n, b"", b, b": an incomplete upload?")
+    around(text, b"refused 11: the file says ", a, b" bytes and has ");
+    around(text, b"", b, b": an incomplete upload?")
 }
 
+// A WAV file's channels.
+const MOST_CHANNELS: u64 = 2;
+
 // 12: what a WAV file cannot hold.
-fn too_large(out: &mut [u8], a: u64, b: u64) -> usize
-    requires { 256 ≤ length out.old }
-    ensures { Printed (texts.too_large a b) out.old 0 out.new result }
+fn too_large(text: &mut Text, a: u64, b: u64)
+    requires { text.old.at + 256 ≤ length text.old.out.now }
+    ensures { Prints (texts.too_large a b) text.old text.new }
 {
-    if 2 < a {
+    if MOST_CHANNELS < a {
         return around(
-            out,
-            0,
+            text,
             b"refused 12: ",
             a,
             b" channels: the WAV file takes one or two",
         );
     }
     around(
-        out,
-        0,
+        text,
         b"refused 12: ",
         b,
         b" bytes of samples: a WAV file holds at most 4,294,967,259",
@@ -105,50 +101,35 @@ fn too_large(out: &mut [u8], a: u64, b: u64) -> usize
 }
 
 // The refusals of a file.
-fn of_file(out: &mut [u8], number: u8, a: u64, b: u64) -> usize
-    requires { 256 ≤ length out.old }
-    ensures { Printed (texts.of_file number a b) out.old 0 out.new result }
+fn of_file(text: &mut Text, number: u8, a: u64, b: u64)
+    requires { text.old.at + 256 ≤ length text.old.out.now }
+    ensures { Prints (texts.of_file number a b) text.old text.new }
 {
-    if number == 9 {
-        return put(
-            out,
-            0,
-            b"refused 9: not a DSF file as Sony's document lays it out",
-        );
+    match number {
+        9 => text.put(b"refused 9: not a DSF file as Sony's document lays it out"),
+        10 => format(text, a, b),
+        11 => lengths(text, a, b),
+        12 => too_large(text, a, b),
+        _ => around(text, b"refused ", u64::from(number), b""),
     }
-    if number == 10 {
-        return format(out, a, b);
-    }
-    if number == 11 {
-        return lengths(out, a, b);
-    }
-    if number == 12 {
-        return too_large(out, a, b);
-    }
-    around(out, 0, b"refused ", number as u64, b"")
 }
 
 // Every refusal.
-fn of_refusal(out: &mut [u8], number: u8, a: u64, b: u64) -> usize
-    requires { 256 ≤ length out.old }
-    ensures { Printed (texts.sentence number a b) out.old 0 out.new result }
+fn of_refusal(text: &mut Text, number: u8, a: u64, b: u64)
+    requires { text.old.at + 256 ≤ length text.old.out.now }
+    ensures { Prints (texts.sentence number a b) text.old text.new }
 {
-    if number == 2 {
-        return put(out, 0, b"refused 2: wide is for 176400 and 352800");
-    }
-    if number == 3 {
-        return put(out, 0, b"refused 3: the gain is not -120 to 24 decibels");
-    }
-    if number == 5 {
-        return around(
-            out,
-            0,
+    match number {
+        2 => text.put(b"refused 2: wide is for 176400 and 352800"),
+        3 => text.put(b"refused 3: the gain is not -120 to 24 decibels"),
+        5 => around(
+            text,
             b"refused 5: ",
             a,
             b" frames: at most 540,000 (two hours) are converted",
-        );
+        ),
+        _ => of_file(text, number, a, b),
     }
-    of_file(out, number, a, b)
 }
 
 // The sentence of a refusal with its numbers, at the list's beginning, and how long it is; nothing in a list of fewer than 256 bytes.
@@ -158,5 +139,7 @@ pub fn say(number: u8, a: u64, b: u64, out: &mut [u8]) -> usize
     if out.len() < 256 {
         return 0;
     }
-    of_refusal(out, number, a, b)
+    let mut text = Text { out, at: 0 };
+    of_refusal(&mut text, number, a, b);
+    text.at
 }

@@ -1,5 +1,6 @@
 -- A sheet's places, tried in turn.
 use mathlib.Core.Path.{◌≡◌, sym, ◌∙◌}
+use mathlib.Core.Logic.{◌⊎◌, inl, inr}
 use mathlib.Core.Bool.{true, false, ◌&&◌, and-eq-true_iff}
 use mathlib.Core.List.{[], ◌∷◌}
 use Prim.Native.Nat.{ℕ, ◌<◌, ◌≤◌}
@@ -12,13 +13,10 @@ use Rattle.sheet.specs.Sheet.{sheet_too_wide}
 use Rattle.sheet.specs.Promises.{sheet_length, sheet_places}
 
 module _ (channels : ℕ) (stats : ConvertStats) (n : ℕ) where
-  pub no_channels : channels < 1 → refused 1 (number channels ∷ []) ≡ decide (sheet_places channels stats n)
+  pub wrong_channels : (channels < 1) ⊎ ((1 ≤ channels) × (6 < channels)) → refused 1 (number channels ∷ []) ≡ decide (sheet_places channels stats n)
   unfolding sheet_places
-  no_channels l = sym (at_first _ _ (rw (lt-leb 1 channels l)))
-
-  pub many_channels : 1 ≤ channels → 6 < channels → refused 1 (number channels ∷ []) ≡ decide (sheet_places channels stats n)
-  unfolding sheet_places
-  many_channels l m = sym (at_first _ _ (rw (le-leb 1 channels l, lt-leb channels 6 m)))
+  wrong_channels (inl l) = sym (at_first _ _ (rw (lt-leb 1 channels l)))
+  wrong_channels (inr m) = sym (at_first _ _ (rw (le-leb 1 channels m.0, lt-leb channels 6 m.1)))
 
   module _ (l : 1 ≤ channels) (m : channels ≤ 6) where
     pub wrong_length : (n ≡ sheet_length channels → ⊥) → refused 7 (number n ∷ number (sheet_length channels) ∷ []) ≡ decide (sheet_places channels stats n)

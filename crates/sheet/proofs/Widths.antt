@@ -1,43 +1,49 @@
 -- Which numbers of a sheet fit their columns.
 use mathlib.Core.Path.{◌≡◌, sym, ◌∙◌}
-use mathlib.Core.Bool.{Bool, true, false, ◌||◌, or-false}
+use mathlib.Core.Bool.{Bool, true, false, ◌||◌, or-false, or-true}
 use mathlib.Core.Logic.{⊎_elim}
-use Prim.Native.Nat.{ℕ, zero, suc, ◌+◌, ◌≤◌, ◌<◌}
+use Prim.Native.Nat.{ℕ, zero, suc, ◌+◌, ◌*◌, ◌^◌, ◌≤◌, ◌<◌}
 use native.Mathlib.Numerals.{add-one}
+use native.Mathlib.Nat.{zero-add}
+use Rattle.numbers.specs.Lists.{total}
 use native.Mathlib.Omega.{arith}
 use borrow.Author.Tests.{ltb-false}
 use lib.Dec.{ltb}
-use lib.IntN.{pos}
-use lib.ListN.{length, get_or}
+use lib.ListN.{length}
 use Rattle.numbers.proofs.Lists.{below_or}
+use Rattle.reference.specs.Statistics.{channel_of, clip_sum}
 use Rattle.reference.specs.declared.ConvertStats.{ConvertStats}
+use Rattle.reference.specs.declared.ChannelStats.{ChannelStats}
 use Rattle.level_lines.specs.Text.{decimal}
-use Rattle.level_lines.proofs.Numerals.{one_digit}
-use Rattle.columns.specs.Columns.{level, too_wide}
+use Rattle.level_lines.proofs.Numerals.{one_digit, bounded}
+use Rattle.columns.specs.Columns.{level_text, too_wide}
 use Rattle.columns.proofs.Widths.{or_left, entry_fits}
-use Rattle.sheet.specs.Sheet.{channel_line, sum_line, clip_sum, some_below, sheet_too_wide}
+use Rattle.sheet.specs.Sheet.{lowest, highest, figures, channel_line, sum_line, some_below, sheet_too_wide}
 
--- a channel's numbers: its own has one digit
-module _ (stats : ConvertStats) (c : ℕ) (l : c < 6) where
-  pub channel_wide : too_wide (channel_line stats c)
-      ≡ (ltb 14 (length (decimal (get_or stats.clipped c 0)))
-      || (ltb 12 (length (level (get_or stats.empty c true) (get_or stats.lowest c (pos 0))))
-      || ltb 12 (length (level (get_or stats.empty c true) (get_or stats.highest c (pos 0))))))
-  unfolding too_wide channel_line
-  channel_wide = rw (one_digit c (omega arith), or-false)
+-- a channel's figures
+module _ (channel : ChannelStats) where
+  pub figures_wide : too_wide (figures channel)
+      ≡ (ltb 14 (length (decimal channel.clipped)) || (ltb 12 (length (level_text (lowest channel.extremes))) || ltb 12 (length (level_text (highest channel.extremes)))))
+  unfolding too_wide figures
+  figures_wide = rw or-false
 
-  module _ (fits : too_wide (channel_line stats c) ≡ false) where
-    pub clips_fit : length (decimal (get_or stats.clipped c 0)) ≤ 14
-    unfolding channel_line
-    clips_fit = (entry_fits _ _ (entry_fits _ _ fits).1).0
+  module _ (fits : too_wide (figures channel) ≡ false) where
+    pub clips_fit : length (decimal channel.clipped) ≤ 14
+    unfolding figures
+    clips_fit = (entry_fits _ _ fits).0
 
-    pub lowest_fits : length (level (get_or stats.empty c true) (get_or stats.lowest c (pos 0))) ≤ 12
-    unfolding channel_line
-    lowest_fits = (entry_fits _ _ (entry_fits _ _ (entry_fits _ _ fits).1).1).0
+    pub lowest_fits : length (level_text (lowest channel.extremes)) ≤ 12
+    unfolding figures
+    lowest_fits = (entry_fits _ _ (entry_fits _ _ fits).1).0
 
-    pub highest_fits : length (level (get_or stats.empty c true) (get_or stats.highest c (pos 0))) ≤ 12
-    unfolding channel_line
-    highest_fits = (entry_fits _ _ (entry_fits _ _ (entry_fits _ _ (entry_fits _ _ fits).1).1).1).0
+    pub highest_fits : length (level_text (highest channel.extremes)) ≤ 12
+    unfolding figures
+    highest_fits = (entry_fits _ _ (entry_fits _ _ (entry_fits _ _ fits).1).1).0
+
+-- its number has one digit
+pub channel_wide : (stats : ConvertStats) (c : ℕ) → c < 6 → too_wide (channel_line stats c) ≡ too_wide (figures (channel_of stats c))
+unfolding too_wide channel_line
+channel_wide stats c l = rw (one_digit c (omega arith))
 
 pub sum_wide : (sum : ℕ) → too_wide (sum_line sum) ≡ ltb 14 (length (decimal sum))
 unfolding too_wide sum_line
@@ -54,6 +60,25 @@ none_of p zero c h l = absurd (omega arith)
 none_of p (suc n) c h l =
     let q = or_left (some_below p n) (p n) h in
     ⊎_elim (λ m. none_of p n c q.0 m) (λ m. let e : c ≡ n = omega arith in rw e q.1) (below_or c n)
+
+pub some_at : (p : ℕ → Bool) (n c : ℕ) → c < n → p c ≡ true → some_below p n ≡ true
+unfolding some_below
+some_at p zero c l h = absurd (omega arith)
+some_at p (suc n) c l h =
+    ⊎_elim (λ m. rw (some_at p n c m h)) (λ m. let e : c ≡ n = omega arith in rw (rw e at h) (or-true (some_below p n))) (below_or c n)
+
+-- counts that fit their columns, together
+module _ (stats : ConvertStats) where
+  sum_within : (n : ℕ) → n ≤ 6 → some_below (λ c. too_wide (channel_line stats c)) n ≡ false → clip_sum stats n ≤ 10 ^ 14 * n
+  unfolding clip_sum total some_below
+  sum_within zero l h = omega arith
+  sum_within (suc n) l h =
+      let p = or_left (some_below (λ c. too_wide (channel_line stats c)) n) (too_wide (channel_line stats n)) h in
+      let few = bounded 14 _ (clips_fit (channel_of stats n) (sym (channel_wide stats n (omega arith)) ∙ p.1)) in
+      rw (zero-add n) (omega (arith, sum_within n (omega arith) p.0, few))
+
+  pub sum_small : (n : ℕ) → n ≤ 6 → some_below (λ c. too_wide (channel_line stats c)) n ≡ false → clip_sum stats n < 2 ^ 64
+  sum_small n l h = omega (arith, sum_within n l h)
 
 -- all printed numbers
 module _ (channels : ℕ) (stats : ConvertStats) (fits : sheet_too_wide channels stats ≡ false) where

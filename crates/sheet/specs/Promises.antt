@@ -1,9 +1,9 @@
 -- Where a sheet is turned down, and what the call promises.
-use Rattle.std.specs.Prelude.{◌≡◌, List, [], ◌∷◌, not, ◌&&◌, ℕ, ◌+◌, ◌*◌, leb, length}
+use Rattle.std.specs.Prelude.{◌≡◌, Result, List, [], ◌∷◌, not, ◌&&◌, ℕ, ◌+◌, ◌*◌, leb, length}
 use Rattle.reference.specs.Refusals.{Place, place, number, decide, decision, lent_length}
 use Rattle.reference.specs.Promises.{by_decision}
 use Rattle.reference.specs.declared.ConvertStats.{ConvertStats}
-use Rattle.reference.specs.declared.Verdict.{Verdict}
+use Rattle.reference.specs.declared.PcmError.{PcmError}
 use Rattle.sheet.specs.Sheet.{sheet, sheet_too_wide}
 
 -- the length of a sheet: a line of 43 for each channel, and the last
@@ -19,6 +19,6 @@ sheet_places channels stats n =
     ∷ []
 
 -- `out` is the lent output at entry, `out'` at exit
-pub record SheetPromise (channels : ℕ) (stats : ConvertStats) (out out' : List ℕ) (answer : Verdict) : Type 0 where
+pub record SheetPromise (channels : ℕ) (stats : ConvertStats) (out out' : List ℕ) (answer : Result (Unit {0}) PcmError) : Type 0 where
   pub decided : decision answer ≡ decide (sheet_places channels stats (length out))
   pub written : out' ≡ by_decision (decide (sheet_places channels stats (length out))) (sheet channels stats) out

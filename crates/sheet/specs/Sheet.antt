@@ -1,24 +1,35 @@
 -- Request 14: the level sheet, as text over the statistics.
-use Rattle.std.specs.Prelude.{List, [], ◌∷◌, ◌++◌, Bool, true, false, ◌||◌, ℕ, zero, suc, pos, get_or}
-use Rattle.numbers.specs.Lists.{tabulate, total}
+use Rattle.std.specs.Prelude.{Option, Some, None, List, [], ◌∷◌, ◌++◌, Bool, false, ◌||◌, ℕ, zero, suc, ℤ}
+use Rattle.numbers.specs.Lists.{tabulate}
+use Rattle.reference.specs.Statistics.{channel_of, clip_sum}
 use Rattle.reference.specs.declared.ConvertStats.{ConvertStats}
+use Rattle.reference.specs.declared.ChannelStats.{ChannelStats}
+use Rattle.reference.specs.declared.Extremes.{Extremes}
 use Rattle.level_lines.specs.Text.{joined, decimal}
-use Rattle.columns.specs.Columns.{Entry, entry, line, too_wide, level}
+use Rattle.columns.specs.Columns.{Entry, entry, line, too_wide, level_text}
 
 -- ---- the lines
 
--- channel c: its number, clips, lowest and highest before the clamp
-unfoldable pub channel_line : ConvertStats → ℕ → List Entry
-channel_line stats c =
-    entry 4 (decimal c)
-    ∷ entry 14 (decimal (get_or stats.clipped c 0))
-    ∷ entry 12 (level (get_or stats.empty c true) (get_or stats.lowest c (pos 0)))
-    ∷ entry 12 (level (get_or stats.empty c true) (get_or stats.highest c (pos 0)))
-    ∷ []
+-- the lowest and the highest, where there are samples
+unfoldable pub lowest : Option Extremes → Option ℤ
+lowest None = None
+lowest (Some e) = Some e.lowest
 
--- clips over the printed channels: a true number
-unfoldable pub clip_sum : ConvertStats → ℕ → ℕ
-clip_sum stats channels = total (λ c. get_or stats.clipped c 0) 0 channels
+unfoldable pub highest : Option Extremes → Option ℤ
+highest None = None
+highest (Some e) = Some e.highest
+
+-- a channel's clips, lowest and highest before the clamp
+unfoldable pub figures : ChannelStats → List Entry
+figures channel =
+    entry 14 (decimal channel.clipped) ∷ entry 12 (level_text (lowest channel.extremes)) ∷ entry 12 (level_text (highest channel.extremes)) ∷ []
+
+-- and its number before them
+abbrev pub numbered : ℕ → ChannelStats → List Entry
+numbered c channel = entry 4 (decimal c) ∷ figures channel
+
+unfoldable pub channel_line : ConvertStats → ℕ → List Entry
+channel_line stats c = numbered c (channel_of stats c)
 
 -- the last line: four blanks, the sum, 24 blanks
 unfoldable pub sum_line : ℕ → List Entry

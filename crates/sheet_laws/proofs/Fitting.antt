@@ -1,43 +1,52 @@
 -- Numbers that fit the columns by their sizes.
-use mathlib.Core.Path.{◌≡◌, refl}
-use mathlib.Core.Bool.{Bool, true, false}
+use mathlib.Core.Path.{◌≡◌, refl, ◌∙◌}
+use mathlib.Core.Bool.{false}
 use Prim.Native.Nat.{ℕ, zero, suc, ◌*◌, ◌^◌, ◌≤◌, ◌<◌}
 use native.Mathlib.Nat.{zero-add}
 use native.Mathlib.Omega.{arith}
 use borrow.Author.Tests.{le-ltb}
 use lib.IntN.{ℤ, pos, negsuc, nat_abs}
-use lib.ListN.{length, get_or}
+use lib.ListN.{length}
 use Rattle.numbers.specs.Lists.{total}
+use Rattle.std.specs.Prelude.{Option, Some, None}
+use Rattle.reference.specs.Statistics.{channel_of, clip_sum}
 use Rattle.reference.specs.declared.ConvertStats.{ConvertStats}
+use Rattle.reference.specs.declared.Extremes.{Extremes}
 use Rattle.level_lines.specs.Text.{text, decimal, signed}
 use Rattle.level_lines.proofs.Numerals.{places}
-use Rattle.columns.specs.Columns.{level, too_wide}
-use Rattle.sheet.specs.Sheet.{channel_line, clip_sum, some_below, sheet_too_wide}
-use Rattle.sheet.proofs.Widths.{channel_wide, sum_wide}
+use Rattle.columns.specs.Columns.{level_text, too_wide}
+use Rattle.sheet.specs.Sheet.{lowest, highest, channel_line, some_below, sheet_too_wide}
+use Rattle.sheet.proofs.Widths.{figures_wide, channel_wide, sum_wide}
 
 signed_fits : (z : ℤ) → nat_abs z < 10 ^ 11 → length (signed z) ≤ 12
 unfolding signed
 signed_fits (pos n) h = omega (arith, places 10 n h)
 signed_fits (negsuc n) h = omega (arith, places 10 (suc n) h)
 
-level_fits : (b : Bool) (z : ℤ) → nat_abs z < 10 ^ 11 → length (level b z) ≤ 12
-unfolding level text
-level_fits true z h = omega arith
-level_fits false z h = signed_fits z h
+level_fits : (z : ℤ) → nat_abs z < 10 ^ 11 → length (level_text (Some z)) ≤ 12
+unfolding level_text
+level_fits z h = signed_fits z h
 
 -- counts and levels of these sizes
+abbrev pub SmallExtremes : Option Extremes → Type 0
+SmallExtremes None = Unit {0}
+SmallExtremes (Some e) = (nat_abs e.lowest < 10 ^ 11) × (nat_abs e.highest < 10 ^ 11)
+
 pub record Small (stats : ConvertStats) : Type 0 where
-  pub clips : (c : ℕ) → c < 6 → get_or stats.clipped c 0 ≤ 10 ^ 10
-  pub lowest : (c : ℕ) → c < 6 → nat_abs (get_or stats.lowest c (pos 0)) < 10 ^ 11
-  pub highest : (c : ℕ) → c < 6 → nat_abs (get_or stats.highest c (pos 0)) < 10 ^ 11
+  pub clips : (c : ℕ) → c < 6 → (channel_of stats c).clipped ≤ 10 ^ 10
+  pub extremes : (c : ℕ) → c < 6 → SmallExtremes (channel_of stats c).extremes
+
+both_fit : (e : Option Extremes) → SmallExtremes e → (length (level_text (lowest e)) ≤ 12) × (length (level_text (highest e)) ≤ 12)
+unfolding lowest highest level_text text
+both_fit None h = (omega arith, omega arith)
+both_fit (Some e) h = (level_fits e.lowest h.0, level_fits e.highest h.1)
 
 module _ {stats : ConvertStats} (small : Small stats) where
   channel_fits : (c : ℕ) → c < 6 → too_wide (channel_line stats c) ≡ false
   channel_fits c l =
-      let clips = le-ltb 14 (length (decimal (get_or stats.clipped c 0))) (omega (arith, places 10 (get_or stats.clipped c 0) (omega (arith, small.clips c l)))) in
-      let low = le-ltb 12 _ (level_fits (get_or stats.empty c true) (get_or stats.lowest c (pos 0)) (small.lowest c l)) in
-      let high = le-ltb 12 _ (level_fits (get_or stats.empty c true) (get_or stats.highest c (pos 0)) (small.highest c l)) in
-      rw (channel_wide stats c l, clips, low, high)
+      let clips = le-ltb 14 (length (decimal (channel_of stats c).clipped)) (omega (arith, places 10 (channel_of stats c).clipped (omega (arith, small.clips c l)))) in
+      let fit = both_fit (channel_of stats c).extremes (small.extremes c l) in
+      channel_wide stats c l ∙ rw (figures_wide (channel_of stats c), clips, le-ltb 12 _ fit.0, le-ltb 12 _ fit.1)
 
   all_fit : (n : ℕ) → n ≤ 6 → some_below (λ c. too_wide (channel_line stats c)) n ≡ false
   unfolding some_below

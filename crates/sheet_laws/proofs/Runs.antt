@@ -7,13 +7,16 @@ use native.Mathlib.Nat.{mul-le-mul}
 use native.Mathlib.Omega.{arith}
 use borrow.Author.Tests.{not-false, leb-true}
 use lib.Dec.{eqb, ltb, leb}
-use lib.IntN.{ℤ, pos, nat_abs}
-use Rattle.numbers.specs.Extremes.{lesser, greater, extreme0}
+use lib.IntN.{ℤ, nat_abs}
+use Rattle.std.specs.Prelude.{None}
+use Rattle.numbers.specs.Extremes.{extreme}
 use Rattle.numbers.specs.Lists.{count}
 use Rattle.numbers.proofs.Extremes.{Best, least_best, greatest_best, picked_in}
-use Rattle.numbers.proofs.Lists.{get_d_tabulate, count_few}
+use Rattle.numbers.proofs.Lists.{count_few}
 use Rattle.reference.specs.Frames.{Run}
-use Rattle.reference.specs.Output.{unclamped, clipped, channel_samples, channel_clips, channel_extreme, stats}
+use Rattle.reference.specs.Output.{unclamped, clipped, channel_samples, channel_clips, channel_extremes, channel_stats, stats}
+use Rattle.reference.specs.Statistics.{extremes_of, channel_of}
+use Rattle.reference.proofs.Statistics.{at_channel}
 use Rattle.reference.specs.Refusals.{Datum, rack, accepted, refused, refusal_number, decide, lent_length}
 use Rattle.reference.specs.Stages.{taps_of, y}
 use Rattle.reference.specs.Scaling.{scaled}
@@ -29,7 +32,7 @@ use Rattle.stretches.proofs.Ends.{either_end}
 use Rattle.sheet.specs.Sheet.{sheet, sheet_too_wide}
 use Rattle.sheet.specs.Promises.{sheet_length, sheet_places}
 use Rattle.sheet_laws.specs.Runs.{Held, NumbersFit, NeverTooWide, CutSheetsJoin}
-use Rattle.sheet_laws.proofs.Fitting.{Small, sheet_fits}
+use Rattle.sheet_laws.proofs.Fitting.{SmallExtremes, Small, sheet_fits}
 
 module _ (conv : Converter) (r : Run) (held : Held conv) (ok : AcceptedConverter conv) (fits : AcceptedRun conv r) where
   y_small : (β : ℕ → ℕ) (n : ℕ) → nat_abs (y conv.rate conv.cutoff (taps_of conv.filter) β n) < 2 ^ 30
@@ -49,19 +52,22 @@ module _ (conv : Converter) (r : Run) (held : Held conv) (ok : AcceptedConverter
   unfolding channel_samples
   samples_few = mul-le-mul (few_frames rack conv r fits.fits) (frame_samples conv.rate)
 
-  either_way : (b : Bool) (x : ℤ) → nat_abs x < 10 ^ 11 → nat_abs (cond b x (pos 0)) < 10 ^ 11
-  either_way true x h = h
-  either_way false x h = omega arith
-
-  extreme_small : {R : ℤ → ℤ → Type 0} {pick : ℤ → ℤ → ℤ} → Best R pick → (c n : ℕ) → nat_abs (extreme0 pick (unclamped conv r c) 0 n) < 10 ^ 11
-  unfolding extreme0
-  extreme_small b c zero = omega arith
-  extreme_small b c (suc n) =
+  extreme_small : {R : ℤ → ℤ → Type 0} {pick : ℤ → ℤ → ℤ} → Best R pick → (c n : ℕ) → nat_abs (extreme pick (unclamped conv r c) 0 (suc n)) < 10 ^ 11
+  extreme_small b c n =
       picked_in b (λ z. nat_abs z < 10 ^ 11) (λ z. z) (λ x y p q l. l) (unclamped conv r c 0) (unclamped conv r c) 0 (suc n) (unclamped_small c 0) (λ k l. unclamped_small c (0 + k))
 
-  channel_small : {R : ℤ → ℤ → Type 0} {pick : ℤ → ℤ → ℤ} → Best R pick → (c : ℕ) → nat_abs (channel_extreme conv r pick c) < 10 ^ 11
-  unfolding channel_extreme
-  channel_small b c = either_way (ltb c conv.channels) _ (extreme_small b c (channel_samples conv r))
+  extremes_small : (c n : ℕ) → SmallExtremes (extremes_of (unclamped conv r c) 0 n)
+  unfolding extremes_of
+  extremes_small c zero = tt
+  extremes_small c (suc n) = (extreme_small least_best c n, extreme_small greatest_best c n)
+
+  channel_small : (c : ℕ) → SmallExtremes (channel_extremes conv r c)
+  unfolding channel_extremes
+  channel_small c = go (ltb c conv.channels)
+    where
+      go : (b : Bool) → SmallExtremes (cond b (extremes_of (unclamped conv r c) 0 (channel_samples conv r)) None)
+      go true = extremes_small c (channel_samples conv r)
+      go false = tt
 
   clips_small : (c : ℕ) → channel_clips conv r c ≤ 10 ^ 10
   unfolding channel_clips
@@ -72,11 +78,10 @@ module _ (conv : Converter) (r : Run) (held : Held conv) (ok : AcceptedConverter
       go false = omega arith
 
   stats_small : Small (stats conv r)
-  unfolding stats
+  unfolding stats channel_stats channel_of
   stats_small = record {
-    clips = λ c l. rw (get_d_tabulate (channel_clips conv r) 0 6 c 0 l) (clips_small (0 + c));
-    lowest = λ c l. rw (get_d_tabulate (channel_extreme conv r lesser) 0 6 c (pos 0) l) (channel_small least_best (0 + c));
-    highest = λ c l. rw (get_d_tabulate (channel_extreme conv r greater) 0 6 c (pos 0) l) (channel_small greatest_best (0 + c));
+    clips = λ c l. rw (at_channel (channel_stats conv r) c l) (clips_small c);
+    extremes = λ c l. rw (at_channel (channel_stats conv r) c l) (channel_small c);
   }
 
 pub numbers_fit : NumbersFit

@@ -6,6 +6,7 @@ use Rattle.reference.specs.Frames.{Run}
 use Rattle.reference.specs.Output.{stats}
 use Rattle.reference.specs.Statistics.{no_stats, all_joined}
 use Rattle.reference.specs.Refusals.{decide, refusal_number}
+use Rattle.reference.specs.Promises.{stats_told}
 use Rattle.reference.specs.declared.Converter.{Converter}
 use Rattle.joins.specs.Joins.{Call, answer_of, accepted_calls, AcceptedConverter, AcceptedRun, JoinTo}
 use Rattle.stretches.specs.Joining.{joined_on}
@@ -31,9 +32,9 @@ NeverTooWide =
 -- for a list as in demand 3: joined one after the other, the calls' statistics are the whole run's, so that their sheet is its sheet, and is refused just
 -- where that is
 pub record SheetOfRun {conv : Converter} (r : Run) (calls : List (Call conv)) (channels : ℕ) : Type 0 where
-  pub from_first : joined_on no_stats (map (λ call. (answer_of call).stats) (accepted_calls calls)) ≡ stats conv r
-  pub same_text : sheet channels (all_joined (map (λ call. (answer_of call).stats) (accepted_calls calls))) ≡ sheet channels (stats conv r)
-  pub same_decision : (n : ℕ) → decide (sheet_places channels (all_joined (map (λ call. (answer_of call).stats) (accepted_calls calls))) n) ≡ decide (sheet_places channels (stats conv r) n)
+  pub from_first : joined_on no_stats (map (λ call. stats_told (answer_of call)) (accepted_calls calls)) ≡ stats conv r
+  pub same_text : sheet channels (all_joined (map (λ call. stats_told (answer_of call)) (accepted_calls calls))) ≡ sheet channels (stats conv r)
+  pub same_decision : (n : ℕ) → decide (sheet_places channels (all_joined (map (λ call. stats_told (answer_of call)) (accepted_calls calls))) n) ≡ decide (sheet_places channels (stats conv r) n)
 
 abbrev pub CutSheetsJoin : Type 0
 CutSheetsJoin =

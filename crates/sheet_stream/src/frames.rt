@@ -7,7 +7,7 @@ ghost use Rattle.sheet_stream.specs.Frames.{frame_stats};
 
 use level_input::{fill, move_on};
 use level_stream::write_first;
-use reference::{ConvertStats, Converter, Verdict};
+use reference::{ConvertStats, Converter, Run};
 use std::io;
 use std::io::{Read, Write};
 
@@ -32,18 +32,14 @@ fn one_frame<'a>(
     requires { length three.now ≡ 3 * size }
     ensures { result ≡ joined_stats so_far (frame_stats conv (at_hand number has_after size three.now) samples.old) }
 {
-    let end = 2 * size;
-    let all = three.len();
-    let done = scarletbook_pcm::convert_frame_parts(
-        conv,
-        number > 0,
-        &three[0..size],
-        &three[size..end],
+    let run = Run {
+        has_before: number > 0,
+        before: &three[0..size],
+        frames: &three[size..2 * size],
         has_after,
-        &three[end..all],
-        samples,
-    );
-    let more = done.stats;
+        after: &three[2 * size..three.len()],
+    };
+    let more = scarletbook_pcm::convert_frame(conv, run, samples).unwrap_or(reference::no_stats());
     stretches::join_stats(so_far, more)
 }
 
@@ -90,11 +86,12 @@ fn turns<R: Read>(
         stats,
         left: first,
     };
-    // A loop has to end, and nothing says that an input does: so it counts down, from a number that no input uses up.
-    let mut more = 100_000_000_000_000u64;
-    while more > 0 && s.left == size {
+    // A loop has to end, and nothing says that an input does: so there is a number of turns that no input uses up.
+    for count in 0..100_000_000_000_000u64 {
+        if s.left != size {
+            return Ok(s);
+        }
         s = turn(conv, s, size, from, three, samples)?;
-        more -= 1;
     }
     Ok(s)
 }
@@ -109,10 +106,9 @@ fn put_sheet<W: Write>(
     requires { (channels ≤ 2) × (length text.old ≡ 129) }
 {
     let n = 43 * (channels as usize + 1);
-    let verdict = sheet::level_sheet(channels, stats, &mut text[..n]);
-    match verdict {
-        Verdict::Accepted => write_first(to, text, n),
-        Verdict::Refused(e) => level_stream::refused(levels::refusal_number(e), to),
+    match sheet::level_sheet(channels, stats, &mut text[..n]) {
+        Ok(()) => write_first(to, text, n),
+        Err(e) => level_stream::refused(e.number(), to),
     }
 }
 

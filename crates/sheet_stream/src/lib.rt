@@ -1,7 +1,6 @@
 // The level sheet over readers and a writer: it reads the line and the frames, and writes the sheet of the whole input.
 #![tactic(auto)]
 
-use level_stream::Begun;
 use std::io;
 use std::io::{Read, Write};
 
@@ -14,9 +13,8 @@ pub fn sheet<L: Read, F: Read, W: Write>(
     frames_from: &mut F,
     to: &mut W,
 ) -> io::Result<()> {
-    let begun = level_stream::start(line_from, to)?;
-    match begun {
-        Begun::Open(s) => frames::sheet_frames(level_stream::converter(s), frames_from, to),
-        Begun::Ended => Ok(()),
+    match level_stream::start(line_from, to)? {
+        Some(conv) => frames::sheet_frames(conv, frames_from, to),
+        None => Ok(()),
     }
 }

@@ -30,12 +30,7 @@ pub fn shift(x: &mut [i64], by: usize, n: usize)
     ensures by_index { (k : ℕ) → k < n → get_or x.new k (pos 0) ≡ get_or x.old (k + by) (pos 0) }
     ensures by_index_2 { (k : ℕ) → n ≤ k → get_or x.new k (pos 0) ≡ get_or x.old k (pos 0) }
 {
-    let mut k: usize = 0;
-    while k < n {
-        let v = x[k + by];
-        x[k] = v;
-        k += 1;
-    }
+    x.copy_within(by..by + n, 0);
 }
 
 // Two arrays in turn.
@@ -43,13 +38,9 @@ pub fn weave(even: &[i64], odd: &[i64], out: &mut [i64])
     requires { (length odd.now ≡ length even.now) × (length out.old ≡ 2 * length even.now) × (length out.old ≤ 512) }
     ensures { Held (pos 0) (woven even.now odd.now) 0 (length out.old) out.new }
 {
-    let mut k: usize = 0;
-    while k < even.len() {
-        let a = even[k];
-        let b = odd[k];
-        out[2 * k] = a;
-        out[2 * k + 1] = b;
-        k += 1;
+    for k in 0..even.len() {
+        out[2 * k] = even[k];
+        out[2 * k + 1] = odd[k];
     }
 }
 

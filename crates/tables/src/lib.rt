@@ -1,4 +1,4 @@
-// Tap tables of tables.rs (F40 is `reference::built_in`), and the byte tables that `lut` makes of its first two. A `const` array that is indexed is made anew at each
+// Tap tables of tables.rs (F40 is `reference::Filter::built_in`), and the byte tables that `lut` makes of its first two. A `const` array that is indexed is made anew at each
 // use: a caller binds a table once, by these functions, and lends it.
 #![tactic(auto)]
 

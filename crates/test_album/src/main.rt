@@ -3,6 +3,7 @@
 #![tactic(auto)]
 
 mod albums;
+mod case;
 mod plan_numbers;
 mod steps;
 

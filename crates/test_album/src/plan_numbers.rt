@@ -1,59 +1,41 @@
 // The plan's numbers: parts of jobs, and pieces.
-use std::io;
-use std::io::Read;
+use album_plan::Piece;
 use std::rt::Files;
-use test_files::{Tally, number};
+use std::{fs, io};
+use test_files::{Tally, numbers};
 
-fn part<F: Read>(from: &mut F, t: Tally) -> io::Result<Tally> {
-    let mut row = [0u8; 40];
-    test_support::read_full(from, &mut row)?;
-    let p = album_plan::part_of(number(&row, 0), number(&row, 8), number(&row, 16));
-    let right = p.first == number(&row, 24) && p.end == number(&row, 32);
-    Ok(test_files::with(t, right, p.first < p.end))
+fn part(case: &[u8; 40], tally: &mut Tally) {
+    let [frames, jobs, j, first, end] = numbers::<5>(case, 0);
+    let p = album_plan::part_of(frames, jobs, j);
+    let part = p.map_or([0, 0], |p| [p.first, p.end]);
+    tally.add(part == [first, end], part[0] < part[1]);
 }
 
-fn piece<F: Read>(from: &mut F, t: Tally) -> io::Result<Tally> {
-    let mut row = [0u8; 88];
-    test_support::read_full(from, &mut row)?;
-    let rate = interface::rate_of((number(&row, 0) % 0x1_0000_0000) as u32);
-    let p = album_plan::piece_of(rate, number(&row, 8), number(&row, 16), number(&row, 24));
-    let right = p.first == number(&row, 32)
-        && p.count == number(&row, 40)
-        && p.start == number(&row, 48)
-        && p.window == number(&row, 56)
-        && p.place == number(&row, 64)
-        && p.bytes == number(&row, 72)
-        && p.room == number(&row, 80);
-    Ok(test_files::with(t, right, 0 < p.count))
+fn to_numbers(p: Piece) -> [u64; 7] {
+    [
+        p.first, p.count, p.start, p.window, p.place, p.bytes, p.room,
+    ]
 }
 
-fn parts<F: Read>(from: &mut F) -> io::Result<Tally> {
-    let mut t = test_files::nothing();
-    let n = test_files::cases(from)?;
-    let mut k = 0u64;
-    while k < n {
-        t = part(from, t)?;
-        k += 1;
+fn piece(case: &[u8; 88], tally: &mut Tally) {
+    let [rate, channels, samples, k] = numbers::<4>(case, 0);
+    let rate = test_support::rate_of_hertz(rate);
+    let p = album_plan::piece_of(rate, channels, samples, k);
+    let piece = p.map_or([0; 7], |p| to_numbers(p));
+    tally.add(piece == numbers::<7>(case, 32), 0 < piece[1]);
+}
+
+pub fn all<R: Files + Print + AllocGlobal>(rt: &R) -> io::Result<()> {
+    let mut parts = Tally::default();
+    let list = fs::read(rt, "parts")?;
+    for case in test_files::records(&list) {
+        part(case, &mut parts);
     }
-    Ok(t)
-}
-
-fn pieces<F: Read>(from: &mut F) -> io::Result<Tally> {
-    let mut t = test_files::nothing();
-    let n = test_files::cases(from)?;
-    let mut k = 0u64;
-    while k < n {
-        t = piece(from, t)?;
-        k += 1;
+    println!(rt; "parts {parts}")?;
+    let mut pieces = Tally::default();
+    let list = fs::read(rt, "pieces")?;
+    for case in test_files::records(&list) {
+        piece(case, &mut pieces);
     }
-    Ok(t)
-}
-
-pub fn all<R: Files + Print>(rt: &R) -> io::Result<()> {
-    let mut from = test_files::open(rt, b"parts")?;
-    let t = parts(&mut from)?;
-    test_files::tell(rt, b"parts ", t)?;
-    let mut other = test_files::open(rt, b"pieces")?;
-    let u = pieces(&mut other)?;
-    test_files::tell(rt, b"pieces ", u)
+    println!(rt; "pieces {pieces}")
 }

@@ -2,7 +2,6 @@
 #![tactic(auto)]
 
 mod by_hand;
-mod lists;
 mod records;
 mod steps;
 

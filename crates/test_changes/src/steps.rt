@@ -1,209 +1,121 @@
 // Lists of changes: each answer, the record held after it, and a conversion after the last one.
-ghost use Rattle.std.specs.Prelude.{◌≡◌, ◌≤◌, length};
-
-use crate::lists::same;
-use crate::records::{cutoff, filter, gain, has, keeps, rate};
-use reference::{Converted, Converter, Opened, Settings};
+use crate::records::{filter, gain, keeps, numbers};
+use reference::{Converter, Settings};
+use std::alloc::{AllocError, Global};
 use std::io;
 use std::rt::Files;
-use test_support::{at, one};
+use test_support::{Converted, Told, clipped, cutoff, rate, refusal};
 
-const ROWS: usize = 150;
+// Route, channels, decibels, factor, whether the filter is the row's own, its count and two taps; the opening's answer and the numbers that it
+// stores; six changes, each a route, decibels, a factor, the answer, and the record's six numbers after it.
+type Row = [u64; 86];
 
 // A route and a gain, with the row's channels and filter.
-fn settings(row: &[u64], route: u64, db: u64, factor: u64) -> Settings {
-    let rate = rate(route);
-    let cutoff = cutoff(route);
-    let gain = gain(db, factor);
-    let filter = filter(at(row, 5), at(row, 6), at(row, 7));
+fn settings(row: &Row, route: u64, db: u64, factor: u64) -> Settings {
     Settings {
-        rate,
-        cutoff,
-        channels: (at(row, 1) % 256) as u8,
-        gain,
-        own: at(row, 4) == 1,
-        filter,
+        rate: rate(route),
+        cutoff: cutoff(route),
+        channels: (row[1] % 256) as u8,
+        gain: gain(db, factor),
+        filter: (row[4] == 1).then_some(filter(row[5], row[6], row[7])),
     }
 }
 
-fn first(row: &[u64]) -> Settings {
-    settings(row, at(row, 0), at(row, 2), at(row, 3))
+fn first(row: &Row) -> Settings {
+    settings(row, row[0], row[2], row[3])
 }
 
-// The answer's number and data, and the record with the channels and the filter of the row.
-fn answered(o: Opened, row: &[u64], told: &[u64], six: &[u64]) -> bool {
-    let conv = o.converter;
-    let v = o.verdict;
-    test_support::is(
-        test_support::verdict(v),
-        at(told, 0),
-        at(told, 1),
-        at(told, 2),
-    ) && has(conv, six)
-        && keeps(conv, at(row, 1), reference::filter_of(first(row)))
+// The answer of opening and of a conversion.
+fn told(row: &Row) -> Told {
+    refusal(row[8], row[9], row[10])
 }
 
-fn opened_right(row: &[u64]) -> bool
-    requires { length row.now ≡ 86 }
-{
-    let six = [
-        at(row, 0),
-        at(row, 2),
-        at(row, 3),
-        at(row, 11),
-        at(row, 12),
-        at(row, 13),
-    ];
-    answered(scarletbook_pcm::open(first(row)), row, &row[8..11], &six)
+// Whether the answer is right, and the record with the channels and the filter of the row.
+fn answered(answer: Told, conv: Converter, row: &Row, told: Told, six: [u64; 6]) -> bool {
+    answer == told && numbers(conv) == six && keeps(conv, row[1], first(row).filter())
 }
 
-fn changed(conv: Converter, part: &[u64]) -> Opened {
-    let rate = rate(at(part, 0));
-    let cutoff = cutoff(at(part, 0));
-    let gain = gain(at(part, 1), at(part, 2));
-    scarletbook_pcm::change(conv, rate, cutoff, gain)
+// What opening answers, and its converter; that of the settings where they are refused.
+fn opened(settings: Settings) -> (Told, Converter) {
+    let made = scarletbook_pcm::open(settings);
+    (
+        test_support::answered(made),
+        made.unwrap_or(settings.converter()),
+    )
+}
+
+fn opened_right(row: &Row) -> bool {
+    let six = [row[0], row[2], row[3], row[11], row[12], row[13]];
+    let (answer, conv) = opened(first(row));
+    answered(answer, conv, row, told(row), six)
 }
 
 // The record after a row's changes, and how many of them were answered right.
-#[derive(Clone, Copy)]
-struct Held {
-    converter: Converter,
-    right: u64,
-}
-
-fn after(row: &[u64]) -> Held
-    requires { length row.now ≡ 86 }
-    ensures { result.right ≤ 6 }
-{
-    let o = scarletbook_pcm::open(first(row));
-    let mut converter = o.converter;
+fn after(row: &Row) -> (Converter, u64) {
+    let (_, mut converter) = opened(first(row));
     let mut right = 0u64;
-    let mut k = 0usize;
-    while k < 6 {
-        let part = &row[14 + 12 * k..26 + 12 * k];
-        let o = changed(converter, part);
-        right += one(answered(o, row, &part[3..6], &part[6..12]));
-        converter = o.converter;
-        k += 1;
+    for change in row[14..].as_chunks::<12>().0 {
+        let [route, db, factor, number, first, second, ..] = *change;
+        let six = [
+            change[6], change[7], change[8], change[9], change[10], change[11],
+        ];
+        let gain = gain(db, factor);
+        let answer = scarletbook_pcm::change(&mut converter, rate(route), cutoff(route), gain);
+        let told = refusal(number, first, second);
+        let yes = answered(test_support::answered(answer), converter, row, told, six);
+        right = right.saturating_add(u64::from(yes));
     }
-    Held { converter, right }
+    (converter, right)
 }
 
 fn converted(conv: Converter, frame: &[u8], out: &mut [i32]) -> Converted {
     scarletbook_pcm::convert_run_parts(conv, false, frame, frame, false, frame, out)
 }
 
-fn told_right(done: Converted, row: &[u64]) -> bool {
-    let v = done.verdict;
-    test_support::is(
-        test_support::verdict(v),
-        at(row, 8),
-        at(row, 9),
-        at(row, 10),
-    )
+fn same_clips(a: Converted, b: Converted) -> bool {
+    clipped(a) == clipped(b)
 }
 
-fn same_clips(a: Converted, b: Converted) -> bool {
-    test_support::clips(a, 0) == test_support::clips(b, 0)
-        && test_support::clips(a, 1) == test_support::clips(b, 1)
-        && test_support::clips(a, 5) == test_support::clips(b, 5)
+// Samples of the row's frame over all channels, after the last change.
+fn samples(row: &Row) -> u64 {
+    match row[80] % 3 {
+        0 => row[85] / 4,
+        1 => row[85] / 2,
+        _ => row[85],
+    }
 }
 
 // Whether the record converts a frame as one that is newly opened with the settings held last.
-fn as_fresh(conv: Converter, row: &[u64], frame: &[u8], x: &mut [i32], y: &mut [i32]) -> bool {
-    let o = scarletbook_pcm::open(settings(row, at(row, 80), at(row, 81), at(row, 82)));
-    let fresh = o.converter;
-    let a = converted(conv, frame, x);
-    let b = converted(fresh, frame, y);
-    if !told_right(a, row) {
-        return false;
+fn as_fresh(alloc: Global, conv: Converter, row: &Row, noise: &[u8]) -> Result<bool, AllocError> {
+    let frame = test_support::up_to(noise, row[85]);
+    let mut x = vec![in alloc; 7i32; samples(row) as usize]?;
+    let mut y = vec![in alloc; 9i32; samples(row) as usize]?;
+    let (_, fresh) = opened(settings(row, row[80], row[81], row[82]));
+    let a = converted(conv, frame, &mut x);
+    let b = converted(fresh, frame, &mut y);
+    if test_support::answered(a) != told(row) || test_support::answered(b) != told(row) {
+        return Ok(false);
     }
-    if at(row, 8) != 0 {
-        return told_right(b, row);
+    Ok(row[8] != 0 || same_clips(a, b) && x.as_slice() == y.as_slice())
+}
+
+pub fn all<R: Files + Print + AllocGlobal>(rt: &R) -> io::Result<()> {
+    let changes = test_support::numbers(rt, "changes")?;
+    let mut noise = [0u8; 28224];
+    test_files::noise(7, 0, &mut noise);
+    // Openings, changes and conversions that were right.
+    let mut counts = [0u64; 3];
+    for row in changes.as_chunks::<86>().0 {
+        let opened = u64::from(opened_right(row));
+        let (conv, changed) = after(row);
+        let converted = u64::from(as_fresh(rt.alloc(), conv, row, &noise)?);
+        counts = [
+            counts[0].saturating_add(opened),
+            counts[1].saturating_add(changed),
+            counts[2].saturating_add(converted),
+        ];
     }
-    told_right(b, row) && same_clips(a, b) && same(x, y)
-}
-
-// Samples of the row's frame over all channels.
-fn samples(row: &[u64]) -> u64 {
-    match at(row, 80) % 3 {
-        0 => at(row, 85) / 4,
-        1 => at(row, 85) / 2,
-        _ => at(row, 85),
-    }
-}
-
-// With room for the row's frame.
-fn as_fresh_parts(
-    conv: Converter,
-    row: &[u64],
-    frame: &[u8],
-    x: &mut [i32],
-    y: &mut [i32],
-) -> bool {
-    let f = test_support::of_bytes(at(row, 85), frame);
-    let n = test_support::of_samples(samples(row), x);
-    let m = test_support::of_samples(samples(row), y);
-    as_fresh(conv, row, &frame[..f], &mut x[..n], &mut y[..m])
-}
-
-fn converts(conv: Converter, row: &[u64], frame: &[u8]) -> bool {
-    let mut x = [7i32; 28224];
-    let mut y = [9i32; 28224];
-    as_fresh_parts(conv, row, frame, &mut x, &mut y)
-}
-
-// Openings, changes and conversions that were right.
-#[derive(Clone, Copy)]
-struct Right {
-    openings: u64,
-    changes: u64,
-    conversions: u64,
-}
-
-fn row_right(row: &[u64], frame: &[u8]) -> Right
-    requires { length row.now ≡ 86 }
-    ensures { (result.openings ≤ 1) × (result.changes ≤ 6) × (result.conversions ≤ 1) }
-{
-    let a = after(row);
-    let conv = a.converter;
-    Right {
-        openings: one(opened_right(row)),
-        changes: a.right,
-        conversions: one(converts(conv, row, frame)),
-    }
-}
-
-fn count(text: &[u8], frame: &[u8]) -> Right
-    requires { length text.now ≡ 219300 }
-{
-    let mut openings = 0u64;
-    let mut changes = 0u64;
-    let mut conversions = 0u64;
-    let mut k = 0usize;
-    while k < ROWS {
-        let mut row = [0u64; 86];
-        test_support::column(&text[1462 * k..], 0, 1, &mut row);
-        let r = row_right(&row, frame);
-        openings += r.openings;
-        changes += r.changes;
-        conversions += r.conversions;
-        k += 1;
-    }
-    Right {
-        openings,
-        changes,
-        conversions,
-    }
-}
-
-pub fn all<R: Files + Print>(rt: &R) -> io::Result<()> {
-    let mut text = [0u8; 219300];
-    test_support::read(rt, b"changes", ROWS * 86, &mut text)?;
-    let mut frame = [0u8; 28224];
-    test_files::noise(7, 0, &mut frame);
-    let r = count(&text, &frame);
-    test_support::right(rt, b"openings ", 150, r.openings)?;
-    test_support::right(rt, b"changes ", 900, r.changes)?;
-    test_support::right(rt, b"conversions after changes ", 150, r.conversions)
+    println!(rt; "openings 150 right {}", counts[0])?;
+    println!(rt; "changes 900 right {}", counts[1])?;
+    println!(rt; "conversions after changes 150 right {}", counts[2])
 }

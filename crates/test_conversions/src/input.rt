@@ -1,14 +1,33 @@
 // The bytes of a conversion, by the rule of compare/answers, and digests.
+use std::alloc::{AllocError, Global};
 
-// What the sequence goes on from at byte k: pattern 3 starts anew at each period.
-fn resumed(pattern: u64, seed: u64, period: usize, k: usize, x: u64) -> u64 {
-    if pattern != 3 {
-        return x;
+// What the bytes are: chance, one byte, loud, or chance that repeats after so many bytes.
+#[derive(Clone, Copy)]
+pub enum Pattern {
+    Chance,
+    Constant,
+    Loud,
+    Repeating(usize),
+}
+
+impl Pattern {
+    // Chance repeats after 4 bytes of each channel.
+    pub fn of_row(pattern: u64, channels: u64) -> Pattern {
+        match pattern {
+            1 => Pattern::Constant,
+            2 => Pattern::Loud,
+            3 => Pattern::Repeating(4 * (channels % 7) as usize),
+            _ => Pattern::Chance,
+        }
     }
-    if period == 0 {
-        return x;
+
+    // Whether the sequence starts anew at byte k.
+    fn starts_anew(self, k: usize) -> bool {
+        match self {
+            Pattern::Repeating(period) => period != 0 && k % period == 0,
+            _ => false,
+        }
     }
-    if k % period == 0 { seed } else { x }
 }
 
 // Mostly 0xFF or 0x00, in stretches.
@@ -19,74 +38,42 @@ fn loud(k: usize, high: u8) -> u8 {
     if k / 300 % 2 == 0 { 0xff } else { 0 }
 }
 
-// Byte k: chance, one byte, loud, or chance that repeats.
-fn byte(pattern: u64, seed: u64, k: usize, x: u64) -> u8 {
-    let high = (x / 0x100_0000 % 256) as u8;
-    match pattern {
-        1 => (seed % 256) as u8,
-        2 => loud(k, high),
-        _ => high,
+pub fn fill(pattern: Pattern, seed: u64, bytes: &mut [u8]) {
+    let mut x = seed;
+    for (k, byte) in bytes.iter_mut().enumerate() {
+        let from = if pattern.starts_anew(k) { seed } else { x };
+        x = test_support::next(from);
+        let high = (x / 0x100_0000 % 256) as u8;
+        *byte = match pattern {
+            Pattern::Constant => (seed % 256) as u8,
+            Pattern::Loud => loud(k, high),
+            _ => high,
+        };
     }
 }
 
-pub fn fill(pattern: u64, seed: u64, period: usize, bytes: &mut [u8]) {
-    let mut x = seed;
-    let mut k = 0usize;
-    while k < bytes.len() {
-        x = test_support::next(resumed(pattern, seed, period, k, x));
-        bytes[k] = byte(pattern, seed, k, x);
-        k += 1;
-    }
+pub fn made(alloc: Global, pattern: Pattern, seed: u64, n: usize) -> Result<Vec<u8>, AllocError> {
+    let mut bytes = vec![in alloc; 0u8; n]?;
+    fill(pattern, seed, &mut bytes);
+    Ok(bytes)
 }
 
 // Two digests of a list.
-#[derive(Clone, Copy)]
-pub struct Digest {
-    pub first: u64,
-    pub second: u64,
-}
+pub type Digest = [u64; 2];
 
-pub fn same(a: Digest, b: Digest) -> bool {
-    a.first == b.first && a.second == b.second
-}
-
-fn start() -> Digest {
-    Digest {
-        first: 1,
-        second: 1,
-    }
-}
-
-fn with(d: Digest, x: u64) -> Digest {
+fn with([first, second]: Digest, x: u64) -> Digest {
     let n = x % 0x1_0000_0000;
-    Digest {
-        first: (d.first % 1000000007 * 1000003 + n) % 1000000007,
-        second: (d.second % 998244353 * 131071 + n) % 998244353,
-    }
+    [
+        (first % 1000000007 * 1000003 + n) % 1000000007,
+        (second % 998244353 * 131071 + n) % 998244353,
+    ]
 }
 
 pub fn of_samples(s: &[i32]) -> Digest {
-    let mut d = start();
-    let mut i = 0usize;
-    while i < s.len() {
-        let more = with(d, test_support::lifted(s[i]));
-        d = more;
-        i += 1;
-    }
-    d
-}
-
-fn wide(b: u8) -> u64 {
-    b as u64
+    s.iter()
+        .fold([1, 1], |d, x| with(d, test_support::lifted(*x)))
 }
 
 pub fn of_bytes(s: &[u8]) -> Digest {
-    let mut d = start();
-    let mut i = 0usize;
-    while i < s.len() {
-        let more = with(d, wide(s[i]));
-        d = more;
-        i += 1;
-    }
-    d
+    s.iter().fold([1, 1], |d, b| with(d, u64::from(*b)))
 }

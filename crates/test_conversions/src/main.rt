@@ -1,5 +1,6 @@
-// The conversions beside what the original gives (data/, written by compare/answers.sh; its headers by compare/wav/headers.py), the figures of document 01, its table of refusals, and
-// labels' own filters (data/filters, by compare/filters.py).
+// The conversions beside what the original gives (data/, written by compare/answers.sh; its headers by
+// compare/wav/headers.py), the figures of document 01, its table of refusals, and labels' own filters (data/filters, by
+// compare/filters.py).
 #![tactic(auto)]
 
 mod call;
@@ -9,7 +10,6 @@ mod input;
 mod own_filters;
 mod refused;
 mod replay;
-mod row;
 
 use std::io;
 

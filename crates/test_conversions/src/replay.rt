@@ -1,445 +1,297 @@
-// Each line of data/conversions, converted by every call over the run record. A line: route, channels, decibels as bits, frames, neighbours (1
-// before, 2 after), pattern, seed; two digests of the samples, two of the bytes, the clips of six channels and of two frames.
-ghost use Rattle.std.specs.Prelude.{◌≤◌};
-
-use crate::input::Digest;
-use crate::row::times;
-use crate::{call, input, row};
-use reference::{Converted, Converter};
+// Each line of data/conversions, converted by every call over the run record.
+use crate::input::{Digest, Pattern, of_bytes, of_samples};
+use crate::{call, input};
+use reference::{Converter, Run};
+use std::alloc::{AllocError, Global};
 use std::io;
 use std::rt::Files;
-use test_support::{at, one};
+use test_support::{Converted, refusal};
 
-// A row's converter, and whether it has neighbours.
-fn converter(row: &[u64]) -> Converter {
-    let gain = call::made(at(row, 2));
-    call::converter(at(row, 0), at(row, 1), gain)
+// A line: route, channels, decibels as bits, frames, neighbours (1 before, 2 after), pattern, seed; two digests of the
+// samples, two of the bytes, the clips of six channels and of two frames.
+#[derive(Clone, Copy)]
+struct Line {
+    route: u64,
+    channels: u64,
+    db: u64,
+    frames: u64,
+    neighbours: u64,
+    pattern: u64,
+    seed: u64,
+    samples: Digest,
+    bytes: Digest,
+    clips: [u64; 6],
+    counts: [u64; 2],
 }
 
-fn has_before(row: &[u64]) -> bool {
-    at(row, 4) % 2 == 1
-}
-
-fn has_after(row: &[u64]) -> bool {
-    at(row, 4) / 2 == 1
-}
-
-// Whether a digest stands in the row from i on.
-fn same(d: Digest, row: &[u64], i: usize) -> bool {
-    if i > 100 {
-        return false;
+impl Line {
+    fn of_row(row: &[u64; 19]) -> Line {
+        let [route, channels, db, frames, neighbours, pattern, seed, ..] = *row;
+        Line {
+            route,
+            channels,
+            db,
+            frames,
+            neighbours,
+            pattern,
+            seed,
+            samples: [row[7], row[8]],
+            bytes: [row[9], row[10]],
+            clips: [row[11], row[12], row[13], row[14], row[15], row[16]],
+            counts: [row[17], row[18]],
+        }
     }
-    d.first == at(row, i) && d.second == at(row, i + 1)
+
+    // Samples over all channels.
+    fn size(&self) -> usize {
+        call::samples(self.route, self.channels, self.frames)
+    }
+
+    fn input(&self, alloc: Global) -> Result<Input, AllocError> {
+        let pattern = Pattern::of_row(self.pattern, self.channels);
+        let seed = self.seed % 0x1_0000_0000;
+        let frame = (self.channels as usize).saturating_mul(4704);
+        let run = frame.saturating_mul(self.frames as usize);
+        let frames = input::made(alloc, pattern, seed, run)?;
+        let before = input::made(alloc, pattern, seed + 1, frame)?;
+        let after = input::made(alloc, pattern, seed + 2, frame)?;
+        Ok(Input {
+            converter: call::converter(self.route, self.channels, call::made(self.db)),
+            has_before: self.neighbours % 2 == 1,
+            before,
+            frames,
+            has_after: self.neighbours / 2 == 1,
+            after,
+        })
+    }
+
+    // Whether a call is accepted with the line's clips.
+    fn counted(&self, done: Converted) -> bool {
+        done.is_ok() && test_support::clipped(done) == self.clips
+    }
+
+    // The counts of the line's frames where they are lent; else the 7's that stood there.
+    fn counts_right(&self, lent: bool, counts: &[u64]) -> bool {
+        if lent {
+            return counts.iter().zip(&self.counts).all(|(a, b)| a == b);
+        }
+        counts.iter().all(|n| *n == 7)
+    }
 }
 
-fn clips_right(done: Converted, row: &[u64], c: usize) -> bool {
-    test_support::clips(done, c) == at(row, 11 + c % 6)
+// What every call of a line is given.
+#[derive(Drop)]
+struct Input {
+    converter: Converter,
+    has_before: bool,
+    before: Vec<u8>,
+    frames: Vec<u8>,
+    has_after: bool,
+    after: Vec<u8>,
 }
 
-// Whether a call is accepted with the row's clips.
-fn counted(done: Converted, row: &[u64]) -> bool {
-    test_support::accepted(done)
-        && clips_right(done, row, 0)
-        && clips_right(done, row, 1)
-        && clips_right(done, row, 2)
-        && clips_right(done, row, 3)
-        && clips_right(done, row, 4)
-        && clips_right(done, row, 5)
+impl Input {
+    fn run(&self) -> Run<'_> {
+        Run {
+            has_before: self.has_before,
+            before: &self.before,
+            frames: &self.frames,
+            has_after: self.has_after,
+            after: &self.after,
+        }
+    }
 }
 
-// Whether the counts of each frame are the row's.
-fn counts_right(counts: &[u64], row: &[u64]) -> bool {
-    at(counts, 0) == at(row, 17) && at(counts, 1) == at(row, 18)
+fn run_samples(i: &Input, out: &mut [i32]) -> Converted {
+    scarletbook_pcm::convert_run(i.converter, i.run(), out)
 }
 
-fn samples_right<'a>(
-    row: &[u64],
-    before: &'a [u8],
-    frames: &'a [u8],
-    after: &'a [u8],
-    out: &mut [i32],
-) -> bool {
-    let done = scarletbook_pcm::convert_run_of(
-        converter(row),
-        has_before(row),
-        before,
-        frames,
-        has_after(row),
-        after,
-        out,
-    );
-    counted(done, row) && same(input::of_samples(out), row, 7)
+fn frame_samples(i: &Input, out: &mut [i32]) -> Converted {
+    scarletbook_pcm::convert_frame(i.converter, i.run(), out)
 }
 
-fn frame_right<'a>(
-    row: &[u64],
-    before: &'a [u8],
-    frames: &'a [u8],
-    after: &'a [u8],
-    out: &mut [i32],
-) -> bool {
-    let done = scarletbook_pcm::convert_frame_of(
-        converter(row),
-        has_before(row),
-        before,
-        frames,
-        has_after(row),
-        after,
-        out,
-    );
-    counted(done, row) && same(input::of_samples(out), row, 7)
-}
-
-// With the counts of each frame if they are lent; else they are kept.
-fn bytes_right<'a>(
-    row: &[u64],
-    before: &'a [u8],
-    frames: &'a [u8],
-    after: &'a [u8],
-    lent: bool,
-    out: &mut [u8],
-    counts: &mut [u64],
-) -> bool {
-    let done = scarletbook_pcm::convert_of(
-        converter(row),
-        has_before(row),
-        before,
-        frames,
-        has_after(row),
-        after,
-        lent,
-        out,
-        counts,
-    );
-    let kept = if lent {
-        counts_right(counts, row)
-    } else {
-        row::kept(counts)
-    };
-    kept && counted(done, row) && same(input::of_bytes(out), row, 9)
+fn run_bytes(i: &Input, lent: bool, out: &mut [u8], counts: &mut [u64]) -> Converted {
+    scarletbook_pcm::convert(i.converter, i.run(), lent, out, counts)
 }
 
 // By the listening desk's entry: of plain parameters with the counts lent, else over the run record.
-fn desk_right<'a>(
-    row: &[u64],
-    before: &'a [u8],
-    frames: &'a [u8],
-    after: &'a [u8],
-    out: &mut [u8],
-    counts: &mut [u64],
-) -> bool {
-    let done = scarletbook_pcm::convert_desk_parts(
-        converter(row),
-        has_before(row),
-        before,
-        frames,
-        has_after(row),
-        after,
-        true,
-        out,
-        counts,
-    );
-    counts_right(counts, row) && counted(done, row) && same(input::of_bytes(out), row, 9)
-}
-
-fn desk_of_record_right<'a>(
-    row: &[u64],
-    before: &'a [u8],
-    frames: &'a [u8],
-    after: &'a [u8],
-    out: &mut [u8],
-    counts: &mut [u64],
-) -> bool {
-    let done = scarletbook_pcm::convert_desk_of(
-        converter(row),
-        has_before(row),
-        before,
-        frames,
-        has_after(row),
-        after,
-        false,
-        out,
-        counts,
-    );
-    row::kept(counts) && counted(done, row) && same(input::of_bytes(out), row, 9)
-}
-
-// As a WAV file: the header that Python writes, then those bytes. With the counts lent by the plain call, else over the run record.
-fn file_right<'a>(
-    row: &[u64],
-    headers: &[u64],
-    before: &'a [u8],
-    frames: &'a [u8],
-    after: &'a [u8],
-    out: &mut [u8],
-    counts: &mut [u64],
-) -> bool {
-    let done = wav::convert_parts(
-        converter(row),
-        has_before(row),
-        before,
-        frames,
-        has_after(row),
-        after,
-        true,
-        out,
-        counts,
-    );
-    counts_right(counts, row) && counted(done, row) && contents_right(row, headers, out)
-}
-
-fn file_of_record_right<'a>(
-    row: &[u64],
-    headers: &[u64],
-    before: &'a [u8],
-    frames: &'a [u8],
-    after: &'a [u8],
-    out: &mut [u8],
-    counts: &mut [u64],
-) -> bool {
-    let done = wav::convert_of(
-        converter(row),
-        has_before(row),
-        before,
-        frames,
-        has_after(row),
-        after,
-        false,
-        out,
-        counts,
-    );
-    row::kept(counts) && counted(done, row) && contents_right(row, headers, out)
-}
-
-fn contents_right(row: &[u64], headers: &[u64], file: &[u8]) -> bool {
-    if file.len() < 44 {
-        return false;
+fn desk_bytes(i: &Input, lent: bool, out: &mut [u8], counts: &mut [u64]) -> Converted {
+    if !lent {
+        return scarletbook_pcm::convert_desk(i.converter, i.run(), false, out, counts);
     }
-    test_support::begins_as_python(headers, at(row, 0), at(row, 1), at(row, 3), file)
-        && same(input::of_bytes(&file[44..]), row, 9)
+    scarletbook_pcm::convert_desk_parts(
+        i.converter,
+        i.has_before,
+        &i.before,
+        &i.frames,
+        i.has_after,
+        &i.after,
+        true,
+        out,
+        counts,
+    )
+}
+
+// A file: with the counts lent by the plain call, else over the run record.
+fn file_bytes(i: &Input, lent: bool, out: &mut [u8], counts: &mut [u64]) -> Converted {
+    if !lent {
+        return wav::convert(i.converter, i.run(), false, out, counts);
+    }
+    wav::convert_parts(
+        i.converter,
+        i.has_before,
+        &i.before,
+        &i.frames,
+        i.has_after,
+        &i.after,
+        true,
+        out,
+        counts,
+    )
+}
+
+// A call for samples.
+fn samples_right<F: Fn(&Input, &mut [i32]) -> Converted>(
+    alloc: Global,
+    line: &Line,
+    call: F,
+) -> io::Result<bool>
+    requires { F.IsAlwaysCallable call }
+{
+    let input = line.input(alloc)?;
+    let mut out = vec![in alloc; 0i32; line.size()]?;
+    let done = call(&input, &mut out);
+    Ok(line.counted(done) && of_samples(&out) == line.samples)
+}
+
+// What a call for bytes answers, and what it leaves of an output of 0's and counts of 7's.
+#[derive(Drop)]
+struct Made {
+    done: Converted,
+    out: Vec<u8>,
+    counts: Vec<u64>,
+}
+
+// A call for bytes, with so many of a header in front.
+fn converted<F: Fn(&Input, bool, &mut [u8], &mut [u64]) -> Converted>(
+    alloc: Global,
+    line: &Line,
+    header: usize,
+    lent: bool,
+    call: F,
+) -> Result<Made, AllocError>
+    requires { F.IsAlwaysCallable call }
+{
+    let input = line.input(alloc)?;
+    let room = line.size().saturating_mul(3).saturating_add(header);
+    let mut out = vec![in alloc; 0u8; room]?;
+    let mut counts = vec![in alloc; 7u64; line.frames as usize]?;
+    let done = call(&input, lent, &mut out, &mut counts);
+    Ok(Made { done, out, counts })
+}
+
+fn bytes_right<F: Fn(&Input, bool, &mut [u8], &mut [u64]) -> Converted>(
+    alloc: Global,
+    line: &Line,
+    lent: bool,
+    call: F,
+) -> io::Result<bool>
+    requires { F.IsAlwaysCallable call }
+{
+    let made = converted(alloc, line, 0, lent, call)?;
+    Ok(
+        line.counts_right(lent, &made.counts)
+            && line.counted(made.done)
+            && of_bytes(&made.out) == line.bytes,
+    )
+}
+
+// As a WAV file: the header that Python writes, then the bytes.
+fn file_right(alloc: Global, headers: &[u64], line: &Line, lent: bool) -> io::Result<bool> {
+    let made = converted(alloc, line, 44, lent, file_bytes)?;
+    let begins = test_support::begins_as_python(
+        headers,
+        line.route,
+        line.channels,
+        line.frames,
+        &made.out,
+    );
+    let data = up_from(&made.out, 44);
+    Ok(
+        line.counts_right(lent, &made.counts)
+            && line.counted(made.done)
+            && begins
+            && of_bytes(data) == line.bytes,
+    )
+}
+
+// A list from a place on.
+fn up_from(s: &[u8], start: usize) -> &[u8] {
+    &s[s.len().min(start)..]
 }
 
 // With more than two channels there is no file, and the output is kept.
-fn no_file<'a>(
-    row: &[u64],
-    before: &'a [u8],
-    frames: &'a [u8],
-    after: &'a [u8],
-    out: &mut [u8],
-    counts: &mut [u64],
-) -> bool {
-    let entry = input::of_bytes(out);
-    let done = wav::convert_parts(
-        converter(row),
-        has_before(row),
-        before,
-        frames,
-        has_after(row),
-        after,
-        true,
-        out,
-        counts,
-    );
-    let v = done.verdict;
-    test_support::is(test_support::verdict(v), 12, 0, 0)
-        && row::kept(counts)
-        && input::same(entry, input::of_bytes(out))
-}
-
-// One call of a row whose bytes and lengths are right.
-fn right<'a>(
-    question: u8,
-    row: &[u64],
-    headers: &[u64],
-    before: &'a [u8],
-    frames: &'a [u8],
-    after: &'a [u8],
-    out: &mut [i32],
-    raw: &mut [u8],
-    counts: &mut [u64],
-) -> bool {
-    match question {
-        0 => samples_right(row, before, frames, after, out),
-        1 => frame_right(row, before, frames, after, out),
-        2 => bytes_right(row, before, frames, after, true, raw, counts),
-        3 => bytes_right(row, before, frames, after, false, raw, counts),
-        4 => desk_right(row, before, frames, after, raw, counts),
-        5 => desk_of_record_right(row, before, frames, after, raw, counts),
-        6 => file_right(row, headers, before, frames, after, raw, counts),
-        7 => file_of_record_right(row, headers, before, frames, after, raw, counts),
-        _ => no_file(row, before, frames, after, raw, counts),
-    }
-}
-
-// Bytes by the row's pattern and its seed or one after it.
-fn fill(row: &[u64], past: u64, bytes: &mut [u8]) {
-    let period = 4 * (at(row, 1) % 7) as usize;
-    let seed = at(row, 6) % 0x1_0000_0000 + past % 3;
-    input::fill(at(row, 5), seed, period, bytes);
-}
-
-// Makes the row's bytes, and asks.
-fn answer(
-    question: u8,
-    row: &[u64],
-    headers: &[u64],
-    before: &mut [u8],
-    frames: &mut [u8],
-    after: &mut [u8],
-    out: &mut [i32],
-    raw: &mut [u8],
-    counts: &mut [u64],
-) -> bool {
-    fill(row, 0, frames);
-    fill(row, 1, before);
-    fill(row, 2, after);
-    right(
-        question, row, headers, before, frames, after, out, raw, counts,
+fn no_file(alloc: Global, line: &Line) -> io::Result<bool> {
+    let made = converted(alloc, line, 44, true, file_bytes)?;
+    Ok(
+        test_support::answered(made.done) == refusal(12, 0, 0)
+            && made.counts.iter().all(|n| *n == 7)
+            && made.out.iter().all(|b| *b == 0),
     )
 }
 
-// How many rows a question is put to, and how many are right.
-#[derive(Clone, Copy)]
-struct Score {
-    all: u64,
-    yes: u64,
+// Every call is asked for every line that it takes.
+fn ask(rt: &impl Print, alloc: Global, lines: &[Line], single: &[Line]) -> io::Result<()> {
+    test_support::print_right(rt, "samples", lines, |line| {
+        samples_right(alloc, line, run_samples)
+    })?;
+    test_support::print_right(rt, "samples of one frame", single, |line| {
+        samples_right(alloc, line, frame_samples)
+    })?;
+    test_support::print_right(rt, "bytes and counts", lines, |line| {
+        bytes_right(alloc, line, true, run_bytes)
+    })?;
+    test_support::print_right(rt, "bytes", lines, |line| {
+        bytes_right(alloc, line, false, run_bytes)
+    })?;
+    test_support::print_right(rt, "bytes and counts at the desk", lines, |line| {
+        bytes_right(alloc, line, true, desk_bytes)
+    })?;
+    test_support::print_right(rt, "bytes at the desk", lines, |line| {
+        bytes_right(alloc, line, false, desk_bytes)
+    })
 }
 
 // `convert_frame` is asked for one frame, a file for one or two channels.
-fn asked(question: u8, row: &[u64]) -> bool {
-    match question {
-        1 => at(row, 3) == 1,
-        6 => at(row, 1) <= 2,
-        7 => at(row, 1) <= 2,
-        8 => at(row, 1) > 2,
-        _ => true,
-    }
-}
-
-// Bytes of output: a file has a header in front.
-fn room(question: u8, row: &[u64]) -> u64 {
-    let n = times(3, samples(row));
-    if question < 6 {
-        return n;
-    }
-    if n < 0x1_0000_0000 { 44 + n } else { 0 }
-}
-
-// The samples of a row's run over all channels.
-fn samples(row: &[u64]) -> u64 {
-    times(
-        times(call::samples_per_frame(at(row, 0)), at(row, 1)),
-        at(row, 3),
-    )
-}
-
-// Takes as much room as the row wants.
-fn parts_right(
-    question: u8,
-    row: &[u64],
-    headers: &[u64],
-    before: &mut [u8],
-    frames: &mut [u8],
-    after: &mut [u8],
-    out: &mut [i32],
-    raw: &mut [u8],
-    counts: &mut [u64],
-) -> bool {
-    let size = times(4704, at(row, 1));
-    let b = test_support::of_bytes(size, before);
-    let f = test_support::of_bytes(times(size, at(row, 3)), frames);
-    let a = test_support::of_bytes(size, after);
-    let o = test_support::of_samples(samples(row), out);
-    let r = test_support::of_bytes(room(question, row), raw);
-    let c = test_support::of_numbers(at(row, 3), counts);
-    answer(
-        question,
-        row,
-        headers,
-        &mut before[..b],
-        &mut frames[..f],
-        &mut after[..a],
-        &mut out[..o],
-        &mut raw[..r],
-        &mut counts[..c],
-    )
-}
-
-// One row, with room for two frames of six channels and a header.
-fn row_right(question: u8, row: &[u64], headers: &[u64]) -> bool {
-    let mut before = [0u8; 28224];
-    let mut frames = [0u8; 56448];
-    let mut after = [0u8; 28224];
-    let mut out = [0i32; 56448];
-    let mut raw = [0u8; 169388];
-    let mut counts = [7u64; 2];
-    parts_right(
-        question,
-        row,
-        headers,
-        &mut before,
-        &mut frames,
-        &mut after,
-        &mut out,
-        &mut raw,
-        &mut counts,
-    )
-}
-
-fn tried(question: u8, row: &[u64], headers: &[u64]) -> Score
-    ensures { (result.all ≤ 1) × (result.yes ≤ 1) }
-{
-    if asked(question, row) {
-        return Score {
-            all: 1,
-            yes: one(row_right(question, row, headers)),
-        };
-    }
-    Score { all: 0, yes: 0 }
-}
-
-fn count(question: u8, rows: &[u64], headers: &[u64]) -> Score {
-    let mut all = 0u64;
-    let mut yes = 0u64;
-    let mut i = 0usize;
-    while i < rows.len() / 19 {
-        let s = tried(question, &rows[i * 19..i * 19 + 19], headers);
-        all += s.all;
-        yes += s.yes;
-        i += 1;
-    }
-    Score { all, yes }
-}
-
-fn print(rt: &impl Print, name: &[u8], c: Score) -> io::Result<()> {
-    test_support::right(rt, name, c.all, c.yes)
-}
-
-// Every question put to every row.
-fn questions(rt: &impl Print, rows: &[u64], headers: &[u64]) -> io::Result<()> {
-    print(rt, b"samples ", count(0, rows, headers))?;
-    print(rt, b"samples of one frame ", count(1, rows, headers))?;
-    print(rt, b"bytes and counts ", count(2, rows, headers))?;
-    print(rt, b"bytes ", count(3, rows, headers))?;
-    print(
-        rt,
-        b"bytes and counts at the desk ",
-        count(4, rows, headers),
-    )?;
-    print(rt, b"bytes at the desk ", count(5, rows, headers))?;
-    print(rt, b"files and counts ", count(6, rows, headers))?;
-    print(rt, b"files of the run record ", count(7, rows, headers))?;
-    print(rt, b"no file of more channels ", count(8, rows, headers))
-}
-
-pub fn beside_rust<R: Files + Print>(rt: &R) -> io::Result<()> {
-    let mut bytes = [0u8; 65536];
-    let mut rows = [0u64; 2508];
-    test_support::read(rt, b"conversions", 2508, &mut bytes)?;
-    test_support::column(&bytes, 0, 1, &mut rows);
-    let mut text = [0u8; 17952];
-    let mut headers = [0u64; 1056];
-    test_support::read(rt, b"headers", 1056, &mut text)?;
-    test_support::column(&text, 0, 1, &mut headers);
-    questions(rt, &rows, &headers)
+pub fn beside_rust<R: Files + Print + AllocGlobal>(rt: &R) -> io::Result<()> {
+    let alloc = rt.alloc();
+    let numbers = test_support::numbers(rt, "conversions")?;
+    let rows = numbers.as_chunks::<19>().0;
+    let lines: Vec<Line> = rows.iter().map(|row| Line::of_row(row)).collect(alloc)?;
+    let single: Vec<Line> = lines
+        .iter()
+        .copied()
+        .filter(|l| l.frames == 1)
+        .collect(alloc)?;
+    let few: Vec<Line> = lines
+        .iter()
+        .copied()
+        .filter(|l| l.channels <= 2)
+        .collect(alloc)?;
+    let many: Vec<Line> = lines
+        .iter()
+        .copied()
+        .filter(|l| l.channels > 2)
+        .collect(alloc)?;
+    let headers = test_support::numbers(rt, "headers")?;
+    ask(rt, alloc, &lines, &single)?;
+    test_support::print_right(rt, "files and counts", &few, |line| {
+        file_right(alloc, &headers, line, true)
+    })?;
+    test_support::print_right(rt, "files of the run record", &few, |line| {
+        file_right(alloc, &headers, line, false)
+    })?;
+    test_support::print_right(rt, "no file of more channels", &many, |line| {
+        no_file(alloc, line)
+    })
 }

@@ -1,67 +1,46 @@
 // Calls of one frame that are refused: the output keeps its junk, and nothing is counted.
-use crate::{call, junk, row};
+use crate::buffers::{BYTE, Buffers, SAMPLE};
+use crate::call;
+use test_support::{Told, refusal, up_to, up_to_mut};
 
 // Output one sample short.
-fn short_samples<'a>(before: &'a [u8], frame: &'a [u8], after: &'a [u8], out: &mut [i32]) -> bool {
-    let o = test_support::of_samples(2351, out);
+fn samples(buffers: &mut Buffers) -> bool {
+    buffers.samples.fill(SAMPLE);
     let done = scarletbook_pcm::convert_run_parts(
         call::standard(),
         true,
-        before,
-        frame,
+        &buffers.before,
+        up_to(&buffers.frames, 9408),
         true,
-        after,
-        &mut out[..o],
+        &buffers.after,
+        up_to_mut(&mut buffers.samples, 2351),
     );
-    call::refused(done, 6, 2351, 2352)
+    call::refused(done, refusal(6, 2351, 2352)) && buffers.samples.iter().all(|x| *x == SAMPLE)
 }
 
 // So much of the frame before, and so many bytes of output.
-fn short_bytes<'a>(
-    before: &'a [u8],
-    frame: &'a [u8],
-    after: &'a [u8],
-    room: u64,
-    out: &mut [u8],
-    number: u64,
-    first: u64,
-    second: u64,
-) -> bool {
-    let o = test_support::of_bytes(room, out);
-    let mut none = [0u64; 1];
+fn bytes(before: u64, room: u64, told: Told, buffers: &mut Buffers) -> bool {
+    buffers.bytes.fill(BYTE);
     let done = scarletbook_pcm::convert_parts(
         call::standard(),
         true,
-        before,
-        frame,
+        up_to(&buffers.before, before),
+        up_to(&buffers.frames, 9408),
         true,
-        after,
+        &buffers.after,
         false,
-        &mut out[..o],
-        &mut none,
+        up_to_mut(&mut buffers.bytes, room),
+        &mut [0u64; 1],
     );
-    call::refused(done, number, first, second)
+    call::refused(done, told) && buffers.bytes.iter().all(|x| *x == BYTE)
 }
 
-pub fn samples<'a>(before: &'a [u8], frames: &'a [u8], after: &'a [u8], out: &mut [i32]) -> bool {
-    junk::fill_samples(out);
-    let f = test_support::of_bytes(9408, frames);
-    let told = short_samples(before, &frames[..f], after, out);
-    told && junk::samples_kept(out)
-}
-
-pub fn bytes<'a>(before: &'a [u8], frames: &'a [u8], after: &'a [u8], out: &mut [u8]) -> bool {
-    junk::fill_bytes(out);
-    let f = test_support::of_bytes(9408, frames);
-    let told = short_bytes(before, &frames[..f], after, 7055, out, 7, 7055, 7056);
-    told && junk::bytes_kept(out)
-}
-
-// The frame before is one byte short.
-pub fn before<'a>(before: &'a [u8], frames: &'a [u8], after: &'a [u8], out: &mut [u8]) -> bool {
-    junk::fill_bytes(out);
-    let b = test_support::of_bytes(9407, before);
-    let f = test_support::of_bytes(9408, frames);
-    let told = short_bytes(&before[..b], &frames[..f], after, 7056, out, 13, 9407, 0);
-    told && junk::bytes_kept(out)
+// How many of three are refused: output one sample short, one byte short, and a frame before that is one byte short.
+pub fn count(buffers: &mut Buffers) -> usize {
+    let calls = [
+        samples(buffers),
+        bytes(9408, 7055, refusal(7, 7055, 7056), buffers),
+        bytes(9407, 7056, refusal(13, 9407, 0), buffers),
+    ];
+    calls.iter().filter(|right| **right).count()
 }

@@ -1,121 +1,67 @@
 // Whole files. A case has the header's 92 bytes, the file's length, the seed of the bytes behind the header, the number of frames that are
-// asked for, and what the file holds; then each frame asked for.
-use dsf::DsfHeader;
+// asked for, the answer, and what the file holds; then each frame asked for: its number and the buffer's length, the answer, and the digest of
+// the buffer after the call.
+use crate::headers;
+use std::alloc::{AllocError, Global};
+use std::fs::File;
 use std::io;
 use std::io::Read;
 use std::rt::Files;
-use test_files::{Tally, number};
+use test_files::Tally;
+use test_support::refusal;
 
-// Whether the numbers from a place of a case on are a header's.
-pub fn same_header(rec: &[u8], at: usize, h: DsfHeader) -> bool {
-    let k = at % 4096;
-    h.channel_type == number(rec, k)
-        && h.channels == number(rec, k + 8)
-        && h.bits_per_sample == number(rec, k + 16)
-        && h.samples == number(rec, k + 24)
-        && h.frames == number(rec, k + 32)
+// The file's bytes.
+fn made(alloc: Global, case: &[u8; 164], length: u64, seed: u64) -> Result<Vec<u8>, AllocError> {
+    let mut file = vec![in alloc; 0u8; length as usize]?;
+    test_files::noise(seed, 92, &mut file);
+    test_files::put(&mut file, 0, case, 0, 92);
+    Ok(file)
 }
 
-fn read(rec: &[u8], file: &[u8], t: Tally) -> Tally {
-    let opened = dsf::read(file);
-    let v = opened.verdict;
-    let h = opened.header;
-    let told = test_support::verdict(v);
-    let right = test_support::is(told, number(rec, 116), 0, 0);
-    test_files::with(t, right && same_header(rec, 124, h), told.number == 0)
-}
-
-// A frame: its number, the buffer's length; the answer, and the digest of the buffer after the call.
-fn asked<'a>(rec: &'a [u8], file: &'a [u8], out: &mut [u8], t: Tally) -> Tally {
-    let n = test_support::of_bytes(number(rec, 8), out);
-    let room = &mut out[..n];
-    test_files::junk(room);
-    let v = dsf_frames::frame(file, number(rec, 0), room);
-    let told = test_support::verdict(v);
-    let right = test_support::is(told, number(rec, 16), number(rec, 24), number(rec, 32));
-    let same = test_files::digest(room) == number(rec, 40);
-    test_files::with(t, right && same, told.number == 0)
-}
-
-fn frame<F: Read>(from: &mut F, file: &[u8], out: &mut [u8], t: Tally) -> io::Result<Tally> {
-    let mut rec = [0u8; 48];
-    test_support::read_full(from, &mut rec)?;
-    Ok(asked(&rec, file, out, t))
-}
-
-fn frames<F: Read>(
-    from: &mut F,
-    asked: u64,
-    file: &[u8],
-    out: &mut [u8],
-    t: Tally,
-) -> io::Result<Tally> {
-    let mut sum = t;
-    let mut k = 0u64;
-    while k < asked {
-        sum = frame(from, file, out, sum)?;
-        k += 1;
-    }
-    Ok(sum)
+fn frame(alloc: Global, case: &[u8; 48], file: &[u8], tally: &mut Tally) -> Result<(), AllocError> {
+    let [frame, room, number, first, second, digest] = test_files::numbers::<6>(case, 0);
+    let mut out = vec![in alloc; 0u8; room as usize]?;
+    test_files::junk(&mut out);
+    let answer = test_support::answered(dsf_frames::frame(file, frame, &mut out));
+    let right = answer == refusal(number, first, second);
+    let same = test_files::digest(&out) == digest;
+    tally.add(right && same, answer.is_accepted());
+    Ok(())
 }
 
 // The tallies of files and of frames.
-#[derive(Clone, Copy)]
-struct Both {
+#[derive(Clone, Copy, Default)]
+struct Tallies {
     files: Tally,
     frames: Tally,
 }
 
-// The file's bytes.
-fn fill(rec: &[u8], file: &mut [u8]) {
-    test_files::noise(number(rec, 100), 92, file);
-    test_files::put(file, 0, rec, 0, 92);
-}
-
-fn whole<F: Read>(
-    from: &mut F,
-    rec: &[u8],
-    file: &mut [u8],
-    out: &mut [u8],
-    b: Both,
-) -> io::Result<Both> {
-    let n = test_support::of_bytes(number(rec, 92), file);
-    let part = &mut file[..n];
-    fill(rec, part);
-    let was = b.files;
-    let asked = b.frames;
-    let files = read(rec, part, was);
-    let frames = frames(from, number(rec, 108), part, out, asked)?;
-    Ok(Both { files, frames })
-}
-
-fn one<F: Read>(from: &mut F, file: &mut [u8], out: &mut [u8], b: Both) -> io::Result<Both> {
-    let mut rec = [0u8; 164];
-    test_support::read_full(from, &mut rec)?;
-    whole(from, &rec, file, out, b)
-}
-
-fn each<F: Read>(from: &mut F, file: &mut [u8], out: &mut [u8]) -> io::Result<Both> {
-    let mut b = Both {
-        files: test_files::nothing(),
-        frames: test_files::nothing(),
-    };
-    let n = test_files::cases(from)?;
-    let mut k = 0u64;
-    while k < n {
-        b = one(from, file, out, b)?;
-        k += 1;
+fn case<F: Read>(alloc: Global, from: &mut F, tallies: &mut Tallies) -> io::Result<()> {
+    let mut case = [0u8; 164];
+    from.read_exact(&mut case)?;
+    let [length, seed, asked, number] = test_files::numbers::<4>(&case, 92);
+    let holds = test_files::numbers::<5>(&case, 124);
+    let file = made(alloc, &case, length, seed)?;
+    let (answer, held) = headers::told(dsf::read(&file));
+    tallies.files.add(
+        answer == refusal(number, 0, 0) && held == holds,
+        answer.is_accepted(),
+    );
+    for _ in 0..asked {
+        let mut case = [0u8; 48];
+        from.read_exact(&mut case)?;
+        frame(alloc, &case, &file, &mut tallies.frames)?;
     }
-    Ok(b)
+    Ok(())
 }
 
-pub fn all<R: Files + Print>(rt: &R) -> io::Result<()> {
-    let mut file = [0u8; 131072];
-    let mut out = [0u8; 32768];
-    let mut from = test_files::open(rt, b"files")?;
-    let b = each(&mut from, &mut file, &mut out)?;
-    let files = b.files;
-    let frames = b.frames;
-    test_files::tell(rt, b"files ", files)?;
-    test_files::tell(rt, b"frames ", frames)
+pub fn all<R: Files + Print + AllocGlobal>(rt: &R) -> io::Result<()> {
+    let mut tallies = Tallies::default();
+    let mut from = File::open(rt, "files")?;
+    for _ in 0..test_files::cases(&mut from)? {
+        case(rt.alloc(), &mut from, &mut tallies)?;
+    }
+    let Tallies { files, frames } = tallies;
+    println!(rt; "files {files}")?;
+    println!(rt; "frames {frames}")
 }

@@ -1,40 +1,43 @@
-// Headers. A case has 92 bytes, how many bytes are lent, the file's length, and what the file holds.
-use crate::files;
-use std::io;
-use std::io::Read;
+// Headers. A case has 92 bytes, how many bytes are lent, the file's length, the answer, and what the file holds.
+use dsf::DsfHeader;
+use reference::PcmError;
 use std::rt::Files;
-use test_files::{Tally, number};
+use std::{fs, io};
+use test_files::Tally;
+use test_support::{Told, refusal};
 
-fn call(rec: &[u8], t: Tally) -> Tally {
-    let n = test_support::of_bytes(number(rec, 92), rec);
-    let opened = dsf::read_header(&rec[..n], number(rec, 100));
-    let v = opened.verdict;
-    let h = opened.header;
-    let told = test_support::verdict(v);
-    let right = test_support::is(told, number(rec, 108), 0, 0);
-    let same = files::same_header(rec, 116, h);
-    test_files::with(t, right && same, told.number == 0)
+fn numbers(h: DsfHeader) -> [u64; 5] {
+    [
+        h.channel_type,
+        h.channels,
+        h.bits_per_sample,
+        h.samples,
+        h.frames,
+    ]
 }
 
-fn one<F: Read>(from: &mut F, t: Tally) -> io::Result<Tally> {
-    let mut rec = [0u8; 156];
-    test_support::read_full(from, &mut rec)?;
-    Ok(call(&rec, t))
+// An opened file's answer, and what it holds; zeros where it is refused.
+pub fn told(opened: Result<DsfHeader, PcmError>) -> (Told, [u64; 5]) {
+    let held = opened.map_or([0; 5], |header| numbers(header));
+    (test_support::answered(opened), held)
 }
 
-fn each<F: Read>(from: &mut F) -> io::Result<Tally> {
-    let mut t = test_files::nothing();
-    let n = test_files::cases(from)?;
-    let mut k = 0u64;
-    while k < n {
-        t = one(from, t)?;
-        k += 1;
+fn call(case: &[u8; 156], tally: &mut Tally) {
+    let [lent, length, number] = test_files::numbers::<3>(case, 92);
+    let holds = test_files::numbers::<5>(case, 116);
+    let opened = dsf::read_header(test_support::up_to(case, lent), length);
+    let (answer, held) = told(opened);
+    tally.add(
+        answer == refusal(number, 0, 0) && held == holds,
+        answer.is_accepted(),
+    );
+}
+
+pub fn all<R: Files + Print + AllocGlobal>(rt: &R) -> io::Result<()> {
+    let mut tally = Tally::default();
+    let list = fs::read(rt, "headers")?;
+    for case in test_files::records(&list) {
+        call(case, &mut tally);
     }
-    Ok(t)
-}
-
-pub fn all<R: Files + Print>(rt: &R) -> io::Result<()> {
-    let mut from = test_files::open(rt, b"headers")?;
-    let t = each(&mut from)?;
-    test_files::tell(rt, b"headers ", t)
+    println!(rt; "headers {tally}")
 }

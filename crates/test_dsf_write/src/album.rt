@@ -4,107 +4,60 @@ use reference::{Converter, Cutoff, Gain, PcmRate, Settings};
 use std::io;
 use test_files::Tally;
 
+// Bytes of a frame, and its samples.
+const FRAME: usize = 9408;
+
+const SAMPLES: usize = 2352;
+
 // Standard at 88,200 Hz, two channels, 0 dB.
 fn converter() -> Converter {
-    let gain = Gain {
-        db: 0.0,
-        linear: 1.0,
-    };
-    let rate = PcmRate::Hz88200;
-    let cutoff = Cutoff::Standard;
-    let filter = reference::built_in();
-    reference::converter_of(Settings {
-        rate,
-        cutoff,
+    let settings = Settings {
+        rate: PcmRate::Hz88200,
+        cutoff: Cutoff::Standard,
         channels: 2,
-        gain,
-        own: false,
-        filter,
-    })
+        gain: Gain {
+            db: 0.0,
+            linear: 1.0,
+        },
+        filter: None,
+    };
+    settings.converter()
 }
 
-// Frame k of the file; where there is none, the buffer is left.
-fn take(file: &[u8], k: u64, out: &mut [u8; 9408]) -> bool {
-    let v = dsf_frames::frame(file, k, out);
-    let told = test_support::verdict(v);
-    told.number == 0
+// Frame k of the file, if there is one.
+fn taken(file: &[u8], k: u64) -> Option<[u8; FRAME]> {
+    let mut frame = [0u8; FRAME];
+    let answer = test_support::answered(dsf_frames::frame(file, k, &mut frame));
+    answer.is_accepted().then_some(frame)
 }
 
-// Whether the samples of frame k are those of the whole run.
-fn same<'a>(part: &'a [i32; 2352], whole: &'a [i32; 9408], k: u64) -> bool {
-    let from = (k % 4) as usize * 2352;
-    let mut i = 0usize;
-    while i < 2352 {
-        if part[i] != whole[from + i] {
-            return false;
-        }
-        i += 1;
-    }
-    true
-}
-
-// The frame before frame k, and the one after it.
-fn take_before(file: &[u8], k: u64, out: &mut [u8; 9408]) -> bool {
-    if k == 0 {
-        return false;
-    }
-    take(file, k - 1, out)
-}
-
-fn take_after(file: &[u8], k: u64, out: &mut [u8; 9408]) -> bool {
-    take(file, k % 65536 + 1, out)
-}
-
-// Converts a frame with the frames next to it.
-fn convert<'a>(
-    has_before: bool,
-    before: &'a [u8; 9408],
-    frames: &'a [u8; 9408],
-    has_after: bool,
-    after: &'a [u8; 9408],
-    out: &mut [i32; 2352],
-) -> bool {
+// Converts a frame of the file with the frames next to it.
+fn frame(file: &[u8], k: u64, whole: &[i32], tally: &mut Tally) {
+    let before = k.checked_sub(1).and_then(|k| taken(file, k));
+    let found = taken(file, k);
+    let after = k.checked_add(1).and_then(|k| taken(file, k));
+    let none = [0u8; FRAME];
+    let mut out = [0i32; SAMPLES];
     let done = scarletbook_pcm::convert_run_parts(
         converter(),
-        has_before,
-        before,
-        frames,
-        has_after,
-        after,
-        out,
+        before.is_some(),
+        &before.unwrap_or(none),
+        &found.unwrap_or(none),
+        after.is_some(),
+        &after.unwrap_or(none),
+        &mut out,
     );
-    test_support::accepted(done)
-}
-
-fn frame<'a>(file: &'a [u8], k: u64, whole: &'a [i32; 9408], t: Tally) -> Tally {
-    let mut before = [0u8; 9408];
-    let mut frames = [0u8; 9408];
-    let mut after = [0u8; 9408];
-    let mut out = [0i32; 2352];
-    let has_before = take_before(file, k, &mut before);
-    let found = take(file, k, &mut frames);
-    let has_after = take_after(file, k, &mut after);
-    let accepted = convert(has_before, &before, &frames, has_after, &after, &mut out);
-    test_files::with(t, found && same(&out, whole, k), accepted)
-}
-
-fn each<'a>(file: &'a [u8], whole: &'a [i32; 9408]) -> Tally {
-    let mut t = test_files::nothing();
-    let mut k = 0u64;
-    while k < 4 {
-        t = frame(file, k, whole, t);
-        k += 1;
-    }
-    t
+    let right = found.is_some() && out.as_slice() == whole;
+    tally.add(right, done.is_ok());
 }
 
 pub fn all(rt: &impl Print) -> io::Result<()> {
     let none = [0u8; 1];
-    let mut frames = [0u8; 37632];
-    let mut whole = [0i32; 9408];
+    let mut frames = [0u8; 4 * FRAME];
+    let mut whole = [0i32; 4 * SAMPLES];
     let mut file = [0u8; 41052];
     test_files::noise(9, 0, &mut frames);
-    scarletbook_pcm::convert_run_parts(
+    let _ = scarletbook_pcm::convert_run_parts(
         converter(),
         false,
         &none,
@@ -113,7 +66,10 @@ pub fn all(rt: &impl Print) -> io::Result<()> {
         &none,
         &mut whole,
     );
-    dsf_write::write(2, &frames, &mut file);
-    let t = each(&file, &whole);
-    test_files::tell(rt, b"frames converted out of a file ", t)
+    let _ = dsf_write::write(2, &frames, &mut file);
+    let mut tally = Tally::default();
+    for (k, samples) in (0..4).zip(whole.chunks_exact(SAMPLES)) {
+        frame(&file, k, samples, &mut tally);
+    }
+    println!(rt; "frames converted out of a file {tally}")
 }

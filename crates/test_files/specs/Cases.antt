@@ -1,16 +1,16 @@
 -- What the programs over stored cases compute of bytes: numbers, and a digest.
 use Rattle.std.specs.Prelude.{List, [], ◌∷◌, ℕ, ◌+◌, ◌*◌, ◌%◌, get_or}
+use Rattle.std.specs.Int.{w32, w64, from_le_bytes}
 
--- a number with one more byte below it, of 64 bits
-unfoldable pub with_below : ℕ → ℕ → ℕ
-with_below n b = n % 72057594037927936 * 256 + b % 256
+-- the four and the eight bytes from k on as a number, lowest first; what is missing is 0
+abbrev pub four_at : List ℕ → ℕ → ℕ
+four_at s k = from_le_bytes w32 (get_or s k 0 ∷ get_or s (k + 1) 0 ∷ get_or s (k + 2) 0 ∷ get_or s (k + 3) 0 ∷ [])
 
--- the four and the eight bytes from k on as a number, lowest first
-unfoldable pub four_at : List ℕ → ℕ → ℕ
-four_at s k = with_below (with_below (with_below (get_or s (k + 3) 0) (get_or s (k + 2) 0)) (get_or s (k + 1) 0)) (get_or s k 0)
-
-unfoldable pub eight_at : List ℕ → ℕ → ℕ
-eight_at s k = with_below (with_below (with_below (with_below (four_at s (k + 4)) (get_or s (k + 3) 0)) (get_or s (k + 2) 0)) (get_or s (k + 1) 0)) (get_or s k 0)
+abbrev pub eight_at : List ℕ → ℕ → ℕ
+eight_at s k =
+    from_le_bytes
+    w64
+    (get_or s k 0 ∷ get_or s (k + 1) 0 ∷ get_or s (k + 2) 0 ∷ get_or s (k + 3) 0 ∷ get_or s (k + 4) 0 ∷ get_or s (k + 5) 0 ∷ get_or s (k + 6) 0 ∷ get_or s (k + 7) 0 ∷ [])
 
 -- a digest with one more byte
 unfoldable pub mix : ℕ → ℕ → ℕ

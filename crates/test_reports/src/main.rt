@@ -10,25 +10,19 @@
 // 84        two channels, each with its own run over the border
 #![tactic(auto)]
 
+use std::fs::File;
 use std::io;
 
-// Two digits.
-fn digit(n: u64) -> u8 {
-    b'0' + (n % 10) as u8
-}
-
 fn report_of(rt: &HostRuntime, k: u64) -> io::Result<()> {
-    let path = [digit(k / 10), digit(k)];
-    let from = test_support::open(rt, &path)?;
+    let path = format!(in rt.alloc(); "{k:02}")?;
+    let from = File::open(rt, path.as_str())?;
     level_stream::report(&mut &from, &mut &from, &mut io::writer(rt))
 }
 
 fn main(rt: HostRuntime) -> io::Result<()> {
-    let mut k = 0u64;
-    while k < 84 {
-        k += 1;
+    for k in 1..85 {
         println!(rt; "input {k}")?;
         report_of(&rt, k)?;
     }
-    println!(rt; "inputs {k}")
+    println!(rt; "inputs 84")
 }

@@ -1,91 +1,45 @@
 // Statistics printed, or refused.
-ghost use Rattle.std.specs.Prelude.{◌≡◌, ◌≤◌, length};
-
-use crate::rows::statistics;
-use reference::{ConvertStats, Verdict};
-use std::io;
+use crate::rows::of_row;
 use std::rt::Files;
+use std::{fs, io};
+use test_support::{refusal, to_stats, up_to_mut};
 
-const CASES: usize = 230;
-
-// Whether the output is the sheet as far as that goes, and holds what it held, the byte 7, past it.
-fn printed(out: &[u8], sheet: &[u8]) -> bool {
-    let mut k = 0usize;
-    while k < out.len() {
-        let mut want = 7u8;
-        if k < sheet.len() {
-            want = sheet[k];
-        }
-        if out[k] != want {
-            return false;
-        }
-        k += 1;
-    }
-    true
-}
-
-// The length of the sheet that a row is to give: 0 where it is refused.
-fn long(row: &[u64], left: usize) -> usize
-    requires { length row.now ≡ 29 }
-    ensures { result ≤ left }
-{
-    if row[26] != 0 {
-        return 0;
-    }
-    let n = row[1];
-    if n < left as u64 {
-        return n as usize;
-    }
-    left
-}
-
-// The sheet in the first n bytes.
-fn put(channels: u8, s: ConvertStats, out: &mut [u8], n: usize) -> Verdict
-    requires { n ≤ length out.old }
-{
-    sheet::level_sheet(channels, s, &mut out[..n])
-}
-
-// Whether the row's statistics are printed so, or refused as the row says.
-fn right(row: &[u64], sheet: &[u8]) -> bool
-    requires { length row.now ≡ 29 }
-{
-    let mut out = [7u8; 400];
-    let n = test_support::of_bytes(row[1], &out);
-    let s = statistics(&row[2..26]);
-    let v = put((row[0] % 256) as u8, s, &mut out, n);
-    let told = test_support::verdict(v);
-    if !printed(&out, sheet) {
+// Whether a row's statistics are printed so, and nothing is written past the sheet, or refused as the row says. A row has the channels, the
+// output's length, the statistics, and the answer.
+fn right(row: &[u64; 29], sheet: &[u8]) -> bool {
+    let Some(numbers) = of_row(&row[2..26]) else {
         return false;
+    };
+    let mut out = [7u8; 400];
+    let channels = (row[0] % 256) as u8;
+    let answer = sheet::level_sheet(channels, to_stats(numbers), up_to_mut(&mut out, row[1]));
+    let told = test_support::answered(answer);
+    match out.strip_prefix(sheet) {
+        Some(behind) => {
+            behind.iter().all(|b| *b == 7) && told == refusal(row[26], row[27], row[28])
+        }
+        None => false,
     }
-    test_support::is(told, row[26], row[27], row[28])
 }
 
-// All rows, with the sheets one after the other.
-fn rows(bytes: &[u8], sheets: &[u8]) -> u64
-    requires { length bytes.now ≡ 113390 }
-{
-    let all = sheets.len();
-    let mut place = 0usize;
-    let mut k = 0usize;
-    let mut yes = 0u64;
-    while k < CASES {
-        let mut row = [0u64; 29];
-        test_support::column(&bytes[493 * k..], 0, 1, &mut row);
-        let next = place + long(&row, all - place);
-        yes += test_support::one(right(&row, &sheets[place..next]));
-        place = next;
-        k += 1;
+// All rows, with the sheets one after the other: a row that is refused has none.
+fn count(rows: &[[u64; 29]], sheets: &[u8]) -> u64 {
+    let mut equal = 0u64;
+    let mut left = sheets;
+    for row in rows {
+        let long = if row[26] == 0 { row[1] as usize } else { 0 };
+        let (sheet, others) = left.split_at(left.len().min(long));
+        equal = equal.saturating_add(u64::from(right(row, sheet)));
+        left = others;
     }
-    yes
+    equal
 }
 
-pub fn all<R: Files + Print>(rt: &R) -> io::Result<()> {
-    let mut bytes = [0u8; 113390];
-    test_support::read(rt, b"cases", CASES * 29, &mut bytes)?;
-    let mut sheets = [0u8; 29283];
-    let mut from = test_support::open(rt, b"sheets")?;
-    test_support::read_full(&mut from, &mut sheets)?;
-    let yes = rows(&bytes, &sheets);
-    test_support::equal(rt, b"sheets ", CASES as u64, yes)
+pub fn all<R: Files + Print + AllocGlobal>(rt: &R) -> io::Result<()> {
+    let cases = test_support::numbers(rt, "cases")?;
+    let (rows, _) = cases.as_chunks::<29>();
+    let sheets = fs::read(rt, "sheets")?;
+    let all = rows.len();
+    let equal = count(rows, &sheets);
+    println!(rt; "sheets {all} equal {equal}")
 }

@@ -1,30 +1,21 @@
 // Two statistics joined.
-ghost use Rattle.std.specs.Prelude.{◌≡◌, length};
-
-use crate::rows::{are, statistics};
+use crate::rows::of_row;
 use std::io;
 use std::rt::Files;
-
-const JOINS: usize = 30;
+use test_support::{to_numbers, to_stats};
 
 // A row has two statistics, and those of both.
-fn right(row: &[u64]) -> bool
-    requires { length row.now ≡ 72 }
-{
-    let both = stretches::join_stats(statistics(&row[0..24]), statistics(&row[24..48]));
-    are(both, &row[48..72])
+fn right(row: &[u64; 72]) -> bool {
+    match (of_row(row), of_row(&row[24..]), of_row(&row[48..])) {
+        (Some(a), Some(b), Some(both)) => {
+            to_numbers(stretches::join_stats(to_stats(a), to_stats(b))) == both
+        }
+        _ => false,
+    }
 }
 
-pub fn all<R: Files + Print>(rt: &R) -> io::Result<()> {
-    let mut bytes = [0u8; 36720];
-    test_support::read(rt, b"joins", JOINS * 72, &mut bytes)?;
-    let mut k = 0usize;
-    let mut yes = 0u64;
-    while k < JOINS {
-        let mut row = [0u64; 72];
-        test_support::column(&bytes[1224 * k..], 0, 1, &mut row);
-        yes += test_support::one(right(&row));
-        k += 1;
-    }
-    test_support::equal(rt, b"joined statistics ", JOINS as u64, yes)
+pub fn all<R: Files + Print + AllocGlobal>(rt: &R) -> io::Result<()> {
+    let joins = test_support::numbers(rt, "joins")?;
+    let (rows, _) = joins.as_chunks::<72>();
+    test_support::print_equal(rt, "joined statistics", rows, |row| Ok(right(row)))
 }

@@ -1,9 +1,12 @@
 -- What the programs that compare go by: a decision as numbers, and stored answers.
-use Rattle.std.specs.Prelude.{List, map, Bool, true, cond, ◌&&◌, ℕ, zero, suc, ◌+◌, ◌-◌, ◌*◌, ◌%◌, ◌^◌, eqb, ltb, get_or}
+use Rattle.std.specs.Prelude.{Result, Ok, Err, List, map, Bool, true, cond, ◌&&◌, ℕ, zero, suc, ◌+◌, ◌-◌, ◌*◌, ◌%◌, ◌^◌, eqb, ltb, get_or}
 use Rattle.std.specs.Float.{binary64}
 use Rattle.std.specs.Float.Ieee.{to_bits}
-use Rattle.reference.specs.Refusals.{Decision, refusal_number, Datum, number, rate, cutoff, decibels}
-use Rattle.interface.specs.Codes.{hertz, cutoff_number, carried}
+use Rattle.reference.specs.Refusals.{Decision, accepted, refused, Datum, number, rate, cutoff, decibels}
+use Rattle.reference.specs.Statistics.{channel_of, no_stats}
+use Rattle.reference.specs.declared.ConvertStats.{ConvertStats}
+use Rattle.reference.specs.declared.PcmError.{PcmError}
+use Rattle.reference.specs.Codes.{hertz, cutoff_number}
 use Rattle.test_support.specs.declared.Told.{Told}
 
 -- a datum as a number; decibels by their bits
@@ -15,9 +18,18 @@ datum_number (decibels db) = to_bits binary64 db
 
 -- number and data of a decision; what is missing is 0
 abbrev pub told : Decision → Told
-told d =
-    let ns = map datum_number (carried d) in
-    record { number = refusal_number d; first = get_or ns 0 0; second = get_or ns 1 0 }
+told accepted = record { number = 0; first = 0; second = 0 }
+told (refused n ds) =
+    let ns = map datum_number ds in
+    record { number = n; first = get_or ns 0 0; second = get_or ns 1 0 }
+
+-- the statistics of a conversion, and where it is refused those of no samples; and the clips of channel c
+abbrev pub stats_of : Result ConvertStats PcmError → ConvertStats
+stats_of (Ok s) = s
+stats_of (Err e) = no_stats
+
+abbrev pub clips_of : Result ConvertStats PcmError → ℕ → ℕ
+clips_of done c = (channel_of (stats_of done) c).clipped
 
 -- what a hexadecimal digit stands for; 0 for another byte
 unfoldable pub digit : ℕ → ℕ

@@ -1,19 +1,18 @@
 // What the programs that compare share: floats by their bits, refusals as numbers, parts of lists, stored answers, lines.
 #![tactic(auto)]
 
-ghost use Rattle.std.specs.Prelude.{◌≡◌, cond, ◌&&◌, ◌+◌, ◌*◌, ◌%◌, ◌≤◌, eqb, ltb, pos, ◌+ℤ◌, length, take, get_or};
+ghost use Rattle.std.specs.Prelude.{◌≡◌, IfOk, [], ◌∷◌, cond, ◌&&◌, ◌+◌, ◌*◌, ◌%◌, ◌≤◌, eqb, ltb, pos, ◌+ℤ◌, length, take, get_or};
 ghost use Rattle.std.specs.Float.{binary64};
 ghost use Rattle.std.specs.Float.Ieee.{of_bits, to_bits};
-ghost use Rattle.reference.specs.Refusals.{is_accepted, error_decision, decision};
-ghost use Rattle.interface.specs.Codes as codes;
-ghost use Rattle.test_support.specs.Answers.{told};
+ghost use Rattle.reference.specs.Refusals.{decision, error_decision};
+ghost use Rattle.test_support.specs.Answers.{told, stats_of, clips_of};
 
-use reference::{Converted, Cutoff, PcmError, PcmRate, Verdict};
+use reference::{ChannelStats, ConvertStats, Cutoff, Extremes, PcmError, PcmRate};
 use std::io;
 
 mod answers;
 
-pub use answers::{begins_as_python, column, open, read, read_full};
+pub use answers::{begins_as_python, numbers};
 
 // A float by its bits, and its bits. Every NaN is one.
 pub fn float(n: u64) -> f64
@@ -34,12 +33,26 @@ pub fn bits(x: f64) -> u64
     f64::to_bits(x)
 }
 
-// A refusal's number and data; number 0 is no refusal.
-#[derive(Clone, Copy)]
+// A refusal's number and data as the stored rows have them: number 0, with zeros behind it, is no refusal.
+#[derive(Clone, Copy, PartialEq, Eq, Debug)]
 pub struct Told {
     pub number: u64,
     pub first: u64,
     pub second: u64,
+}
+
+impl Told {
+    pub const ACCEPTED: Told = Told {
+        number: 0,
+        first: 0,
+        second: 0,
+    };
+
+    pub fn is_accepted(&self) -> bool
+        ensures { result ≡ eqb self.now.number 0 }
+    {
+        self.number == 0
+    }
 }
 
 pub fn refusal(number: u64, first: u64, second: u64) -> Told
@@ -52,34 +65,14 @@ pub fn refusal(number: u64, first: u64, second: u64) -> Told
     }
 }
 
-fn hertz(rate: PcmRate) -> u64
-    ensures { result ≡ codes.hertz rate }
-{
-    match rate {
-        PcmRate::Hz88200 => 88200,
-        PcmRate::Hz176400 => 176400,
-        PcmRate::Hz352800 => 352800,
-    }
-}
-
-fn which(cutoff: Cutoff) -> u64
-    ensures { result ≡ codes.cutoff_number cutoff }
-{
-    match cutoff {
-        Cutoff::Standard => 0,
-        Cutoff::Low => 1,
-        Cutoff::Wide => 2,
-    }
-}
-
 pub fn error(e: PcmError) -> Told
     ensures { result ≡ told (error_decision e) }
 {
     match e {
         PcmError::Channels(n) => refusal(1, n as u64, 0),
-        PcmError::Unsupported(rate, cutoff) => refusal(2, hertz(rate), which(cutoff)),
+        PcmError::Unsupported(rate, cutoff) => refusal(2, u64::from(rate), u64::from(cutoff)),
         PcmError::Gain(db) => refusal(3, bits(db), 0),
-        PcmError::InputLength(n, kind) => refusal(4, n as u64, kind as u64),
+        PcmError::InputLength(n, kind) => refusal(4, n as u64, kind.number()),
         PcmError::Frames(n) => refusal(5, n as u64, 0),
         PcmError::OutputLength(n, expected) => refusal(6, n as u64, expected as u64),
         PcmError::OutputBytes(n, expected) => refusal(7, n as u64, expected as u64),
@@ -99,105 +92,103 @@ pub fn error(e: PcmError) -> Told
     }
 }
 
-pub fn verdict(v: Verdict) -> Told
-    ensures { result ≡ told (decision v) }
+// The number and data of what a call answers.
+pub fn answered<T: Drop>(made: Result<T, PcmError>) -> Told
+    ensures { result ≡ told (decision made) }
 {
-    match v {
-        Verdict::Accepted => refusal(0, 0, 0),
-        Verdict::Refused(e) => error(e),
+    match made {
+        Ok(_) => Told::ACCEPTED,
+        Err(e) => error(e),
     }
-}
-
-fn both(a: bool, b: bool) -> bool
-    ensures { result ≡ (a && b) }
-{
-    if a { b } else { false }
-}
-
-pub fn is(t: Told, number: u64, first: u64, second: u64) -> bool
-    ensures { result ≡ (eqb t.number number && (eqb t.first first && eqb t.second second)) }
-{
-    both(
-        t.number == number,
-        both(t.first == first, t.second == second),
-    )
 }
 
 // What a conversion answers.
-pub fn accepted(c: Converted) -> bool
-    ensures { result ≡ is_accepted (decision c.verdict) }
+pub type Converted = Result<ConvertStats, PcmError>;
+
+// Its statistics; where it is refused, those of no samples.
+#[tactic(auto, unfolding(crate::specs::Answers::stats_of))]
+pub fn stats(done: Converted) -> ConvertStats
+    ensures { result ≡ stats_of done }
 {
-    let v = c.verdict;
-    match v {
-        Verdict::Accepted => true,
-        Verdict::Refused(_) => false,
-    }
+    done.unwrap_or(reference::no_stats())
 }
 
-// The clips of channel c.
-pub fn clips(done: Converted, c: usize) -> u64
-    ensures { result ≡ get_or done.stats.clipped c 0 }
+// The clips of the six channels.
+#[tactic(auto, unfolding(reference::specs::Statistics::channel_of))]
+pub fn clipped(done: Converted) -> [u64; 6]
+    ensures { result ≡ clips_of done 0 ∷ clips_of done 1 ∷ clips_of done 2 ∷ clips_of done 3 ∷ clips_of done 4 ∷ clips_of done 5 ∷ [] }
 {
-    let stats = done.stats;
-    let clipped = stats.clipped;
-    at(&clipped, c)
+    let channels = stats(done).channels;
+    [
+        channels[0].clipped,
+        channels[1].clipped,
+        channels[2].clipped,
+        channels[3].clipped,
+        channels[4].clipped,
+        channels[5].clipped,
+    ]
 }
 
 // Whether channel 0 has this many clips and no other has any.
 pub fn clips_are(done: Converted, n: u64) -> bool
-    ensures { result ≡ (eqb (get_or done.stats.clipped 0 0) n && (eqb (get_or done.stats.clipped 1 0) 0 && (eqb (get_or done.stats.clipped 2 0) 0 && (eqb (get_or done.stats.clipped 3 0) 0 && (eqb (get_or done.stats.clipped 4 0) 0 && eqb (get_or done.stats.clipped 5 0) 0))))) }
+    ensures { result ≡ (eqb (clips_of done 0) n && (eqb (clips_of done 1) 0 && (eqb (clips_of done 2) 0 && (eqb (clips_of done 3) 0 && (eqb (clips_of done 4) 0 && eqb (clips_of done 5) 0))))) }
 {
-    let last = both(clips(done, 4) == 0, clips(done, 5) == 0);
-    let others = both(clips(done, 2) == 0, both(clips(done, 3) == 0, last));
-    both(clips(done, 0) == n, both(clips(done, 1) == 0, others))
+    clipped(done) == [n, 0, 0, 0, 0, 0]
 }
 
-// What stands at i, and 0 past the end.
-pub fn at(s: &[u64], i: usize) -> u64
-    ensures { result ≡ get_or s.now i 0 }
+// What stands at i, and `none` past the end.
+fn at<T: Copy>(s: &[T], i: usize, none: T) -> T
+    ensures { result ≡ get_or s.now i none }
 {
-    if i < s.len() { s[i] } else { 0 }
+    s.get(i).copied().unwrap_or(none)
 }
 
-// n, or what there is.
-fn at_most(n: u64, most: usize) -> usize
-    ensures { (result ≤ most) × (result ≡ cond (ltb n most) n most) }
+// The first n of a list, or all.
+pub fn up_to<T>(s: &[T], n: u64) -> &[T]
+    ensures { result.now ≡ take n s.now }
 {
-    if n < most as u64 {
-        return n as usize;
+    &s[..s.len().min(n as usize)]
+}
+
+pub fn up_to_mut<T>(s: &mut [T], n: u64) -> &mut [T] {
+    let end = s.len().min(n as usize);
+    &mut s[..end]
+}
+
+// Six clip counts, six lowest, six highest and six marks of channels without samples, as the stored rows have them: numbers with a sign by their
+// bits.
+pub type StatsNumbers = [[u64; 6]; 4];
+
+pub fn to_stats([clipped, lowest, highest, empty]: StatsNumbers) -> ConvertStats {
+    let mut channels = [ChannelStats::none(); 6];
+    for c in 0..6 {
+        let extremes = Extremes {
+            lowest: lowest[c].cast_signed(),
+            highest: highest[c].cast_signed(),
+        };
+        channels[c] = ChannelStats {
+            clipped: clipped[c],
+            extremes: (empty[c] == 0).then_some(extremes),
+        };
     }
-    most
+    ConvertStats { channels }
 }
 
-// How many numbers to take of a list: n, or all.
-pub fn of_bytes(n: u64, s: &[u8]) -> usize
-    ensures upper_bound { (result ≤ length s.now) × (result ≡ length (take result s.now)) }
-    ensures value { result ≡ cond (ltb n (length s.now)) n (length s.now) }
-{
-    at_most(n, s.len())
-}
-
-pub fn of_samples(n: u64, s: &[i32]) -> usize
-    ensures upper_bound { (result ≤ length s.now) × (result ≡ length (take result s.now)) }
-    ensures value { result ≡ cond (ltb n (length s.now)) n (length s.now) }
-{
-    at_most(n, s.len())
-}
-
-pub fn of_numbers(n: u64, s: &[u64]) -> usize
-    ensures upper_bound { (result ≤ length s.now) × (result ≡ length (take result s.now)) }
-    ensures value { result ≡ cond (ltb n (length s.now)) n (length s.now) }
-{
-    at_most(n, s.len())
-}
-
-pub fn one(yes: bool) -> u64
-    ensures { (result ≤ 1) × (result ≡ cond yes 1 0) }
-{
-    if yes {
-        return 1;
+pub fn to_numbers(stats: ConvertStats) -> StatsNumbers {
+    let mut clipped = [0u64; 6];
+    let mut lowest = [0u64; 6];
+    let mut highest = [0u64; 6];
+    let mut empty = [1u64; 6];
+    for c in 0..6 {
+        let channel = stats.channels[c];
+        clipped[c] = channel.clipped;
+        if let Some(extremes) = channel.extremes {
+            lowest[c] = extremes.lowest.cast_unsigned();
+            highest[c] = extremes.highest.cast_unsigned();
+            empty[c] = 0;
+        }
     }
-    0
+    [clipped, lowest, highest, empty]
 }
 
 // The next number of a sequence below 2^32.
@@ -214,31 +205,78 @@ pub fn lifted(s: i32) -> u64
     (s as i64 + 0x8000_0000) as u64
 }
 
-fn line(rt: &impl Print, name: &[u8], all: u64, word: &[u8], yes: u64) -> io::Result<()> {
-    rt.write_all(name)?;
-    rt.print(all)?;
-    rt.write_all(word)?;
-    rt.println(yes)
-}
-
-// How many were tried, and how many were right or equal.
-pub fn right(rt: &impl Print, name: &[u8], all: u64, yes: u64) -> io::Result<()> {
-    line(rt, name, all, b" right ", yes)
-}
-
-pub fn equal(rt: &impl Print, name: &[u8], all: u64, yes: u64) -> io::Result<()> {
-    line(rt, name, all, b" equal ", yes)
-}
-
-// A number of 64 bits, with its sign.
-pub fn signed(n: u64) -> i64 {
-    if n < 0x8000_0000_0000_0000 {
-        return n as i64;
+// How many cases pass a test.
+fn passed<T, F: Fn(&T) -> io::Result<bool>>(cases: &[T], test: F) -> io::Result<usize>
+    requires { F.IsAlwaysCallable test }
+    ensures { IfOk result (λ n. n ≤ length cases.now) }
+{
+    let mut n = 0usize;
+    for case in cases {
+        if test(case)? {
+            n += 1;
+        }
     }
-    -1 - (0xffff_ffff_ffff_ffff - n) as i64
+    Ok(n)
 }
 
-// Whether a number with its sign is the one of a row.
-pub fn is_signed(z: i64, n: u64) -> bool {
-    z == signed(n)
+// How many cases there are, and how many are right or equal.
+pub fn print_right<T, F: Fn(&T) -> io::Result<bool>>(
+    rt: &impl Print,
+    name: &str,
+    cases: &[T],
+    test: F,
+) -> io::Result<()>
+    requires { F.IsAlwaysCallable test }
+{
+    let all = cases.len();
+    let right = passed(cases, test)?;
+    println!(rt; "{name} {all} right {right}")
+}
+
+pub fn print_equal<T, F: Fn(&T) -> io::Result<bool>>(
+    rt: &impl Print,
+    name: &str,
+    cases: &[T],
+    test: F,
+) -> io::Result<()>
+    requires { F.IsAlwaysCallable test }
+{
+    let all = cases.len();
+    let equal = passed(cases, test)?;
+    println!(rt; "{name} {all} equal {equal}")
+}
+
+// A rate and a cutoff by their route: three times the cutoff and the rate, both from 0.
+pub fn rate(route: u64) -> PcmRate {
+    match route % 3 {
+        0 => PcmRate::Hz88200,
+        1 => PcmRate::Hz176400,
+        _ => PcmRate::Hz352800,
+    }
+}
+
+// By its hertz; a number that is none stands for 88,200.
+pub fn rate_of_hertz(hertz: u64) -> PcmRate {
+    match hertz {
+        352800 => PcmRate::Hz352800,
+        176400 => PcmRate::Hz176400,
+        _ => PcmRate::Hz88200,
+    }
+}
+
+pub fn cutoff(route: u64) -> Cutoff {
+    match route / 3 {
+        0 => Cutoff::Standard,
+        1 => Cutoff::Low,
+        _ => Cutoff::Wide,
+    }
+}
+
+pub fn route(rate: PcmRate, cutoff: Cutoff) -> u64 {
+    let place = match rate {
+        PcmRate::Hz88200 => 0,
+        PcmRate::Hz176400 => 1,
+        PcmRate::Hz352800 => 2,
+    };
+    3 * u64::from(cutoff) + place
 }

@@ -2,43 +2,9 @@
 // '=' and what it is to print.
 #![tactic(auto)]
 
-ghost use Rattle.std.specs.Prelude.{◌≤◌, length};
-
+use std::fs::File;
 use std::io;
 use std::rt::Files;
-
-fn digit(n: u64) -> u8 {
-    b'0' + (n % 10) as u8
-}
-
-// Whether two texts are equal.
-fn same(a: &[u8], b: &[u8]) -> bool {
-    if a.len() != b.len() {
-        return false;
-    }
-    let mut k = 0usize;
-    while k < a.len() {
-        if a[k] != b[k] {
-            return false;
-        }
-        k += 1;
-    }
-    true
-}
-
-// The place of the byte '=', or the length.
-fn border(text: &[u8]) -> usize
-    ensures { result ≤ length text.now }
-{
-    let mut k = 0usize;
-    while k < text.len() {
-        if text[k] == b'=' {
-            return k;
-        }
-        k += 1;
-    }
-    k
-}
 
 // Whether the input is answered so.
 fn answers(input: &[u8], answer: &[u8]) -> bool {
@@ -47,40 +13,25 @@ fn answers(input: &[u8], answer: &[u8]) -> bool {
     }
     let mut out = [0u8; 1024];
     let n = turns_lines::answer(input, &mut out);
-    same(&out[..n], answer)
+    &out[..n] == answer
 }
 
 fn right(text: &[u8]) -> bool {
-    let k = border(text);
-    if k < text.len() {
-        return answers(&text[..k], &text[k + 1..]);
+    match text.iter().position(|b| *b == b'=') {
+        Some(border) => answers(&text[..border], &text[border + 1..]),
+        None => false,
     }
-    false
 }
 
-// The first n bytes.
-fn right_first(text: &[u8], n: usize) -> bool
-    requires { n ≤ length text.now }
-{
-    right(&text[..n])
-}
-
-fn file<R: Files>(rt: &R, k: u64) -> io::Result<bool> {
-    let path = [digit(k / 100), digit(k / 10), digit(k)];
-    let mut from = test_support::open(rt, &path)?;
+fn board<R: Files + AllocGlobal>(rt: &R, k: u64) -> io::Result<bool> {
+    let path = format!(in rt.alloc(); "{k:03}")?;
+    let mut from = File::open(rt, path.as_str())?;
     let mut text = [0u8; 2048];
     let n = level_input::fill(&mut from, &mut text)?;
-    Ok(right_first(&text, n))
+    Ok(right(&text[..n]))
 }
 
 fn main(rt: HostRuntime) -> io::Result<()> {
-    let mut k = 0u64;
-    let mut equal = 0u64;
-    while k < 194 {
-        k += 1;
-        if file(&rt, k)? {
-            equal += 1;
-        }
-    }
-    test_support::equal(&rt, b"boards ", k, equal)
+    let boards: Vec<u64> = (1..195).collect(rt.alloc())?;
+    test_support::print_equal(&rt, "boards", &boards, |k| board(&rt, *k))
 }

@@ -2,95 +2,66 @@
 ghost use Rattle.std.specs.Prelude.{◌≤◌};
 
 use reference::PcmRate;
+use std::alloc::{AllocError, Global};
+use std::array;
 
 #[derive(Clone, Copy)]
 pub struct Case {
     pub rate: u64,
-    pub channels: u64,
+    pub channels: u8,
     pub frames: u64,
 }
 
-// There are 24.
-pub fn nth(i: u64) -> Case {
-    Case {
-        rate: i / 8 % 3,
-        channels: i / 4 % 2 + 1,
-        frames: i % 4,
-    }
+// All 24.
+pub fn all() -> [Case; 24] {
+    array::from_fn(|i| Case {
+        rate: i as u64 / 8 % 3,
+        channels: if i / 4 % 2 == 0 { 1 } else { 2 },
+        frames: i as u64 % 4,
+    })
 }
 
-pub fn rate(c: Case) -> PcmRate {
-    let rate = c.rate;
-    match rate {
-        0 => PcmRate::Hz88200,
-        1 => PcmRate::Hz176400,
-        _ => PcmRate::Hz352800,
-    }
-}
-
-pub fn channels(c: Case) -> u8 {
-    (c.channels % 256) as u8
-}
-
-// Bytes of one frame of one channel.
-fn frame_bytes(c: Case) -> u64
-    ensures { result ≤ 14112 }
-{
-    let rate = c.rate;
-    match rate {
-        0 => 3528,
-        1 => 7056,
-        _ => 14112,
-    }
-}
-
-// And of all channels.
-fn frame_size(c: Case) -> u64
-    ensures { result ≤ 28224 }
-{
-    let one = frame_bytes(c);
-    if c.channels == 2 {
-        return 2 * one;
-    }
-    one
-}
-
-// Bytes of a file's data.
-pub fn size(c: Case) -> u64
+// The bytes of a number of blocks, of which a case has at most six.
+fn bytes(blocks: u64, block: usize) -> usize
+    requires { block ≤ 14112 }
     ensures { result ≤ 84672 }
 {
-    let frame = frame_size(c);
-    let frames = c.frames;
-    match frames {
+    match blocks {
         0 => 0,
-        1 => frame,
-        2 => 2 * frame,
-        _ => 3 * frame,
+        1 => block,
+        2 => 2 * block,
+        3 => 3 * block,
+        4 => 4 * block,
+        _ => 6 * block,
     }
 }
 
-// The sequence's bytes.
-pub fn fill(bytes: &mut [u8]) {
-    let mut x = 1u64;
-    let mut k = 0usize;
-    while k < bytes.len() {
-        let next = test_support::next(x);
-        x = next;
-        bytes[k] = (x / 0x100_0000 % 256) as u8;
-        k += 1;
+impl Case {
+    pub fn pcm_rate(&self) -> PcmRate {
+        test_support::rate(self.rate)
     }
-}
 
-pub fn same(a: &[u8], b: &[u8]) -> bool {
-    if a.len() != b.len() {
-        return false;
+    // Bytes of a file's data.
+    fn size(&self) -> usize
+        ensures { result ≤ 84672 }
+    {
+        let block = match self.rate {
+            0 => 3528,
+            1 => 7056,
+            _ => 14112,
+        };
+        bytes(self.frames % 4 * (self.channels as u64), block)
     }
-    let mut k = 0usize;
-    while k < a.len() {
-        if a[k] != b[k] {
-            return false;
-        }
-        k += 1;
+
+    // The bytes of its samples: those that the seed 1 stands for.
+    pub fn samples(&self, alloc: Global) -> Result<Vec<u8>, AllocError> {
+        let mut bytes = vec![in alloc; 0u8; self.size()]?;
+        test_files::noise(1, 0, &mut bytes);
+        Ok(bytes)
     }
-    true
+
+    // Room for its file.
+    pub fn room(&self, alloc: Global) -> Result<Vec<u8>, AllocError> {
+        vec![in alloc; 0u8; 44 + self.size()]
+    }
 }

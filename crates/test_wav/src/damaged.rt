@@ -1,115 +1,71 @@
 // Each case with each other value in each byte of its header, a byte short, and a byte long: none is taken.
-ghost use Rattle.std.specs.Prelude.{◌≤◌};
+ghost use Rattle.std.specs.Prelude.{◌≤◌, ◌<◌, length};
 
 use crate::case;
-use crate::case::Case;
+use std::alloc::Global;
 use std::io;
-use test_support::one;
-use wav_format::WavRead;
+use test_support::refusal;
 
 // Refused 12, and without sample bytes.
-fn refused(file: &[u8]) -> bool {
-    let told = match wav_format::read(file) {
-        WavRead::Wav(_) => test_support::refusal(0, 0, 0),
-        WavRead::Refused(e) => test_support::error(e),
-    };
-    test_support::is(told, 12, 0, 0) && wav_format::samples_of(file).len() == 0
-}
-
-fn other(old: u8, d: u64) -> u8 {
-    ((old as u64 + d % 256) % 256) as u8
+fn is_refused(file: &[u8]) -> bool {
+    test_support::answered(wav_format::read(file)) == refusal(12, 0, 0)
+        && wav_format::samples_of(file).is_empty()
 }
 
 // How many of the 255 other values of byte k are refused; the byte is put back.
 fn refused_at(file: &mut [u8], k: usize) -> u64
+    requires { k < length file.old }
     ensures { result ≤ 255 }
 {
-    if k >= file.len() {
-        return 0;
-    }
     let old = file[k];
-    let mut yes = 0u64;
-    let mut d = 1u64;
-    while d < 256 {
-        file[k] = other(old, d);
-        yes += one(refused(file));
-        d += 1;
+    let mut refused = 0u64;
+    for d in 1..256u64 {
+        file[k] = ((old as u64 + d) % 256) as u8;
+        refused += u64::from(is_refused(file));
     }
     file[k] = old;
-    yes
+    refused
 }
 
+// Of all bytes of a header.
 fn header_refused(file: &mut [u8]) -> u64
     ensures { result ≤ 11220 }
 {
-    let mut yes = 0u64;
-    let mut k = 0usize;
-    while k < 44 {
-        yes += refused_at(file, k);
-        k += 1;
+    let mut refused = 0u64;
+    for k in 0..file.len().min(44) {
+        refused += refused_at(file, k);
     }
-    yes
+    refused
 }
 
-// The question put to a file with a byte too many at its end.
-fn answer(question: u8, file: &mut [u8]) -> u64
-    ensures { result ≤ 11220 }
+// What is answered for the files of all cases, each with a byte too many at its end.
+fn count<F: Fn(&mut [u8]) -> u64>(alloc: Global, ask: F) -> io::Result<u64>
+    requires { F.IsAlwaysCallable ask }
 {
-    let n = file.len() as u64;
-    if n < 45 {
-        return 0;
+    let mut all = 0u64;
+    for case in case::all() {
+        let bytes = case.samples(alloc)?;
+        let mut file = case.room(alloc)?;
+        let answer = wav_format::write(case.pcm_rate(), case.channels, &bytes, &mut file);
+        if answer.is_ok() {
+            file.push(0)?;
+            all = all.saturating_add(ask(&mut file));
+        }
     }
-    let whole = test_support::of_bytes(n - 1, file);
-    let short = test_support::of_bytes(n - 2, file);
-    match question {
-        0 => header_refused(&mut file[..whole]),
-        1 => one(refused(&file[..short])),
-        _ => one(refused(file)),
-    }
+    Ok(all)
 }
 
-// The file of a case.
-fn made(c: Case, bytes: &mut [u8], file: &mut [u8]) -> bool {
-    case::fill(bytes);
-    let v = wav_format::write(case::rate(c), case::channels(c), bytes, file);
-    test_support::is(test_support::verdict(v), 0, 0, 0)
+// A file without its last bytes.
+fn without(file: &mut [u8], n: usize) -> &mut [u8] {
+    let left = file.len().saturating_sub(n);
+    &mut file[..left]
 }
 
-// A case in lists that have room for it and a byte more.
-fn in_room(question: u8, c: Case, bytes: &mut [u8], file: &mut [u8]) -> u64
-    ensures { result ≤ 11220 }
-{
-    let n = case::size(c);
-    let longer = 45 + n;
-    let b = test_support::of_bytes(n, bytes);
-    let f = test_support::of_bytes(44 + n, file);
-    if made(c, &mut bytes[..b], &mut file[..f]) {
-        let l = test_support::of_bytes(longer, file);
-        return answer(question, &mut file[..l]);
-    }
-    0
-}
-
-fn tried(question: u8, i: u64) -> u64
-    ensures { result ≤ 11220 }
-{
-    let mut bytes = [0u8; 84672];
-    let mut file = [0u8; 84717];
-    in_room(question, case::nth(i), &mut bytes, &mut file)
-}
-
-fn count(question: u8) -> u64 {
-    let mut yes = 0u64;
-    let mut i = 0u64;
-    while i < 24 {
-        yes += tried(question, i);
-        i += 1;
-    }
-    yes
-}
-
-pub fn damaged(rt: &impl Print) -> io::Result<()> {
-    test_support::right(rt, b"changed header bytes refused ", 269280, count(0))?;
-    test_support::right(rt, b"a byte short ", 24, count(1))?;
-    test_support::right(rt, b"a byte long ", 24, count(2))
+pub fn damaged<R: Print + AllocGlobal>(rt: &R) -> io::Result<()> {
+    let changed = count(rt.alloc(), |file| header_refused(without(file, 1)))?;
+    println!(rt; "changed header bytes refused 269280 right {changed}")?;
+    let short = count(rt.alloc(), |file| u64::from(is_refused(without(file, 2))))?;
+    println!(rt; "a byte short 24 right {short}")?;
+    let long = count(rt.alloc(), |file| u64::from(is_refused(file)))?;
+    println!(rt; "a byte long 24 right {long}")
 }

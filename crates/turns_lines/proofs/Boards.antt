@@ -2,6 +2,7 @@
 use mathlib.Core.Path.{◌≡◌, refl, sym, ap, ap₂, ◌∙◌}
 use mathlib.Core.Bool.{Bool, true, false, ◌&&◌}
 use mathlib.Core.List.{List}
+use Rattle.std.specs.Prelude.{Result}
 use Prim.Native.Nat.{ℕ, ◌≤◌}
 use native.Mathlib.Omega.{arith}
 use borrow.Author.Tests.{eq-eqb}
@@ -9,7 +10,7 @@ use lib.IntN.{ℤ}
 use lib.ListN.{length}
 use Rattle.numbers.proofs.Lists.{length_tabulate}
 use Rattle.reference.specs.Refusals.{decision, accepted, is_accepted}
-use Rattle.reference.specs.declared.Verdict.{Verdict}
+use Rattle.reference.specs.declared.PcmError.{PcmError}
 use Rattle.reference.proofs.Promises.{exit_accepted}
 use Rattle.level_lines.specs.Lines.{refused_line}
 use Rattle.schedule.specs.Turns.{board, in_range}
@@ -26,7 +27,7 @@ pub record Told (frames dues : List ℕ) (turn : ℕ) (finishes' : List ℕ) (la
   pub few : length finishes' ≤ 8
   pub same : length late' ≡ length finishes'
 
-module _ {frames dues : List ℕ} {turn : ℕ} {finishes : List ℕ} {late : List ℤ} {finishes' : List ℕ} {late' : List ℤ} {v : Verdict} (p : SimulatePromise frames dues turn finishes late finishes' late' v) where
+module _ {frames dues : List ℕ} {turn : ℕ} {finishes : List ℕ} {late : List ℤ} {finishes' : List ℕ} {late' : List ℤ} {v : Result (Unit {0}) PcmError} (p : SimulatePromise frames dues turn finishes late finishes' late' v) where
   pub told : decision v ≡ accepted → Told frames dues turn finishes' late'
   unfolding board_answer
   told e =

@@ -1,6 +1,6 @@
 -- Lines that are printed one after the other.
 use mathlib.Core.Path.{◌≡◌, refl, ap, ap₂, ◌∙◌}
-use mathlib.Core.List.{List, ◌++◌}
+use mathlib.Core.List.{List, [], ◌∷◌, ◌++◌}
 use Prim.Native.Nat.{ℕ, ◌+◌, ◌-◌, ◌≤◌, ◌<◌}
 use native.Mathlib.Nat.{zero-add}
 use native.Mathlib.Numerals.{add-one}
@@ -11,21 +11,29 @@ use lib.Seq.{take_at}
 use Rattle.numbers.specs.Lists.{tabulate}
 use Rattle.numbers.proofs.Lists.{tabulate_same, length_tabulate, get_d_tabulate}
 use Rattle.level_lines.specs.Text.{joined, with_text, Printed}
-use Rattle.level_lines.proofs.Printing.{then, joined_last}
+use Rattle.level_lines.specs.Lines.{printed}
+use Rattle.level_lines.specs.Writing.{Prints}
+use Rattle.level_lines.specs.declared.text.Text.{Text}
+use Rattle.level_lines.proofs.Printing.{joined_last, line}
+use Rattle.level_lines.proofs.Writing.{both}
 use Rattle.schedule.specs.Turns.{Board, simulated, finish_in, lateness_in, greatest_lateness}
 use Rattle.schedule.proofs.Calls.{greatest_same}
 use Rattle.turns_lines.specs.Lines.{album_line, latest_line, turns_lines}
 use Rattle.turns_lines.specs.Steps.{lines_of}
 
 -- nothing is printed yet
-pub nothing : (f : ℕ → List ℕ) (l : List ℕ) → Printed (joined (tabulate f 0 0)) l 0 l 0
+pub nothing : (f : ℕ → List ℕ) (t : Text) → t.at ≡ 0 → Prints (joined (tabulate f 0 0)) t t
 unfolding joined tabulate with_text
-nothing f l = record { written = refl; after = refl }
+nothing f t z = record { same_reference = refl; same_length = refl; printed = rw z (record { written = refl; after = refl }) }
 
 -- one line more
-pub one_more : (f : ℕ → List ℕ) (a : ℕ) {old mid new : List ℕ} {at m n : ℕ} → Printed (joined (tabulate f 0 a)) old at mid m → Printed (f a) mid m new n → Printed (joined (tabulate f 0 (a + 1))) old at new n
+pub one_more : (f : ℕ → List ℕ) (a : ℕ) {x y z : Text} → Prints (joined (tabulate f 0 a)) x y → Prints (f a) y z → Prints (joined (tabulate f 0 (a + 1))) x z
 unfolding tabulate
-one_more f a p q = rw (add-one, zero-add a, ← joined_last (tabulate f 0 a) (f a)) (then p q)
+one_more f a p q = rw (add-one, zero-add a, ← joined_last (tabulate f 0 a) (f a)) (both p q)
+
+-- texts and a newline
+pub lined : (ts : List (List ℕ)) {x y : Text} → Prints (joined (ts ++ ((10 ∷ []) ∷ []))) x y → Prints (printed ts) x y
+lined ts p = record { same_reference = p.same_reference; same_length = p.same_length; printed = line ts p.printed }
 
 -- what is printed at the start
 pub at_start : {t old new : List ℕ} {n : ℕ} → Printed t old 0 new n → take n new ≡ t

@@ -1,5 +1,6 @@
 -- What the steps of reading a board and of printing its answer promise. A number above 1,000,000 is in no range: it is read as 1,000,001, whatever it is.
-use Rattle.std.specs.Prelude.{◌≡◌, List, ◌∷◌, ◌++◌, map, cond, ℕ, ◌+◌, ◌-◌, ◌≤◌, ◌<◌, ltb, ℤ, pos, length, take, drop, get_or}
+use Rattle.std.specs.Prelude.{◌≡◌, List, ◌∷◌, ◌++◌, map, cond, ℕ, ◌-◌, ◌≤◌, ltb, ℤ, pos, Option, Some, length, take, get_or, MatchOption}
+use denote.Ref.{Bor}
 use Rattle.numbers.specs.Lists.{tabulate}
 use Rattle.level_lines.specs.Text.{text, joined, decimal, Printed}
 use Rattle.schedule.specs.Turns.{board, greatest}
@@ -14,31 +15,33 @@ pub record Number (t : List ℕ) (r : ℕ) : Type 0 where
   pub is : t ≡ decimal n
   pub cap : r ≡ capped n
 
--- the number that a text is; 1,000,002 for any other text
-pub record NumberRead (t : List ℕ) (r : ℕ) : Type 0 where
-  pub takes : (n : ℕ) → t ≡ decimal n → r ≡ capped n
-  pub takes_only : r ≤ 1000001 → Number t r
+-- the number that a text is, if it is one
+pub record NumberRead (t : List ℕ) (r : Option ℕ) : Type 0 where
+  pub takes : (n : ℕ) → t ≡ decimal n → r ≡ Some (capped n)
+  pub takes_only : (m : ℕ) → r ≡ Some m → Number t m
 
--- a number and the byte that ends it, from place `at` on; `next` is the place after it
-pub record Ended (t : List ℕ) (at end r next : ℕ) : Type 0 where
+-- a text that begins with a number and the byte that ends it, and what is left of it
+pub record Field (end : ℕ) (t : List ℕ) (r : ℕ) (rest : List ℕ) : Type 0 where
   pub n : ℕ
-  pub is : drop at t ≡ decimal n ++ (end ∷ drop next t)
+  pub is : t ≡ decimal n ++ (end ∷ rest)
   pub cap : r ≡ capped n
-  pub on : at + 2 ≤ next
+  pub takes : (n' : ℕ) (rest' : List ℕ) → t ≡ decimal n' ++ (end ∷ rest') → (r ≡ capped n') × (rest ≡ rest')
 
-pub record FieldRead (t : List ℕ) (at end r next : ℕ) : Type 0 where
-  pub within : next ≤ length t
-  pub takes : (n : ℕ) (rest : List ℕ) → drop at t ≡ decimal n ++ (end ∷ rest) → (r ≡ capped n) × (drop next t ≡ rest)
-  pub takes_only : r ≤ 1000001 → Ended t at end r next
+abbrev pub NoField : ℕ → List ℕ → Type 0
+NoField end t = (n : ℕ) (rest : List ℕ) → t ≡ decimal n ++ (end ∷ rest) → ⊥
 
--- albums by their lines, to the text's end: how many, and their numbers in lists; 1,000 if there is another text
+abbrev pub FieldRead : ℕ → List ℕ → Option (ℕ × Bor (List ℕ)) → Type 0
+FieldRead end t r = MatchOption r (NoField end t) (λ p. Field end t p.0 p.1.now)
+
+-- albums by their lines, to the text's end: how many, and their numbers in lists, if the text is those of some
 pub record SomeAlbums (t : List ℕ) : Type 0 where
   pub albums : List Album
   pub is : t ≡ album_lines albums
 
-pub record AlbumsRead (t : List ℕ) (r : ℕ) (frames dues : List ℕ) : Type 0 where
-  pub takes : (albums : List Album) → t ≡ album_lines albums → (r ≡ length albums) × (r ≤ 256) × (take r frames ≡ map (λ a. capped a.frames) albums) × (take r dues ≡ map (λ a. capped a.due) albums)
-  pub takes_only : r < 1000 → SomeAlbums t
+pub record AlbumsRead (t : List ℕ) (r : Option ℕ) (frames dues : List ℕ) : Type 0 where
+  pub takes : (albums : List Album) → t ≡ album_lines albums
+      → (r ≡ Some (length albums)) × (length albums ≤ 256) × (take (length albums) frames ≡ map (λ a. capped a.frames) albums) × (take (length albums) dues ≡ map (λ a. capped a.due) albums)
+  pub takes_only : (n : ℕ) → r ≡ Some n → SomeAlbums t
 
 -- ---- printing
 

@@ -4,7 +4,6 @@
 ghost use Rattle.std.specs.Prelude.{◌≡◌, ◌-◌, ◌≤◌, length, get_or};
 ghost use Rattle.numbers.specs.Lists.{Wrote};
 
-use dsf_frames::lesser_of;
 use dsf_upload::{Upload, give_up_header};
 use level_input::read_some;
 use std::io;
@@ -16,22 +15,9 @@ fn keep(head: &mut [u8], known: usize, bytes: &[u8]) -> usize
     ensures lower_bound { (known ≤ result) × (result ≤ length head.old) }
     ensures wrote { Wrote 0 (λ k. get_or bytes.now k 0) known (result - known) head.old head.new }
 {
-    let room = head.len() - known;
-    let more = lesser_of(room as u64, bytes.len() as u64) as usize;
-    let mut k = 0usize;
-    while k < more {
-        head[known + k] = bytes[k];
-        k += 1;
-    }
+    let more = bytes.len().min(head.len() - known);
+    head[known..known + more].copy_from_slice(&bytes[..more]);
     known + more
-}
-
-fn is_hopeless(answer: Upload) -> bool {
-    match answer {
-        Upload::Accepted => false,
-        Upload::Unfinished => false,
-        Upload::GiveUp(_) => true,
-    }
 }
 
 fn say<W: Write>(answer: Upload, to: &mut W) -> io::Result<()> {
@@ -53,9 +39,8 @@ fn watch_in<R: Read, W: Write>(
 {
     let mut known = 0usize;
     let mut total = 0u64;
-    // A loop has to end, and nothing says that an input does: so it counts down, from a number that no input uses up.
-    let mut more = 2_000_000_000_000_000u64;
-    while more > 0 {
+    // A loop has to end, and nothing says that an input does: so there is a number of turns, which no input uses up.
+    for _ in 0..2_000_000_000_000_000u64 {
         let n = read_some(from, bytes, 0)?;
         if n == 0 {
             return say(give_up_header(&head[..known], total), to);
@@ -63,10 +48,9 @@ fn watch_in<R: Read, W: Write>(
         known = keep(head, known, &bytes[..n]);
         total += n as u64;
         let answer = give_up_header(&head[..known], total);
-        if is_hopeless(answer) {
+        if matches!(answer, Upload::GiveUp(_)) {
             return say(answer, to);
         }
-        more -= 1;
     }
     Ok(())
 }

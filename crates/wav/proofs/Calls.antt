@@ -11,8 +11,7 @@ use borrow.Fn.Kinds.{Dens, res_t, ended_of}
 use denote.Triple.Entry.{Args, Res}
 use denote.Triple.Clauses.{AtExit}
 use denote.Triple.Spec.{exits}
-use Rattle.reference.specs.Frames.{run}
-use Rattle.scarletbook_pcm.specs.Calls.{run_of}
+use Rattle.reference.specs.Frames.{run, run_of}
 use Rattle.wav.specs.Promises.{WavPromise}
 use Rattle.wav.specs.Joined.{WavCall}
 use Rattle.wav.proofs.convert_parts.Kinds as kinds

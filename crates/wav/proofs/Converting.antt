@@ -1,7 +1,8 @@
--- What the converting writer leaves, from its verdict and from what `convert` leaves behind the header.
-use mathlib.Core.Path.{◌≡◌, sym, ap, ◌∙◌}
-use mathlib.Core.List.{List, ◌++◌}
-use mathlib.Core.Bool.{Bool, false}
+-- What the converting writer leaves, from its places and from what `convert` leaves behind the header.
+use mathlib.Core.Path.{◌≡◌, refl, sym, ap, ◌∙◌}
+use Rattle.std.specs.Prelude.{Option, Err, unwrap_or}
+use mathlib.Core.List.{List, [], ◌++◌}
+use mathlib.Core.Bool.{Bool, true, false}
 use Prim.Native.Nat.{ℕ, ◌-◌, ◌*◌, ◌≤◌}
 use native.Mathlib.Omega.{arith}
 use lib.ListN.{length, take, drop, length-drop, length-append}
@@ -9,40 +10,56 @@ use lib.Seq.{length-take-le}
 use borrow.Rule.Slice.PartMut.{put_mid}
 use Rattle.numbers.proofs.Lists.{length_tabulate}
 use Rattle.interface.specs.Codes.{hertz}
-use Rattle.reference.specs.Frames.{Run}
+use Rattle.reference.specs.Frames.{Run, if_there}
 use Rattle.reference.specs.Output.{all_samples, samples, stats, per_frame_clips, s24le}
-use Rattle.reference.specs.Refusals.{Decision, accepted, decision, decide, is_accepted, rack, convert_places}
-use Rattle.reference.specs.Promises.{if_lent, ConvertPromise}
+use Rattle.reference.specs.Refusals.{Decision, accepted, error_decision, decide, is_accepted, if_present, rack, convert_places}
+use Rattle.reference.specs.Promises.{Converted, stats_told, if_lent, ConvertPromise}
 use Rattle.reference.specs.Statistics.{no_stats}
 use Rattle.reference.specs.declared.Converter.{Converter}
-use Rattle.reference.specs.declared.Converted.{Converted}
-use Rattle.reference.specs.declared.Verdict.{Verdict}
-use Rattle.reference.specs.declared.ConvertStats.{ConvertStats}
+use Rattle.reference.specs.declared.PcmError.{PcmError}
+use Rattle.reference.proofs.Refusals.{error_refuses}
 use Rattle.reference.proofs.Promises.{exit_accepted, exit_refused}
-use Rattle.wav_format.specs.Wav.{header, wav_file}
+use Rattle.wav_format.specs.Wav.{header, wav_file, most_data}
 use Rattle.wav_format.proofs.Reading.{length_header}
 use Rattle.wav_format.proofs.Writing.{whole}
-use Rattle.wav_checks.specs.Places.{data_size, wav_places}
-use Rattle.wav_checks.proofs.Accepted.{length_of, long_enough, convert_takes}
+use Rattle.wav_checks.specs.Places.{data_size, wav_lengths, wav_places}
+use Rattle.wav_checks.proofs.Accepted.{length_of, long_enough, two_channels, rest_told, convert_takes}
 use Rattle.wav.specs.Promises.{WavPromise}
 
 pub length_data : (conv : Converter) (r : Run) → length (s24le (samples conv r)) ≡ data_size conv r
 unfolding s24le samples data_size
 length_data conv r = length_tabulate _ 0 (3 * length (samples conv r)) ∙ ap (λ (n : ℕ). 3 * n) (length_tabulate _ 0 (all_samples conv r))
 
-module _ (conv : Converter) (r : Run) (lent : Bool) (out counts : List ℕ) (v : Verdict) (decided : decision v ≡ decide (wav_places conv r out lent counts)) where
+-- what is asked of counts that are lent, or not, is what is asked of the list and the flag
+lent_places : (conv : Converter) (r : Run) (lent : Bool) (out counts : List ℕ) (b : Bool) (o : Option (List ℕ)) → (b ≡ lent) × (o ≡ if_there lent counts)
+    → decide (wav_places conv r out b (unwrap_or o [])) ≡ decide (wav_places conv r out lent counts)
+unfolding wav_places wav_lengths if_present if_there
+lent_places conv r true out counts b o e = rw (e.0, e.1) refl
+lent_places conv r false out counts b o e = rw e.0 refl
+
+module _ (conv : Converter) (r : Run) (lent : Bool) (out counts : List ℕ) where
   abbrev dd : Decision
   dd = decide (wav_places conv r out lent counts)
 
-  pub wav_refused : is_accepted dd ≡ false → (told : ConvertStats) → told ≡ no_stats → WavPromise conv r lent out counts out counts (record { verdict = v; stats = told })
-  wav_refused down told e =
+  pub refused_call : (b : Bool) (o : Option (List ℕ)) → (b ≡ lent) × (o ≡ if_there lent counts) → (e : PcmError) → error_decision e ≡ decide (wav_places conv r out b (unwrap_or o []))
+      → WavPromise conv r lent out counts out counts (Err e)
+  unfolding stats_told
+  refused_call b o t e h =
+      let no : error_decision e ≡ dd = h ∙ lent_places conv r lent out counts b o t in
+      let down : is_accepted dd ≡ false = ap is_accepted (sym no) ∙ error_refuses e in
       record {
-        answered = record { decided = decided; counted = e ∙ sym (exit_refused dd (stats conv r) no_stats down) };
+        answered = record { decided = no; counted = sym (exit_refused dd (stats conv r) no_stats down) };
         written = sym (exit_refused dd (wav_file conv.rate conv.channels (s24le (samples conv r))) out down);
         per_frame = sym (exit_refused dd (if_lent lent (per_frame_clips conv r) counts) counts down);
       }
 
-  module _ (ok : dd ≡ accepted) where
+  module _ (b : Bool) (o : Option (List ℕ)) (t : (b ≡ lent) × (o ≡ if_there lent counts)) (accepts : accepted ≡ decide (wav_places conv r out b (unwrap_or o []))) where
+    ok : dd ≡ accepted
+    ok = sym (accepts ∙ lent_places conv r lent out counts b o t)
+
+    pub fits_header : (conv.channels ≤ 2) × (length out - 44 ≤ most_data) × (44 ≤ length out)
+    fits_header = (two_channels conv r out lent counts ok, rest_told conv r out lent counts ok, long_enough conv r out lent counts ok)
+
     -- what `convert` leaves in a part of the right length
     module _ (part part' counts' : List ℕ) (a : Converted) (n : length part ≡ data_size conv r) (p : ConvertPromise conv r lent part counts part' counts' a) where
       takes : decide (convert_places rack conv r part lent counts) ≡ accepted
@@ -51,16 +68,19 @@ module _ (conv : Converter) (r : Run) (lent : Bool) (out counts : List ℕ) (v :
       pub part_is : part' ≡ s24le (samples conv r)
       part_is = p.written ∙ exit_accepted _ (s24le (samples conv r)) part takes
 
-      pub wav_promise : (out' : List ℕ) → out' ≡ wav_file conv.rate conv.channels (s24le (samples conv r)) → WavPromise conv r lent out counts out' counts' (record { verdict = v; stats = a.stats })
+      pub wav_promise : (out' : List ℕ) → out' ≡ wav_file conv.rate conv.channels (s24le (samples conv r)) → WavPromise conv r lent out counts out' counts' a
       wav_promise out' w =
           record {
-            answered = record { decided = decided; counted = p.answered.counted ∙ exit_accepted _ (stats conv r) no_stats takes ∙ sym (exit_accepted dd (stats conv r) no_stats ok) };
+            answered = record {
+              decided = p.answered.decided ∙ takes ∙ sym ok;
+              counted = p.answered.counted ∙ exit_accepted _ (stats conv r) no_stats takes ∙ sym (exit_accepted dd (stats conv r) no_stats ok);
+            };
             written = w ∙ sym (exit_accepted dd (wav_file conv.rate conv.channels (s24le (samples conv r))) out ok);
             per_frame = p.per_frame ∙ exit_accepted _ (if_lent lent (per_frame_clips conv r) counts) counts takes ∙ sym (exit_accepted dd (if_lent lent (per_frame_clips conv r) counts) counts ok);
           }
 
     -- the header is put, then `convert` works on the part behind it
-    module _ (mid part' counts' : List ℕ) (a : Converted) (put : mid ≡ header (hertz conv.rate) conv.channels (length out - 44) ++ drop 44 out) where
+    module _ (mid : List ℕ) (put : mid ≡ header (hertz conv.rate) conv.channels (length out - 44) ++ drop 44 out) where
       mid_length : length mid ≡ length out
       mid_length =
           let h = header (hertz conv.rate) conv.channels (length out - 44) in
@@ -74,10 +94,10 @@ module _ (conv : Converter) (r : Run) (lent : Bool) (out counts : List ℕ) (v :
           length-take-le (length mid - 44) (drop 44 mid) (omega (arith, length-drop 44 mid))
           ∙ omega (arith, mid_length, length_of conv r out lent counts ok)
 
-      pub converted : ConvertPromise conv r lent (take (length mid - 44) (drop 44 mid)) counts part' counts' a
-          → WavPromise conv r lent out counts (put_mid 44 (length mid - 44) mid part') counts' (record { verdict = v; stats = a.stats })
+      pub converted : (part' counts' : List ℕ) (a : Converted) → ConvertPromise conv r lent (take (length mid - 44) (drop 44 mid)) counts part' counts' a
+          → WavPromise conv r lent out counts (put_mid 44 (length mid - 44) mid part') counts' a
       unfolding wav_file
-      converted p =
+      converted part' counts' a p =
           let part = take (length mid - 44) (drop 44 mid) in
           let h = header (hertz conv.rate) conv.channels (length (s24le (samples conv r))) in
           let n : length out - 44 ≡ length (s24le (samples conv r)) = omega (arith, length_data conv r, length_of conv r out lent counts ok) in

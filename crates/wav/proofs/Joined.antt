@@ -2,16 +2,16 @@
 use mathlib.Core.Path.{◌≡◌, refl, sym, ap, ap₂, ◌∙◌}
 use mathlib.Core.List.{List, [], ◌∷◌, ◌++◌, map, flat_map}
 use mathlib.Core.Bool.{Bool, true, false, cond}
+use Rattle.std.specs.Prelude.{Ok}
 use Prim.Native.Nat.{ℕ}
 use native.Mathlib.Omega.{arith}
 use lib.ListN.{drop, length-drop}
 use Rattle.reference.specs.Frames.{Run}
 use Rattle.reference.specs.Output.{samples, stats, per_frame_clips, s24le}
 use Rattle.reference.specs.Refusals.{rack, accepted, decide, is_accepted, held_places, convert_places}
-use Rattle.reference.specs.Promises.{if_lent}
+use Rattle.reference.specs.Promises.{stats_told, if_lent}
 use Rattle.reference.specs.Statistics.{no_stats}
 use Rattle.reference.specs.declared.Converter.{Converter}
-use Rattle.reference.specs.declared.Verdict.TheVariants.{Accepted}
 use Rattle.reference.proofs.Refusals.{decide_skip}
 use Rattle.reference.proofs.Promises.{accepted_is, exit_accepted}
 use Rattle.joins.specs.Joins.{Call, convert, right_lengths, is_answered_accepted, run_of, samples_of, read_s24le, keep, pieces, accepted_calls}
@@ -47,6 +47,7 @@ module _ {conv : Converter} where
         ∙ data_is conv.rate conv.channels (s24le (samples conv c.run))
 
     as_call : Call conv
+    unfolding stats_told
     as_call = convert record {
       whose = rack;
       run = c.run;
@@ -55,7 +56,7 @@ module _ {conv : Converter} where
       counts = c.counts;
       out' = drop 44 c.out';
       counts' = c.counts';
-      answer = record { verdict = Accepted; stats = c.answer.stats };
+      answer = Ok (stats_told c.answer);
       promise = record {
         answered = record {
           decided = sym takes;

@@ -1,6 +1,7 @@
 -- A file made from a run is read back, and the writer's promise leaves nothing free.
 use mathlib.Core.Path.{◌≡◌, sym, ap, subst, ◌∙◌}
 use mathlib.Core.List.{List}
+use Rattle.std.specs.Prelude.{Result, Ok}
 use mathlib.Core.Bool.{Bool}
 use Prim.Native.Nat.{ℕ, ◌*◌}
 use native.Mathlib.Omega.{arith}
@@ -8,15 +9,14 @@ use lib.ListN.{length}
 use Rattle.reference.specs.Frames.{Run, frame_count}
 use Rattle.reference.specs.Output.{samples_per_frame, channel_samples, all_samples, samples, s24le}
 use Rattle.reference.specs.Refusals.{rack, accepted, decision, decide}
+use Rattle.reference.specs.Promises.{Converted}
 use Rattle.reference.specs.declared.Converter.{Converter}
-use Rattle.reference.specs.declared.Converted.{Converted}
-use Rattle.reference.specs.declared.Verdict.TheVariants as verdict
 use Rattle.reference.proofs.Refusals.{some_channel, few_frames}
-use Rattle.reference.proofs.Promises.{exit_accepted, decision_exact}
+use Rattle.reference.proofs.Promises.{exit_accepted, answers_exact}
 use Rattle.wav_format.specs.Wav.{wav_file, frame_size, Right}
 use Rattle.wav_format.specs.Promises.{ReadPromise, file_samples}
-use Rattle.wav_format.specs.declared.WavRead.{WavRead}
-use Rattle.wav_format.specs.declared.WavRead.TheVariants as answer
+use Rattle.wav_format.specs.declared.WavFormat.{WavFormat}
+use Rattle.reference.specs.declared.PcmError.{PcmError}
 use Rattle.wav_format.proofs.Theorems.{format, read_back, samples_back}
 use Rattle.wav_checks.specs.Places.{data_size, wav_places}
 use Rattle.wav.specs.Promises.{WavPromise}
@@ -45,9 +45,9 @@ run_right conv r lent out counts ok =
 
 -- written, then read: rate, channels, and `convert`'s bytes
 pub converted_read : (conv : Converter) (r : Run) (lent : Bool) (out counts out' counts' : List ℕ) (done : Converted) → WavPromise conv r lent out counts out' counts' done
-    → done.verdict ≡ verdict.Accepted → (a : WavRead) → ReadPromise out' a → (a ≡ answer.Wav (format conv.rate conv.channels)) × (file_samples out' ≡ s24le (samples conv r))
+    → decision done ≡ accepted → (a : Result WavFormat PcmError) → ReadPromise out' a → (a ≡ Ok (format conv.rate conv.channels)) × (file_samples out' ≡ s24le (samples conv r))
 converted_read conv r lent out counts out' counts' done w v a p =
-    let ok : decide (wav_places conv r out lent counts) ≡ accepted = sym w.answered.decided ∙ ap decision v in
+    let ok : decide (wav_places conv r out lent counts) ≡ accepted = sym w.answered.decided ∙ v in
     let h = run_right conv r lent out counts ok in
     let l = s24le (samples conv r) in
     let e : out' ≡ wav_file conv.rate conv.channels l = w.written ∙ exit_accepted _ (wav_file conv.rate conv.channels l) out ok in
@@ -56,6 +56,4 @@ converted_read conv r lent out counts out' counts' done w v a p =
 pub wav_exact : (conv : Converter) (r : Run) (lent : Bool) (out counts o o' c c' : List ℕ) (a b : Converted)
     → WavPromise conv r lent out counts o c a → WavPromise conv r lent out counts o' c' b → (a ≡ b) × (o ≡ o') × (c ≡ c')
 wav_exact conv r lent out counts o o' c c' a b p q =
-    let v = decision_exact a.verdict b.verdict (p.answered.decided ∙ sym q.answered.decided) in
-    let s = p.answered.counted ∙ sym q.answered.counted in
-    (λ i. record { verdict = v i; stats = s i }, p.written ∙ sym q.written, p.per_frame ∙ sym q.per_frame)
+    (answers_exact a b (p.answered.decided ∙ sym q.answered.decided) (p.answered.counted ∙ sym q.answered.counted), p.written ∙ sym q.written, p.per_frame ∙ sym q.per_frame)

@@ -3,13 +3,13 @@ use Rattle.std.specs.Prelude.{◌≡◌, Bool, true, ℕ, drop}
 use mathlib.Core.List.{List, map, flat_map}
 use Rattle.reference.specs.Frames.{Run, sequence}
 use Rattle.reference.specs.Refusals.{decision, decide, is_accepted}
+use Rattle.reference.specs.Promises.{Converted}
 use Rattle.reference.specs.Output.{samples, s24le}
 use Rattle.reference.specs.declared.Converter.{Converter}
 use Rattle.joins.specs.Joins.{Call, samples_of, accepted_calls, JoinTo, keep, AllAgree, AcceptedConverter, AcceptedRun}
 use Rattle.wav_format.specs.Wav.{wav_file}
 use Rattle.wav_checks.specs.Places.{wav_places}
 use Rattle.wav.specs.Promises.{WavPromise}
-use Rattle.reference.specs.declared.Converted.{Converted}
 
 -- a call of the converting writer: what it was given, what the lent lists held at entry and at exit, its answer, and its promise
 pub record WavCall (conv : Converter) : Type 0 where
@@ -29,7 +29,7 @@ module _ {conv : Converter} where
 
   -- the answer is an acceptance
   unfoldable pub made : WavCall conv → Bool
-  made c = is_accepted (decision c.answer.verdict)
+  made c = is_accepted (decision c.answer)
 
   -- what stands behind the header
   abbrev pub data_of : WavCall conv → List ℕ

@@ -3,9 +3,8 @@ use Rattle.std.specs.Prelude.{◌≡◌, List, Bool, ℕ}
 use Rattle.reference.specs.Frames.{Run}
 use Rattle.reference.specs.Output.{samples, per_frame_clips, s24le}
 use Rattle.reference.specs.Refusals.{decide}
-use Rattle.reference.specs.Promises.{by_decision, if_lent, Answered}
+use Rattle.reference.specs.Promises.{by_decision, if_lent, Converted, Answered}
 use Rattle.reference.specs.declared.Converter.{Converter}
-use Rattle.reference.specs.declared.Converted.{Converted}
 use Rattle.wav_format.specs.Wav.{wav_file}
 use Rattle.wav_checks.specs.Places.{wav_places}
 

@@ -1,18 +1,16 @@
--- What the places of a WAV file from a run decide, and what an accepted call has.
+-- What an accepted call has.
 use mathlib.Core.Path.{◌≡◌, sym, ap, ◌∙◌}
 use mathlib.Core.List.{List, [], ◌∷◌, ◌++◌}
-use mathlib.Core.Bool.{Bool, true, false, not, ◌&&◌}
-use mathlib.Core.Logic.{◌≢◌}
-use Prim.Native.Nat.{ℕ, ◌+◌, ◌-◌, ◌*◌, ◌≤◌}
+use mathlib.Core.Bool.{Bool, true, not, ◌&&◌}
+use Prim.Native.Nat.{ℕ, ◌+◌, ◌-◌, ◌≤◌}
 use native.Mathlib.Omega.{arith}
-use borrow.Author.Tests.{eq-eqb, ne_eqb, eqb-true, leb-true, not-false}
+use borrow.Author.Tests.{eq-eqb, eqb-true, leb-true, not-false}
 use lib.Dec.{leb}
 use lib.ListN.{length}
 use Rattle.reference.specs.Frames.{Run, frame_count}
-use Rattle.reference.specs.Output.{samples_per_frame, channel_samples, all_samples}
-use Rattle.reference.specs.Refusals.{Decision, accepted, refused, number, decide, if_present, lent_length, rack, held_places, input_places, byte_lengths, convert_places}
+use Rattle.reference.specs.Refusals.{Decision, accepted, decide, if_present, lent_length, rack, held_places, input_places, byte_lengths, convert_places}
 use Rattle.reference.specs.declared.Converter.{Converter}
-use Rattle.reference.proofs.Refusals.{at_first, at_next, pass, decide_first, decide_skip, present_holds, present_passes, absent_passes}
+use Rattle.reference.proofs.Refusals.{at_next, pass, decide_first, decide_skip}
 use Rattle.wav_format.specs.Wav.{most_data}
 use Rattle.byte_lists.proofs.Same.{and_left, and_right}
 use Rattle.wav_checks.specs.Places.{too_large, data_size, wav_lengths, wav_places}
@@ -20,41 +18,6 @@ use Rattle.wav_checks.specs.Places.{too_large, data_size, wav_lengths, wav_place
 module _ (conv : Converter) (r : Run) (out : List ℕ) (lent : Bool) (counts : List ℕ) where
   abbrev d : Decision
   d = decide (wav_places conv r out lent counts)
-
-  -- ---- the places in turn, from the run's on; s samples
-
-  module _ (opens : decide (held_places conv) ≡ accepted) (fits : decide (input_places rack conv r) ≡ accepted)
-      (s : ℕ) (e : s ≡ frame_count conv.channels r.frames * samples_per_frame conv.rate * conv.channels) where
-    is_size : data_size conv r ≡ 3 * s
-    unfolding data_size all_samples channel_samples
-    is_size = ap (λ (n : ℕ). 3 * n) (sym e)
-
-    past_run : d ≡ decide (wav_lengths conv r out lent counts)
-    unfolding wav_places
-    past_run = decide_skip (held_places conv) _ opens ∙ decide_skip (input_places rack conv r) _ fits
-
-    pub wrong_length : length out ≢ 44 + 3 * s → refused 7 (number (length out) ∷ number (44 + 3 * s) ∷ []) ≡ d
-    unfolding wav_lengths lent_length
-    wrong_length n = sym (past_run ∙ rw is_size (at_first _ _ (ap not (ne_eqb _ _ n))))
-
-    module _ (right : length out ≡ 44 + 3 * s) where
-      past_length : d ≡ decide (if_present lent (lent_length 8 (length counts) (frame_count conv.channels r.frames)) ++ (too_large conv.channels (3 * s) ∷ []))
-      unfolding wav_lengths lent_length
-      past_length = past_run ∙ rw is_size (at_next _ _ (ap not (eq-eqb _ _ right)))
-
-      pub wrong_counts : lent ≡ true → length counts ≢ frame_count conv.channels r.frames
-          → refused 8 (number (length counts) ∷ number (frame_count conv.channels r.frames) ∷ []) ≡ d
-      unfolding lent_length
-      wrong_counts t n = sym (past_length ∙ present_holds _ lent _ t (ap not (ne_eqb _ _ n)))
-
-      pub past_counts : lent ≡ true → length counts ≡ frame_count conv.channels r.frames → decide (too_large conv.channels (3 * s) ∷ []) ≡ d
-      unfolding lent_length
-      past_counts t n = sym (past_length ∙ present_passes _ lent _ t (ap not (eq-eqb _ _ n)))
-
-      pub not_lent : lent ≡ false → decide (too_large conv.channels (3 * s) ∷ []) ≡ d
-      not_lent t = sym (past_length ∙ absent_passes _ lent _ t)
-
-  -- ---- an accepted call
 
   module _ (ok : d ≡ accepted) where
     pub opens_of : decide (held_places conv) ≡ accepted

@@ -11,7 +11,7 @@ use lib.Dec.{eqb, leb}
 use lib.ListN.{length, get_or, take, drop, take-append-drop, length-append, length-drop}
 use lib.Seq.{take_at, drop_at, get_or-take}
 use Rattle.level_lines.specs.Text.{text, joined}
-use Rattle.interface.specs.Codes.{hertz}
+use Rattle.reference.specs.Codes.{hertz}
 use Rattle.reference.specs.Output.{samples_per_frame}
 use Rattle.reference.specs.Refusals.{accepted, refused, decide}
 use Rattle.reference.specs.declared.PcmRate.{PcmRate}
@@ -22,7 +22,7 @@ use Rattle.wav_format.specs.Wav.{bytes, fields, header, wav_file, frame_size, mo
 use Rattle.wav_format.specs.Places.{at_rate, takes, read_places}
 use Rattle.wav_format.specs.Promises.{ReadPromise}
 use Rattle.wav_format.specs.Deciding.{rate_of, channels_of}
-use Rattle.wav_format.specs.declared.WavRead.TheVariants as answer
+use Rattle.std.specs.Prelude.{Ok, Err}
 use Rattle.byte_lists.specs.Lists.{same}
 use Rattle.byte_lists.proofs.Same.{and_left, and_right, and_not, and_false, and_both, no_true, same_self, same_is}
 
@@ -209,36 +209,36 @@ module _ (file : List ℕ) where
   taken_is : (t : Taken file) → is_file file t.rate t.channels ≡ true
   taken_is t = subst (λ (l : List ℕ). is_file l t.rate t.channels ≡ true) (sym t.is) (of_file t.rate t.channels t.samples t.right)
 
-  pub refuses : (takes file ≡ true → ⊥) → ReadPromise file (answer.Refused NotWav)
+  pub refuses : (takes file ≡ true → ⊥) → ReadPromise file (Err NotWav)
   refuses n = record { decided = sym (read_refuses file n); told = λ t. absurd (n (taken_takes file t)) }
 
-  pub too_short : length file < 44 → ReadPromise file (answer.Refused NotWav)
+  pub too_short : length file < 44 → ReadPromise file (Err NotWav)
   too_short h = refuses (λ e. omega (arith, long file e))
 
-  pub tells : (rate : PcmRate) (channels : ℕ) → is_file file rate channels ≡ true → ReadPromise file (answer.Wav (record { rate = rate; channels = channels }))
+  pub tells : (rate : PcmRate) (channels : ℕ) → is_file file rate channels ≡ true → ReadPromise file (Ok (record { rate = rate; channels = channels }))
   tells rate channels e =
       record {
         decided = sym (read_accepts file (takes_of file rate channels e));
         told = λ t.
             let r = sym (rate_is file rate channels e) ∙ rate_is file t.rate t.channels (taken_is t) in
             let c = sym (channels_is file rate channels e) ∙ channels_is file t.rate t.channels (taken_is t) in
-            λ i. answer.Wav (record { rate = r i; channels = c i });
+            λ i. Ok (record { rate = r i; channels = c i });
       }
 
   -- rate and channels by the two bytes
   module _ (rate : PcmRate) (channels : ℕ) (r : rate ≡ rate_of (get_or file 24 0)) (c : channels ≡ channels_of (get_or file 22 0)) where
-    not_file : is_file file rate channels ≡ false → ReadPromise file (answer.Refused NotWav)
+    not_file : is_file file rate channels ≡ false → ReadPromise file (Err NotWav)
     not_file n = refuses (λ e. no_true _ (rw (r, c) (reads file e)) n)
 
-    pub not_right : {d : Bool} → d ≡ right_data rate channels (length file - 44) → d ≡ false → ReadPromise file (answer.Refused NotWav)
+    pub not_right : {d : Bool} → d ≡ right_data rate channels (length file - 44) → d ≡ false → ReadPromise file (Err NotWav)
     unfolding is_file
     not_right e n = not_file (and_not _ _ (sym e ∙ n))
 
     module _ {b : Bool} (e : b ≡ same (take 44 file) (header (hertz rate) channels (length file - 44))) where
-      pub not_begun : b ≡ false → ReadPromise file (answer.Refused NotWav)
+      pub not_begun : b ≡ false → ReadPromise file (Err NotWav)
       unfolding is_file
       not_begun n = not_file (and_false (right_data rate channels (length file - 44)) _ (sym e ∙ n))
 
-      pub is_told : {d : Bool} → d ≡ right_data rate channels (length file - 44) → d ≡ true → b ≡ true → ReadPromise file (answer.Wav (record { rate = rate; channels = channels }))
+      pub is_told : {d : Bool} → d ≡ right_data rate channels (length file - 44) → d ≡ true → b ≡ true → ReadPromise file (Ok (record { rate = rate; channels = channels }))
       unfolding is_file
       is_told f t n = tells rate channels (and_both (right_data rate channels (length file - 44)) _ (sym f ∙ t) (sym e ∙ n))

@@ -8,16 +8,13 @@ use lib.ListN.{length, drop}
 use Rattle.reference.specs.Refusals.{accepted, refused, decide, is_accepted}
 use Rattle.reference.specs.declared.PcmRate.{PcmRate}
 use Rattle.reference.specs.declared.PcmError.{PcmError}
-use Rattle.reference.specs.declared.Verdict.{Verdict}
-use Rattle.reference.specs.declared.Verdict.TheVariants as verdict
 use Rattle.reference.proofs.Refusals.{error_refuses}
 use Rattle.reference.proofs.Promises.{exit_accepted, decision_exact}
 use Rattle.wav_format.specs.Wav.{wav_file, Right, Taken, right_data}
 use Rattle.wav_format.specs.Places.{read_places, write_places}
 use Rattle.wav_format.specs.Promises.{ReadPromise, file_samples, WritePromise}
 use Rattle.wav_format.specs.declared.WavFormat.{WavFormat}
-use Rattle.wav_format.specs.declared.WavRead.{WavRead}
-use Rattle.wav_format.specs.declared.WavRead.TheVariants as answer
+use Rattle.std.specs.Prelude.{Result, Ok, Err}
 use Rattle.byte_lists.proofs.Same.{no_true}
 use Rattle.wav_format.proofs.Reading.{right_of, right_is, takes_taken, taken_takes, of_file, data_is, length_file, read_accepts, accepts_read, read_refuses, tells}
 use Rattle.wav_format.proofs.Writing.{samples_there, accepted_right, writes}
@@ -33,10 +30,10 @@ takes_exactly file =
     (λ e. takes_taken file (accepts_read file e), λ t. read_accepts file (taken_takes file t), λ n. read_refuses file (λ e. n (takes_taken file e)))
 
 -- so a file of the definition is never refused, and any other always
-pub answered_taken : (file : List ℕ) (f : WavFormat) → ReadPromise file (answer.Wav f) → Taken file
+pub answered_taken : (file : List ℕ) (f : WavFormat) → ReadPromise file (Ok f) → Taken file
 answered_taken file f p = (takes_exactly file).0 (sym p.decided)
 
-pub answered_not : (file : List ℕ) (x : PcmError) → ReadPromise file (answer.Refused x) → Taken file → ⊥
+pub answered_not : (file : List ℕ) (x : PcmError) → ReadPromise file (Err x) → Taken file → ⊥
 unfolding is_accepted
 answered_not file x p t = no_true _ (ap is_accepted (p.decided ∙ (takes_exactly file).1 t)) (error_refuses x)
 
@@ -46,15 +43,15 @@ module _ (rate : PcmRate) (channels : ℕ) (l : List ℕ) (right : Right rate ch
   abbrev pub the_file : Taken (wav_file rate channels l)
   the_file = record { rate = rate; channels = channels; samples = l; is = refl; right = right }
 
-  pub read_back : (a : WavRead) → ReadPromise (wav_file rate channels l) a → a ≡ answer.Wav (format rate channels)
+  pub read_back : (a : Result WavFormat PcmError) → ReadPromise (wav_file rate channels l) a → a ≡ Ok (format rate channels)
   read_back a p = p.told the_file
 
   pub samples_back : file_samples (wav_file rate channels l) ≡ l
   samples_back = sym (samples_there (wav_file rate channels l) (taken_takes _ the_file)) ∙ data_is rate channels l
 
 -- by the second entry
-pub written_read : (rate : PcmRate) (channels : ℕ) (l out out' : List ℕ) → WritePromise rate channels l out out' verdict.Accepted
-    → (a : WavRead) → ReadPromise out' a → (a ≡ answer.Wav (format rate channels)) × (file_samples out' ≡ l)
+pub written_read : (rate : PcmRate) (channels : ℕ) (l out out' : List ℕ) → WritePromise rate channels l out out' (Ok tt)
+    → (a : Result WavFormat PcmError) → ReadPromise out' a → (a ≡ Ok (format rate channels)) × (file_samples out' ≡ l)
 written_read rate channels l out out' w a p =
     let ok : decide (write_places rate channels l (length out)) ≡ accepted = sym w.decided in
     let r = right_is rate channels (length l) (accepted_right rate channels l out ok) in
@@ -63,11 +60,11 @@ written_read rate channels l out out' w a p =
 
 -- ---- read, then written back
 
-same_format : (f g : WavFormat) → answer.Wav f ≡ answer.Wav g → f ≡ g
+same_format : (f g : WavFormat) → ◌≡◌ {A = Result WavFormat PcmError} (Ok f) (Ok g) → f ≡ g
 same_format f g p = cc
 
 -- a file answered with a format is the file of that format and its samples
-answered_is : (file : List ℕ) (f : WavFormat) → ReadPromise file (answer.Wav f) → (file ≡ wav_file f.rate f.channels (file_samples file)) × Right f.rate f.channels (length (file_samples file))
+answered_is : (file : List ℕ) (f : WavFormat) → ReadPromise file (Ok f) → (file ≡ wav_file f.rate f.channels (file_samples file)) × Right f.rate f.channels (length (file_samples file))
 answered_is file f p =
     let t = answered_taken file f p in
     let s : t.samples ≡ file_samples file =
@@ -76,19 +73,19 @@ answered_is file f p =
     subst (λ (x : WavFormat). (file ≡ wav_file x.rate x.channels (file_samples file)) × Right x.rate x.channels (length (file_samples file))) (sym g)
     (t.is ∙ ap (wav_file t.rate t.channels) s, subst (λ (l : List ℕ). Right t.rate t.channels (length l)) s t.right)
 
-pub written_back : (file : List ℕ) (f : WavFormat) → ReadPromise file (answer.Wav f) → (out out' : List ℕ) (v : Verdict) → length out ≡ length file
-    → WritePromise f.rate f.channels (file_samples file) out out' v → (v ≡ verdict.Accepted) × (out' ≡ file)
+pub written_back : (file : List ℕ) (f : WavFormat) → ReadPromise file (Ok f) → (out out' : List ℕ) (v : Result (Unit {0}) PcmError) → length out ≡ length file
+    → WritePromise f.rate f.channels (file_samples file) out out' v → (v ≡ (Ok tt)) × (out' ≡ file)
 written_back file f p out out' v n w =
     let a = answered_is file f p in
     let m : length out ≡ 44 + length (file_samples file) = n ∙ ap length a.0 ∙ length_file f.rate f.channels (file_samples file) in
     let q = writes f.rate f.channels (file_samples file) out (right_of _ _ _ a.1) file m a.0 in
-    (decision_exact v verdict.Accepted (w.decided ∙ sym q.decided), w.written ∙ sym q.written)
+    (decision_exact v (Ok tt) (w.decided ∙ sym q.decided), w.written ∙ sym q.written)
 
 -- ---- 12 of the second entry: exactly where the reader takes no file with this rate, these channels and these bytes
 
 pub record TakenWith (rate : PcmRate) (channels : ℕ) (l : List ℕ) : Type 0 where
   pub file : List ℕ
-  pub read : ReadPromise file (answer.Wav (format rate channels))
+  pub read : ReadPromise file (Ok (format rate channels))
   pub samples : file_samples file ≡ l
 
 pub taken_with : (rate : PcmRate) (channels : ℕ) (l : List ℕ) → (TakenWith rate channels l → right_data rate channels (length l) ≡ true) × (right_data rate channels (length l) ≡ true → TakenWith rate channels l)
@@ -105,13 +102,13 @@ taken_with rate channels l = (to, from)
 
 -- ---- a promise leaves nothing free
 
-same_error : (e f : PcmError) → verdict.Refused e ≡ verdict.Refused f → e ≡ f
+same_error : (e f : PcmError) → ◌≡◌ {A = Result (Unit {0}) PcmError} (Err e) (Err f) → e ≡ f
 same_error e f p = cc
 
-pub read_exact : (file : List ℕ) (a b : WavRead) → ReadPromise file a → ReadPromise file b → a ≡ b
-read_exact file (answer.Wav f) b p q = let t = answered_taken file f p in p.told t ∙ sym (q.told t)
-read_exact file (answer.Refused e) (answer.Wav g) p q = let t = answered_taken file g q in p.told t ∙ sym (q.told t)
-read_exact file (answer.Refused e) (answer.Refused f) p q = ap answer.Refused (same_error e f (decision_exact (verdict.Refused e) (verdict.Refused f) (p.decided ∙ sym q.decided)))
+pub read_exact : (file : List ℕ) (a b : Result WavFormat PcmError) → ReadPromise file a → ReadPromise file b → a ≡ b
+read_exact file (Ok f) b p q = let t = answered_taken file f p in p.told t ∙ sym (q.told t)
+read_exact file (Err e) (Ok g) p q = let t = answered_taken file g q in p.told t ∙ sym (q.told t)
+read_exact file (Err e) (Err f) p q = ap Err (same_error e f (decision_exact (Err e) (Err f) (p.decided ∙ sym q.decided)))
 
-pub write_exact : (rate : PcmRate) (channels : ℕ) (l out o o' : List ℕ) (a b : Verdict) → WritePromise rate channels l out o a → WritePromise rate channels l out o' b → (a ≡ b) × (o ≡ o')
+pub write_exact : (rate : PcmRate) (channels : ℕ) (l out o o' : List ℕ) (a b : Result (Unit {0}) PcmError) → WritePromise rate channels l out o a → WritePromise rate channels l out o' b → (a ≡ b) × (o ≡ o')
 write_exact rate channels l out o o' a b p q = (decision_exact a b (p.decided ∙ sym q.decided), p.written ∙ sym q.written)

@@ -1,17 +1,31 @@
 -- The header from its three parts.
-use mathlib.Core.Path.{◌≡◌, ap, ◌∙◌}
+use mathlib.Core.Path.{◌≡◌, refl, ap, ◌∙◌}
 use mathlib.Core.List.{List, ◌++◌}
-use Prim.Native.Nat.{ℕ, ◌≤◌}
+use Prim.Native.Nat.{ℕ, ◌/◌, ◌^◌, ◌≤◌}
+use native.Mathlib.Omega.{arith}
 use lib.Dec.{lit≤}
 use lib.ListN.{drop}
 use lib.Seq.{drop-drop}
 use borrow.Rule.Slice.PartMut.{put_mid}
 use Rattle.level_lines.specs.Text.{text, joined}
-use Rattle.interface.specs.Codes.{hertz}
+use Rattle.reference.specs.Codes.{hertz}
 use Rattle.reference.specs.declared.PcmRate.{PcmRate}
 use Rattle.reference.specs.declared.PcmRate.TheVariants.{Hz88200, Hz176400, Hz352800}
+use Rattle.std.specs.Int.{w16, w32, to_le_bytes}
 use Rattle.wav_format.specs.Wav.{bytes, fields, header}
 use Rattle.wav_format.specs.Deciding.{riff, format, data_head}
+
+-- a number as so many bytes
+pub four_bytes : (n : ℕ) → to_le_bytes w32 n ≡ bytes 4 n
+unfolding bytes
+four_bytes n =
+    let b : n / 256 / 256 ≡ n / 256 ^ 2 = omega arith in
+    let c : n / 256 ^ 2 / 256 ≡ n / 256 ^ 3 = omega arith in
+    rw (b, c)
+
+pub two_bytes : (n : ℕ) → to_le_bytes w16 n ≡ bytes 2 n
+unfolding bytes
+two_bytes n = refl
 
 pub hertz_small : (rate : PcmRate) → hertz rate ≤ 352800
 hertz_small Hz88200 = lit≤ tt

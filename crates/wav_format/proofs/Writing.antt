@@ -1,5 +1,5 @@
 -- The sample bytes of a file, and what the second entry's places decide.
-use mathlib.Core.Path.{◌≡◌, refl, sym, ap, ◌∙◌}
+use mathlib.Core.Path.{◌≡◌, sym, ap, ◌∙◌}
 use mathlib.Core.List.{List, [], ◌∷◌, ◌++◌, append-nil}
 use mathlib.Core.Bool.{true, false, not}
 use mathlib.Core.Logic.{◌≢◌}
@@ -12,38 +12,29 @@ use borrow.Rule.Slice.PartMut.{put_mid, post_of}
 use Rattle.reference.specs.Refusals.{Decision, accepted, refused, decide, is_accepted, lent_length}
 use Rattle.reference.specs.declared.PcmRate.{PcmRate}
 use Rattle.reference.specs.declared.PcmError.TheVariants.{OutputBytes, NotWav}
-use Rattle.reference.specs.declared.Verdict.TheVariants as verdict
 use Rattle.reference.proofs.Refusals.{at_first, at_next, at_end, pass, error_refuses}
 use Rattle.reference.proofs.Promises.{exit_accepted, exit_refused}
 use Rattle.wav_format.specs.Wav.{wav_file, right_data}
-use Rattle.wav_format.specs.Places.{takes, read_places, write_places}
+use Rattle.wav_format.specs.Places.{takes, write_places}
 use Rattle.wav_format.specs.Promises.{ReadPromise, file_samples, WritePromise}
-use Rattle.wav_format.specs.Deciding.{is_wav}
-use Rattle.wav_format.specs.declared.WavRead.{WavRead}
-use Rattle.wav_format.specs.declared.WavRead.TheVariants as answer
-use Rattle.byte_lists.proofs.Same.{no_true}
+use Rattle.wav_format.specs.declared.WavFormat.{WavFormat}
+use Rattle.reference.specs.declared.PcmError.{PcmError}
+use Rattle.std.specs.Prelude.{Ok, Err}
 use Rattle.wav_format.proofs.Reading.{read_accepts, accepts_read}
 
 -- ---- the sample bytes of a file
 
 module _ (file : List ℕ) where
-  pub wav_takes : (r : WavRead) → ReadPromise file r → is_wav r ≡ true → takes file ≡ true
-  unfolding is_wav
-  wav_takes (answer.Wav f) p e = accepts_read file (sym p.decided)
-  wav_takes (answer.Refused x) p e = no_true false e refl
-
-  pub wav_refused : (r : WavRead) → ReadPromise file r → is_wav r ≡ false → is_accepted (decide (read_places file)) ≡ false
-  unfolding is_wav
-  wav_refused (answer.Wav f) p e = no_true true refl e
-  wav_refused (answer.Refused x) p e = ap is_accepted (sym p.decided) ∙ error_refuses x
+  pub told_takes : {f : WavFormat} → ReadPromise file (Ok f) → takes file ≡ true
+  told_takes p = accepts_read file (sym p.decided)
 
   pub samples_there : takes file ≡ true → drop 44 file ≡ file_samples file
   unfolding file_samples
   samples_there e = sym (exit_accepted _ (drop 44 file) [] (read_accepts file e))
 
-  pub samples_none : is_accepted (decide (read_places file)) ≡ false → [] ≡ file_samples file
+  pub samples_none : {e : PcmError} → ReadPromise file (Err e) → [] ≡ file_samples file
   unfolding file_samples
-  samples_none e = sym (exit_refused _ (drop 44 file) [] e)
+  samples_none {e} p = sym (exit_refused _ (drop 44 file) [] (ap is_accepted (sym p.decided) ∙ error_refuses e))
 
 -- ---- the second entry
 
@@ -51,7 +42,7 @@ module _ (rate : PcmRate) (channels : ℕ) (l out : List ℕ) where
   abbrev d : Decision
   d = decide (write_places rate channels l (length out))
 
-  pub none_taken : right_data rate channels (length l) ≡ false → WritePromise rate channels l out out (verdict.Refused NotWav)
+  pub none_taken : right_data rate channels (length l) ≡ false → WritePromise rate channels l out out (Err NotWav)
   unfolding write_places is_accepted
   none_taken e =
       let p : d ≡ refused 12 [] = at_first _ _ (ap not e) in
@@ -62,7 +53,7 @@ module _ (rate : PcmRate) (channels : ℕ) (l out : List ℕ) where
     unfolding write_places
     past = at_next _ _ (ap not right)
 
-    pub wrong_output : length out ≢ 44 + length l → WritePromise rate channels l out out (verdict.Refused (OutputBytes (length out) (44 + length l)))
+    pub wrong_output : length out ≢ 44 + length l → WritePromise rate channels l out out (Err (OutputBytes (length out) (44 + length l)))
     unfolding lent_length is_accepted
     wrong_output n =
         let p : d ≡ refused 7 _ = past ∙ at_first _ _ (ap not (ne_eqb _ _ n)) in
@@ -72,7 +63,7 @@ module _ (rate : PcmRate) (channels : ℕ) (l out : List ℕ) where
     unfolding lent_length
     right_output e = past ∙ at_next _ _ (ap not (eq-eqb _ _ e)) ∙ at_end
 
-    pub writes : (out' : List ℕ) → length out ≡ 44 + length l → out' ≡ wav_file rate channels l → WritePromise rate channels l out out' verdict.Accepted
+    pub writes : (out' : List ℕ) → length out ≡ 44 + length l → out' ≡ wav_file rate channels l → WritePromise rate channels l out out' (Ok tt)
     writes out' e w = record { decided = sym (right_output e); written = w ∙ sym (exit_accepted d (wav_file rate channels l) out (right_output e)) }
 
 -- header and data, put one after the other

@@ -1,11 +1,9 @@
 -- How the code makes the header, and how the reader finds rate and channels to compare it with. No promise speaks of it.
-use Rattle.std.specs.Prelude.{List, [], ◌∷◌, Bool, true, false, cond, ℕ, ◌+◌, ◌*◌, eqb}
+use Rattle.std.specs.Prelude.{List, [], ◌∷◌, cond, ℕ, ◌+◌, ◌*◌, eqb}
 use Rattle.level_lines.specs.Text.{text, joined}
 use Rattle.reference.specs.declared.PcmRate.{PcmRate}
 use Rattle.reference.specs.declared.PcmRate.TheVariants.{Hz88200, Hz176400, Hz352800}
 use Rattle.wav_format.specs.Wav.{bytes, sample_bytes}
-use Rattle.wav_format.specs.declared.WavRead.{WavRead}
-use Rattle.wav_format.specs.declared.WavRead.TheVariants.{Wav, Refused}
 
 -- ---- the header's three parts
 
@@ -29,7 +27,3 @@ rate_of x = cond (eqb x 136) Hz88200 (cond (eqb x 16) Hz176400 Hz352800)
 -- by byte 22
 unfoldable pub channels_of : ℕ → ℕ
 channels_of x = cond (eqb x 1) 1 2
-
-unfoldable pub is_wav : WavRead → Bool
-is_wav (Wav f) = true
-is_wav (Refused e) = false

@@ -1,18 +1,11 @@
 -- Where the reader and the second entry turn a file down. Refusal 12 carries nothing.
 use Rattle.std.specs.Prelude.{List, [], ◌∷◌, Bool, not, ◌||◌, ℕ, ◌+◌, length}
-use Rattle.reference.specs.Refusals.{Decision, accepted, error_decision, Place, place, lent_length}
+use Rattle.reference.specs.Refusals.{Place, place, lent_length}
 use Rattle.reference.specs.declared.PcmRate.{PcmRate}
 use Rattle.reference.specs.declared.PcmRate.TheVariants.{Hz88200, Hz176400, Hz352800}
 use Rattle.wav_format.specs.Wav.{right_data, is_file}
-use Rattle.wav_format.specs.declared.WavRead.{WavRead}
-use Rattle.wav_format.specs.declared.WavRead.TheVariants.{Wav, Refused}
 
 -- ---- the reader
-
--- number and data of each case of its answer
-abbrev pub read_decision : WavRead → Decision
-read_decision (Wav f) = accepted
-read_decision (Refused e) = error_decision e
 
 -- the file is one of a rate with one channel or with two
 unfoldable pub at_rate : List ℕ → PcmRate → Bool

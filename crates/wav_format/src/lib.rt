@@ -3,82 +3,67 @@
 
 ghost use Rattle.std.specs.Prelude.{◌≡◌, ◌++◌, ◌+◌, ◌*◌, ◌-◌, ◌≤◌, ◌<◌, length, take, drop};
 ghost use Rattle.byte_lists.specs.Lists.{same};
-ghost use Rattle.interface.specs.Codes as codes;
+ghost use Rattle.reference.specs.Codes as codes;
 ghost use Rattle.wav_format.specs.Wav as wav;
 ghost use Rattle.wav_format.specs.Wav.{right_data, most_data};
 ghost use Rattle.wav_format.specs.Deciding as deciding;
 ghost use Rattle.wav_format.specs.Promises.{ReadPromise, file_samples, WritePromise};
 
-use reference::{MOST_FRAMES, PcmError, PcmRate, Verdict};
+use reference::{MOST_FRAMES, PcmError, PcmRate};
 
 mod header;
 
-use header::copy;
 pub use header::put_header;
 
 // What the header of a file tells.
-#[derive(Clone, Copy)]
+#[derive(Clone, Copy, PartialEq, Eq)]
 pub struct WavFormat {
     pub rate: PcmRate,
     pub channels: u8,
 }
 
-// What the reader answers.
-#[derive(Clone, Copy)]
-pub enum WavRead {
-    Wav(WavFormat),
-    Refused(PcmError),
-}
-
 // Bytes of the samples of a frame, all channels.
+#[tactic(auto, using(crate::proofs::Reading::frame_some), unfolding(crate::specs::Wav::frame_size))]
 fn frame_size(rate: PcmRate, channels: usize) -> usize
     requires { (1 ≤ channels) × (channels ≤ 2) }
     ensures { (result ≡ wav.frame_size rate channels) × (1 ≤ result) }
 {
-    3 * reference::samples_per_frame(rate) * channels
+    3 * rate.samples_per_frame() * channels
 }
 
 // Whether the reader takes so many bytes of data at this rate and with these channels.
+#[tactic(auto, unfolding(crate::specs::Wav::right_data))]
 fn right_data(rate: PcmRate, channels: u8, n: usize) -> bool
     ensures { result ≡ right_data rate channels n }
 {
-    if channels < 1 {
-        return false;
-    }
-    if channels > 2 {
+    if channels < 1 || channels > 2 {
         return false;
     }
     let frame = frame_size(rate, channels as usize);
-    if n % frame != 0 {
-        return false;
-    }
-    if n / frame > MOST_FRAMES {
-        return false;
-    }
-    n <= 4294967259
+    n % frame == 0 && n / frame <= MOST_FRAMES && n <= 4294967259
 }
 
 // ---- reading
 
+#[tactic(auto, unfolding(crate::specs::Deciding::rate_of))]
 fn rate_of(x: u8) -> PcmRate
     ensures { result ≡ deciding.rate_of x }
 {
-    if x == 136 {
-        return PcmRate::Hz88200;
+    match x {
+        136 => PcmRate::Hz88200,
+        16 => PcmRate::Hz176400,
+        _ => PcmRate::Hz352800,
     }
-    if x == 16 {
-        return PcmRate::Hz176400;
-    }
-    PcmRate::Hz352800
 }
 
+#[tactic(auto, unfolding(crate::specs::Deciding::channels_of))]
 fn channels_of(x: u8) -> u8
     ensures { (result ≡ deciding.channels_of x) × (result ≤ 2) }
 {
-    if x == 1 {
-        return 1;
+    match x {
+        1 => 1,
+        _ => 2,
     }
-    2
 }
 
 // Whether a file begins with the header of this rate, these channels and so many bytes of data.
@@ -88,62 +73,51 @@ fn has_header(file: &[u8], rate: PcmRate, channels: u8, n: usize) -> bool
 {
     let mut head = [0u8; 44];
     put_header(rate, channels, n, &mut head);
-    byte_lists::is(&file[0..44], &head)
+    &file[..44] == &head[..]
 }
 
 // Rate and channels of a file.
-pub fn read(file: &[u8]) -> WavRead
+pub fn read(file: &[u8]) -> Result<WavFormat, PcmError>
     ensures { ReadPromise file.now result }
 {
     if file.len() < 44 {
-        return WavRead::Refused(PcmError::NotWav);
+        return Err(PcmError::NotWav);
     }
     let rate = rate_of(file[24]);
     let channels = channels_of(file[22]);
     let n = file.len() - 44;
-    if right_data(rate, channels, n) {
-        if has_header(file, rate, channels, n) {
-            return WavRead::Wav(WavFormat { rate, channels });
-        }
+    if right_data(rate, channels, n) && has_header(file, rate, channels, n) {
+        return Ok(WavFormat { rate, channels });
     }
-    WavRead::Refused(PcmError::NotWav)
-}
-
-fn is_wav(r: WavRead) -> bool
-    ensures { result ≡ deciding.is_wav r }
-{
-    match r {
-        WavRead::Wav(_) => true,
-        WavRead::Refused(_) => false,
-    }
+    Err(PcmError::NotWav)
 }
 
 // The sample bytes of a file: a part of it, empty where the reader refuses it.
 pub fn samples_of<'a>(file: &'a [u8]) -> &'a [u8]
     ensures { result.now ≡ file_samples file.now }
 {
-    if is_wav(read(file)) {
-        return &file[44..];
+    match read(file) {
+        Ok(_) => &file[44..],
+        Err(_) => &file[..0],
     }
-    &file[0..0]
 }
 
 // ---- writing
 
 // A file from rate, channels and sample bytes.
-pub fn write(rate: PcmRate, channels: u8, bytes: &[u8], out: &mut [u8]) -> Verdict
+pub fn write(rate: PcmRate, channels: u8, bytes: &[u8], out: &mut [u8]) -> Result<(), PcmError>
     ensures { WritePromise rate channels bytes.now out.old out.new result }
 {
     let n = bytes.len();
-    if right_data(rate, channels, n) {
-        let expected = 44 + n;
-        let length = out.len();
-        if length != expected {
-            return Verdict::Refused(PcmError::OutputBytes(length, expected));
-        }
-        put_header(rate, channels, n, out);
-        copy(bytes, &mut out[44..]);
-        return Verdict::Accepted;
+    if !right_data(rate, channels, n) {
+        return Err(PcmError::NotWav);
     }
-    Verdict::Refused(PcmError::NotWav)
+    let expected = 44 + n;
+    let length = out.len();
+    if length != expected {
+        return Err(PcmError::OutputBytes(length, expected));
+    }
+    put_header(rate, channels, n, out);
+    out[44..].copy_from_slice(bytes);
+    Ok(())
 }

@@ -1,5 +1,6 @@
-// Wide: a block of y from its bytes, a flat function a rate. x holds u, and keeps its margin, the values before a block that its filter reads, from
-// block to block.
+// Wide: a block of y from its bytes, a flat function a rate. x holds u, and keeps its margin, the values before a
+// block that its filter reads, from block to block. The two stay apart: each is three calls, by another filter, and
+// promises another rate's signal.
 #![tactic(auto)]
 
 ghost use Rattle.std.specs.Prelude.{◌≡◌, ℕ, ◌+◌, ◌-◌, ◌*◌, ◌^◌, ◌≤◌, pos, length};

@@ -1,142 +1,112 @@
 // The tables and the taps of a route, bound once a call and lent to the loops.
 #![tactic(auto)]
 
-ghost use Rattle.std.specs.Prelude.{◌≡◌, ◌*◌, ◌≤◌, length, take};
+ghost use Rattle.std.specs.Prelude.{◌≡◌, ◌*◌, ◌≤◌, length};
 ghost use Rattle.reference.specs.Stages.{taps_of};
 ghost use Rattle.reference.specs.Output.{samples_per_frame};
-ghost use Rattle.channel_bytes.specs.Lent.{lent_run};
-ghost use Rattle.routes.specs.Routes.{last_taps, halves_of, lent_taps};
+ghost use Rattle.channel_bytes.specs.Runs.{run_of};
+ghost use Rattle.routes.specs.Routes.{last_of, halves_of, lent_taps};
 ghost use Rattle.output.specs.Fills.{Room};
 ghost use Rattle.runs.specs.Loops.{Ran};
 ghost use Rattle.workspace.specs.Accepted.{Accepted};
+ghost use Rattle.workspace.specs.Bound.{bound};
 
+use blocks::Job;
+use channel_bytes::Slices;
+use output::Place;
 use reference::{ConvertStats, Converter, Cutoff, Filter, PcmRate};
 
-// Taps as they stand, to the front of h; their number comes back, as below.
-fn plain(f: &[i32], h: &mut [i64]) -> usize
-    requires { length f.now ≤ length h.old }
-    ensures { (result ≡ length f.now) × (take result h.new ≡ f.now) }
+mod taps;
+
+use taps::Taps;
+
+// Taps as they stand.
+fn plain(f: &[i32]) -> Taps
+    requires { length f.now ≤ 117 }
+    ensures { bound result ≡ f.now }
 {
-    let n = f.len();
-    filters::widen_taps(f, &mut h[0..n]);
-    n
+    let mut values = [0; 117];
+    let count = f.len();
+    filters::widen_taps(f, &mut values[..count]);
+    Taps { values, count }
 }
 
 // The even ones, then the odd ones.
-fn halves(f: &[i32], h: &mut [i64]) -> usize
-    requires { (length f.now ≤ length h.old) × (length f.now ≤ 117) }
-    ensures { (result ≡ length f.now) × (take result h.new ≡ halves_of f.now) }
+fn halves(f: &[i32]) -> Taps
+    requires { length f.now ≤ 117 }
+    ensures { bound result ≡ halves_of f.now }
 {
-    let n = f.len();
-    let e = (n + 1) / 2;
-    filters::every_second(f, 0, &mut h[0..e]);
-    filters::every_second(f, 1, &mut h[e..n]);
-    n
+    let mut values = [0; 117];
+    let count = f.len();
+    let even = count.div_ceil(2);
+    filters::every_second(f, 0, &mut values[..even]);
+    filters::every_second(f, 1, &mut values[even..count]);
+    Taps { values, count }
 }
 
 // The taps as the route's function takes them.
-fn lent(rate: PcmRate, cutoff: Cutoff, f: &[i32], h: &mut [i64]) -> usize
-    requires { (length f.now ≤ length h.old) × (length f.now ≤ 117) }
-    ensures { (result ≡ length f.now) × (take result h.new ≡ lent_taps rate cutoff f.now) }
+#[tactic(auto, unfolding(routes::specs::Routes::lent_taps))]
+fn lent(rate: PcmRate, cutoff: Cutoff, f: &[i32]) -> Taps
+    requires { length f.now ≤ 117 }
+    ensures { bound result ≡ lent_taps rate cutoff f.now }
 {
-    match rate {
-        PcmRate::Hz88200 => halves(f, h),
-        PcmRate::Hz176400 => match cutoff {
-            Cutoff::Standard | Cutoff::Low => plain(f, h),
-            Cutoff::Wide => halves(f, h),
-        },
-        PcmRate::Hz352800 => plain(f, h),
+    match (rate, cutoff) {
+        (PcmRate::Hz88200, _) | (PcmRate::Hz176400, Cutoff::Wide) => halves(f),
+        _ => plain(f),
     }
 }
 
-// The first n taps of a filter record.
-fn first(rate: PcmRate, cutoff: Cutoff, taps: [i32; 117], n: usize, h: &mut [i64]) -> usize
-    requires { (n ≤ 117) × (length h.old ≡ 117) }
-    ensures { (result ≤ 117) × (take result h.new ≡ lent_taps rate cutoff (take n taps)) }
-{
-    lent(rate, cutoff, &taps[..n], h)
-}
-
-// The taps of a filter record.
-fn held(rate: PcmRate, cutoff: Cutoff, filter: Filter, h: &mut [i64]) -> usize
-    requires { (filter.count ≤ 117) × (length h.old ≡ 117) }
-    ensures { (result ≤ 117) × (take result h.new ≡ lent_taps rate cutoff (taps_of filter)) }
-{
-    let taps = filter.taps;
-    let n = filter.count;
-    first(rate, cutoff, taps, n, h)
-}
-
-// The last filter of a route. Wide at 88,200 is refused before.
-fn last_taps(rate: PcmRate, cutoff: Cutoff, filter: Filter, h: &mut [i64]) -> usize
-    requires { (filter.count ≤ 117) × (length h.old ≡ 117) }
-    ensures { (result ≤ 117) × (take result h.new ≡ lent_taps rate cutoff (last_taps rate cutoff (taps_of filter))) }
-{
-    match cutoff {
-        Cutoff::Standard => held(rate, cutoff, filter, h),
-        Cutoff::Low => lent(rate, cutoff, &tables::f30(), h),
-        Cutoff::Wide => match rate {
-            PcmRate::Hz88200 => held(rate, cutoff, reference::built_in(), h),
-            PcmRate::Hz176400 => lent(rate, cutoff, &tables::f80(), h),
-            PcmRate::Hz352800 => held(rate, cutoff, reference::built_in(), h),
-        },
-    }
-}
-
-// A run of frames; an absent neighbour is an empty slice. The counts go to their list as far as it is long; of `out` and `raw` only the one asked
-// for is written.
-pub fn convert_slices<'a>(
-    conv: Converter,
-    before: &'a [u8],
-    frames: &'a [u8],
-    after: &'a [u8],
-    frame_count: usize,
-    packed: bool,
-    out: &mut [i32],
-    raw: &mut [u8],
-    counts: &mut [u64],
-) -> ConvertStats
-    requires accepted { Accepted conv frame_count before.now frames.now after.now }
-    requires room { Room packed (frame_count * samples_per_frame conv.rate * conv.channels) (length out.old) (length raw.old) × (length counts.old ≤ frame_count) }
-    ensures { Ran packed conv (lent_run before.now frames.now after.now) result out.old out.new raw.old raw.new counts.old counts.new }
+// The taps of a route's last filter. Wide at 88,200 is refused before.
+#[tactic(auto, using(reference::proofs::Filters::built_in_taps), unfolding(routes::specs::Routes::last_taps))]
+fn last_taps(conv: &Converter) -> Taps
+    ensures { bound result ≡ lent_taps conv.now.rate conv.now.cutoff (last_of conv.now) }
 {
     let rate = conv.rate;
     let cutoff = conv.cutoff;
-    let filter = conv.filter;
-    let mut taps = [0i64; 117];
-    let n = last_taps(rate, cutoff, filter, &mut taps);
-    match cutoff {
+    match (cutoff, rate) {
+        (Cutoff::Standard, _) => lent(rate, cutoff, conv.filter.taps()),
+        (Cutoff::Low, _) => lent(rate, cutoff, &tables::f30()),
+        (Cutoff::Wide, PcmRate::Hz176400) => lent(rate, cutoff, &tables::f80()),
+        (Cutoff::Wide, PcmRate::Hz88200) => lent(rate, cutoff, Filter::built_in().taps()),
+        (Cutoff::Wide, PcmRate::Hz352800) => lent(rate, cutoff, Filter::built_in().taps()),
+    }
+}
+
+// A run of frames. The counts go to their list as far as it is long.
+pub fn convert_slices<'a, P: Place>(
+    conv: Converter,
+    slices: Slices<'a>,
+    out: &mut [P],
+    counts: &mut [u64],
+) -> ConvertStats
+    requires accepted { Accepted conv slices.count slices.before.now slices.frames.now slices.after.now }
+    requires same { slices.channels ≡ conv.channels }
+    requires room { Room P.layout (slices.count * samples_per_frame conv.rate * conv.channels) out.old }
+    requires few { length counts.old ≤ slices.count }
+    ensures { Ran P.layout conv (run_of slices.entry) result out.new counts.old counts.new }
+{
+    let bound = last_taps(&conv);
+    let taps = bound.as_slice();
+    match conv.cutoff {
         Cutoff::Standard | Cutoff::Low => {
             let tables = tables::s1_tables();
-            runs::every(
+            let job = Job {
                 conv,
-                before,
-                frames,
-                after,
-                frame_count,
-                &tables,
-                &taps[..n],
-                packed,
-                out,
-                raw,
-                counts,
-            )
+                slices,
+                tables: &tables,
+                taps,
+            };
+            runs::every(&job, out, counts)
         }
         Cutoff::Wide => {
             let tables = tables::s1_wide_tables();
-            runs::every(
+            let job = Job {
                 conv,
-                before,
-                frames,
-                after,
-                frame_count,
-                &tables,
-                &taps[..n],
-                packed,
-                out,
-                raw,
-                counts,
-            )
+                slices,
+                tables: &tables,
+                taps,
+            };
+            runs::every(&job, out, counts)
         }
     }
 }

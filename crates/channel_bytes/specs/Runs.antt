@@ -1,0 +1,13 @@
+-- What slices that are lent stand for.
+use Rattle.std.specs.Prelude.{ℕ}
+use Rattle.reference.specs.Frames.{Run}
+use Rattle.channel_bytes.specs.Lent.{lent_run, byte_at}
+use Rattle.channel_bytes.specs.declared.slices.Slices.{Slices}
+
+-- the run
+abbrev pub run_of : Slices → Run
+run_of s = lent_run s.before.now s.frames.now s.after.now
+
+-- the bytes of channel c by position
+abbrev pub bytes_of : Slices → ℕ → ℕ → ℕ
+bytes_of s c = byte_at s.channels s.before.now s.frames.now s.after.now c

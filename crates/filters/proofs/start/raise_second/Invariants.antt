@@ -1,0 +1,6 @@
+use Rattle.filters.specs.Filters.{seconds}
+use Rattle.filters.specs.Lanes.{Raised}
+use Rattle.filters.proofs.start.raise_second.Given as goal
+
+abbrev pub invariant-loop-k : goal.invariant-loop-k
+invariant-loop-k l = Raised l.k (seconds l.from l.x) l.v

@@ -1,0 +1,35 @@
+-- Lines printed by `Text`, one after another.
+use mathlib.Core.Path.{◌≡◌, refl, sym}
+use mathlib.Core.List.{List, [], ◌∷◌, ◌++◌, append-nil}
+use Prim.Native.Nat.{ℕ, ◌+◌, ◌-◌}
+use native.Mathlib.Omega.{arith}
+use lib.ListN.{replicate}
+use Rattle.columns.specs.Columns.{column, entry}
+use native.Mathlib.Nat.{zero-add, add-zero}
+use native.Mathlib.Numerals.{add-one}
+use Rattle.numbers.specs.Lists.{tabulate}
+use Rattle.level_lines.specs.Text.{joined, with_text}
+use Rattle.level_lines.specs.Lines.{printed}
+use Rattle.level_lines.specs.Writing.{Prints}
+use Rattle.level_lines.specs.declared.text.Text.{Text}
+use Rattle.level_lines.proofs.Printing as printing
+use Rattle.level_lines.proofs.Printing.{joined_last}
+use Rattle.level_lines.proofs.Writing.{both}
+use Rattle.std.proofs.Common.{take-append-drop}
+
+pub nothing : {a : Text} → Prints [] a a
+unfolding with_text
+nothing {a} = record { same_reference = refl; same_length = refl; printed = record { written = rw (add-zero a.at) (sym (take-append-drop a.at a.out.now)); after = sym (add-zero a.at) } }
+
+pub line : (ts : List (List ℕ)) {a b : Text} → Prints (joined (ts ++ ((10 ∷ []) ∷ []))) a b → Prints (printed ts) a b
+line ts p = record { same_reference = p.same_reference; same_length = p.same_length; printed = printing.line ts p.printed }
+
+-- blanks alone in a column
+pub blank : (w : ℕ) {a b : Text} → Prints (replicate w 32) a b → Prints (column (entry w [])) a b
+unfolding column
+blank w p = let e : w - 0 ≡ w = omega arith in rw (append-nil, e) p
+
+-- lines of a function, and one more
+pub more : (f : ℕ → List ℕ) (n : ℕ) {t : List ℕ} {a b c : Text} → Prints (joined (tabulate f 0 n)) a b → Prints t b c → t ≡ f n → Prints (joined (tabulate f 0 (n + 1))) a c
+unfolding tabulate
+more f n p q e = rw (add-one, zero-add n, ← joined_last (tabulate f 0 n) (f n), ← e) (both p q)

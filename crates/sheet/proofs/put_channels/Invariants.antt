@@ -1,0 +1,10 @@
+use Rattle.std.proofs.Common.{◌≡◌, ◌+◌, ◌*◌}
+use Rattle.numbers.specs.Lists.{tabulate}
+use Rattle.level_lines.specs.Text.{joined}
+use Rattle.level_lines.specs.Writing.{Prints}
+use Rattle.columns.specs.Columns.{line}
+use Rattle.sheet.specs.Sheet.{channel_line}
+use Rattle.sheet.proofs.put_channels.Given as goal
+
+abbrev pub invariant-loop-c : goal.invariant-loop-c
+invariant-loop-c l = (l.text.at ≡ l.initial.text.at + 43 * l.c) × Prints (joined (tabulate (λ c. line (channel_line l.stats c)) 0 l.c)) l.initial.text l.text

@@ -1,9 +1,0 @@
--- `each`: each turn leaves fewer cases.
-use Rattle.std.proofs.Common.{◌-◌, ◌≤◌}
-use Rattle.test_dsf.proofs.headers.each.Given as goal
-
-abbrev pub invariant-loop-k : goal.invariant-loop-k
-invariant-loop-k g l = l.k ≤ l.n
-
-abbrev pub decreases-loop-k : goal.decreases-loop-k
-decreases-loop-k g l = l.n - l.k

@@ -1,9 +1,0 @@
--- `count_scaled`: at turn i it has counted at most i.
-use Rattle.std.proofs.Common.{◌-◌, ◌≤◌, length}
-use Rattle.test_gain.proofs.count_scaled.Given as goal
-
-abbrev pub invariant-loop-i : goal.invariant-loop-i
-invariant-loop-i l = (l.n ≤ l.i) × (l.i ≤ length l.ys)
-
-abbrev pub decreases-loop-i : goal.decreases-loop-i
-decreases-loop-i l = length l.ys - l.i
