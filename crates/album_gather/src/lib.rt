@@ -30,12 +30,14 @@ pub struct Lent {
     pub out: usize,
 }
 
-// Whether an album has so many frames from `first` on, and a window holds them and the frames next to them.
+// Whether an album has so many frames from `first` on, and a window holds them and the frames next to them. Of a
+// `Window` its start and its length are asked here, and not its bytes: numbers, so that the clause is of numbers alone.
 #[tactic(auto, using(crate::proofs::Fitting::begins_past, crate::proofs::Fitting::ends_past, crate::proofs::Fitting::begins_late, crate::proofs::Fitting::ends_early, crate::proofs::Fitting::all_there))]
 fn held(a: Album, first: u64, count: u64, start: u64, window: usize) -> Result<(), PcmError>
     requires { FitArgs a }
     ensures { decision result ≡ decide (held_places a first count start window) }
 {
+    // An `if` for each thing that is tried: of two joined by `||` the proof of the refusal did not close by itself.
     if first > a.frames {
         return Err(PcmError::Frames(first as usize));
     }
@@ -94,7 +96,8 @@ fn fits(
     room(a, count, lent)
 }
 
-// All that a step tries, and the album's numbers.
+// All that a step tries, and the album's numbers. First frame and count come beside the window, here and in the step:
+// the C call has them so, and which frames are asked is no part of what was read.
 #[tactic(auto, using(crate::proofs::Fitting::fit_args, crate::proofs::Fitting::album_refused, crate::proofs::Fitting::piece_refused, crate::proofs::Fitting::is_ready))]
 pub fn ready(
     window: Window<'_>,

@@ -8,7 +8,6 @@ use Rattle.dsf_frames.specs.Reading.{lesser, window_start, window_end, frame_win
 use Rattle.dsf_frames.specs.declared.FrameWindow.{FrameWindow}
 use Rattle.dsf_frames.proofs.Asked.{window_is, no_window}
 use Rattle.album_plan.specs.Plan.{stretch_start, stretch_end, StretchArgs}
-use borrow.Author.Tests.{le-leb, le-ltb}
 use mathlib.Core.Logic.{⊎_elim}
 use Rattle.numbers.proofs.Lists.{below_or}
 
@@ -19,23 +18,14 @@ in_order n s a b h k =
     let l : a * 4704 / 4096 * 4096 ≤ (lesser (s / 8) (b * 4704 + 4704) + 4095) / 4096 * 4096 = omega arith in
     mul-le-mul_right n l
 
-pub small_piece : (c size : ℕ) → c ≤ 128 → size ≤ 84672 → c * size ≤ 10838016
-small_piece c size a b = mul-le-mul a b
-
 pub small_room : (c n : ℕ) → c ≤ 540000 → n ≤ 6 → c * (4704 * n) ≤ 15240960000
 small_room c n a b = let y : 4704 * n ≤ 28224 = omega arith in mul-le-mul a y
 
 pub small_share : (p j : ℕ) → p ≤ 4220 → j ≤ 64 → p * j ≤ 270080
 small_share p j a b = mul-le-mul a b
 
-pub lesser_left : (a b : ℕ) → lesser a b ≤ a
-lesser_left a b = omega arith
-
 pub lesser_right : (a f first : ℕ) → first < f → first + lesser a (f - first) ≤ f
 lesser_right a f first h = omega arith
-
-pub few_more : (b : ℕ) → lesser 128 b ≤ 540000
-few_more b = omega arith
 
 -- no window where there is no frame
 window_none : (n s f : ℕ) → n ≤ 6 → frames_in s ≤ f → frame_window n s f ≡ record { start = 0; end = 0 }

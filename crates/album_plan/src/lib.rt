@@ -15,8 +15,8 @@ pub struct Part {
     pub end: u64,
 }
 
-// A piece: its frames, the stretch of the file's data that holds them and the frames next to them, where its bytes stand in the WAV file,
-// and the bytes of its frames.
+// A piece: its frames, the stretch of the file's data that holds them and the frames next to them, where its bytes
+// stand in the WAV file, and the bytes of its frames.
 #[derive(Clone, Copy)]
 pub struct Piece {
     pub first: u64,
@@ -43,18 +43,19 @@ pub fn part_of(frames: u64, jobs: u64, j: u64) -> Option<Part>
     })
 }
 
-// The stretch of the data that holds so many frames and the frames next to them; no bytes of no frames.
+// The stretch of the data that holds so many frames and the frames next to them; no bytes of no frames. Channels,
+// samples and frames are numbers here and below: the C call for a piece has the first two and no `Album`, whose other
+// fields none reads.
 pub fn stretch(channels: u64, samples: u64, frames: u64, first: u64, count: u64) -> FrameWindow
     requires { plan.StretchArgs channels samples frames first count }
     ensures { plan.Stretch channels samples first count result }
 {
-    let none = FrameWindow { start: 0, end: 0 };
     let last = (first + count).min(frames.saturating_sub(1));
-    let from = dsf_frames::window(channels, samples, first.saturating_sub(1)).unwrap_or(none);
-    let to = dsf_frames::window(channels, samples, last).unwrap_or(none);
+    let from = dsf_frames::window(channels, samples, first.saturating_sub(1));
+    let to = dsf_frames::window(channels, samples, last);
     FrameWindow {
-        start: from.start,
-        end: to.end,
+        start: from.map_or(0, |w| w.start),
+        end: to.map_or(0, |w| w.end),
     }
 }
 
@@ -77,7 +78,8 @@ fn piece_from(rate: PcmRate, channels: u64, samples: u64, frames: u64, first: u6
     }
 }
 
-// Piece i of an album with these numbers: none of more than six channels or 540,000 frames, or where there is no such piece.
+// Piece i of an album with these numbers: none of more than six channels or 540,000 frames, or where there is no such
+// piece.
 #[tactic(auto, unfolding(crate::specs::Plan::piece_at, album::specs::Album::pieces, dsf::specs::Dsf::frames_in))]
 pub fn piece_of(rate: PcmRate, channels: u64, samples: u64, i: u64) -> Option<Piece>
     ensures { result ≡ plan.piece_at rate channels samples i }

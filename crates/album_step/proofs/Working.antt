@@ -2,16 +2,16 @@
 use mathlib.Core.Path.{◌≡◌, refl, sym, ap, subst, ◌∙◌}
 use mathlib.Core.Bool.{Bool, true, false, true≢false}
 use mathlib.Core.List.{List, []}
-use Prim.Native.Nat.{ℕ, ◌+◌, ◌-◌, ◌*◌, ◌≤◌, ◌<◌}
+use Prim.Native.Nat.{ℕ, ◌+◌, ◌-◌, ◌*◌, ◌≤◌}
 use native.Mathlib.Omega.{arith}
 use lib.Dec.{ltb}
 use lib.ListN.{length}
-use borrow.Author.Tests.{ltb-true, eqb-true, not-false}
+use borrow.Author.Tests.{eqb-true, not-false}
 use Rattle.reference.specs.Frames.{Run, run, frame_length}
 use Rattle.reference.specs.Settings.{converter_of}
 use Rattle.reference.specs.Refusals.{rack, decide, decision, error_decision, is_accepted, accepted, opening_places, lent_length, convert_places}
 use Rattle.reference.specs.Output.{stats}
-use Rattle.std.specs.Prelude.{Option, Ok, Err, IfSome}
+use Rattle.std.specs.Prelude.{Ok, Err}
 use Rattle.std.specs.Bool.{then_some}
 use Rattle.reference.specs.Promises.{Converted, stats_told, ConvertPromise}
 use Rattle.reference.specs.declared.PcmError.{PcmError}
@@ -26,7 +26,7 @@ use Rattle.dsf.specs.Reading.{header_places}
 use Rattle.dsf_frames.specs.Reading.{window_frame}
 use Rattle.wav_format.specs.Wav.{frame_size}
 use Rattle.album.specs.Album.{settings_for, later_places, album_places, album_of, album_converter}
-use Rattle.album_gather.specs.Steps.{held_places as step-held, lent_places, piece_places, step_places, frames_from, there, worked, gathered, run_from, window_run, lent_lists, StepPromise, GatherArgs}
+use Rattle.album_gather.specs.Steps.{held_places as step-held, lent_places, piece_places, step_places, frames_from, there, worked, gathered, run_from, window_run, lent_lists, StepPromise}
 use Rattle.album.specs.declared.Wanted.{Wanted}
 use Rattle.album.specs.declared.Album.{Album}
 use Rattle.album.proofs.Openings.{few_frames, album_fits}
@@ -64,51 +64,6 @@ module _ (head : List ℕ) (n : ℕ) (conv : Converter) (total first count : ℕ
 
   size_is : 4704 * conv.channels ≡ frame_length (channels head)
   size_is = ap (λ (c : ℕ). 4704 * c) a.same
-
-  one_before : ltb 0 first ≡ true → GatherArgs head n (4704 * conv.channels) (first - 1) 1 (length window) start (length before)
-  one_before e =
-      let some : 0 < first = ltb-true 0 first e in
-      record {
-        taken = a.taken;
-        sizes = size_is;
-        lent = a.room_before ∙ sym size_is ∙ omega arith;
-        small = omega (arith, a.within, a.few);
-        each = λ k h. a.each (first - 1 + k) (omega arith) (omega arith) (omega (arith, a.within));
-      }
-
-  pub many : GatherArgs head n (4704 * conv.channels) first count (length window) start (length lent)
-  many = record {
-    taken = a.taken;
-    sizes = size_is;
-    lent = a.room ∙ ap (λ (s : ℕ). count * s) (sym size_is);
-    small = omega (arith, a.within, a.few);
-    each = λ k h. a.each (first + k) (omega arith) (omega arith) (omega (arith, a.within));
-  }
-
-  one_after : ltb (first + count) total ≡ true → GatherArgs head n (4704 * conv.channels) (first + count) 1 (length window) start (length after)
-  one_after e =
-      let more : first + count < total = ltb-true (first + count) total e in
-      record {
-        taken = a.taken;
-        sizes = size_is;
-        lent = a.room_after ∙ sym size_is ∙ omega arith;
-        small = omega (arith, a.within, a.few);
-        each = λ k h. a.each (first + count + k) (omega arith) (omega arith) (omega arith);
-      }
-
-  -- the frame before, and the frame after, as they are asked for
-  abbrev Asked : Option ℕ → ℕ → Type 0
-  Asked frame out = IfSome frame (λ f. GatherArgs head n (4704 * conv.channels) f 1 (length window) start out)
-
-  if_asked : (b : Bool) (f out : ℕ) → (b ≡ true → GatherArgs head n (4704 * conv.channels) f 1 (length window) start out) → Asked (then_some b f) out
-  if_asked true f out h = h refl
-  if_asked false f out h = _
-
-  pub asks_before : Asked (then_some (ltb 0 first) (first - 1)) (length before)
-  asks_before = if_asked (ltb 0 first) (first - 1) (length before) one_before
-
-  pub asks_after : Asked (then_some (ltb (first + count) total) (first + count)) (length after)
-  asks_after = if_asked (ltb (first + count) total) (first + count) (length after) one_after
 
   abbrev r : Run
   r = window_run head window start first count

@@ -3,20 +3,11 @@
 
 ghost use Rattle.std.specs.Prelude.{◌≡◌};
 ghost use Rattle.album_gather.specs.Steps.{StepPromise, window_run};
-ghost use Rattle.album_gather.specs.Steps as steps;
 ghost use Rattle.album_step.specs.Steps.{StepArgs, Worked};
 
 use album::Wanted;
 use album_gather::{Lent, Window, gather, gather_one};
 use reference::{ConvertStats, Converter, PcmError, Run};
-
-// A neighbour's list, or an empty part of it where there is none.
-#[tactic(auto, unfolding(album_gather::specs::Steps::there))]
-fn present<'a>(there: bool, bytes: &'a [u8]) -> &'a [u8]
-    ensures { result.now ≡ steps.there there bytes.now }
-{
-    if there { bytes } else { &bytes[0..0] }
-}
 
 // The step once it is accepted; the album has `total` frames. The lists cannot travel as one struct: two `&mut` of one
 // are not lent to two calls.
@@ -42,15 +33,14 @@ fn work(
     gather_one(window, size, previous, before);
     gather(window, size, first, count, frames);
     gather_one(window, size, next, after);
-    let mut counts = [0u64; 0];
     let run = Run {
         has_before,
-        before: present(has_before, before),
+        before: has_before.then_some(&*before).unwrap_or(&[]),
         frames,
         has_after,
-        after: present(has_after, after),
+        after: has_after.then_some(&*after).unwrap_or(&[]),
     };
-    scarletbook_pcm::convert(conv, run, false, out, &mut counts)
+    scarletbook_pcm::convert(conv, run, out, None)
 }
 
 // A step. The lists `before`, `frames` and `after` are places to work in.

@@ -50,7 +50,8 @@ fn frames_of(samples: u64) -> u64
     (samples / 8 + 4703) / 4704
 }
 
-// The numbers that the sentence of a refusal tells of a file, from its first bytes and its length.
+// The numbers that the sentence of a refusal tells of a file, from its first bytes and its length. The refusal comes by
+// its number, as `tell_album` answers it for C.
 #[tactic(auto, unfolding(crate::specs::Told::said_of, dsf::specs::Dsf::stated_length, dsf::specs::Dsf::channels, dsf::specs::Dsf::samples, dsf::specs::Dsf::frames))]
 pub fn said_of(head: &[u8], length: u64, rate: PcmRate, number: u8) -> Said
     ensures { result ≡ told.said_of head.now «length» rate number }

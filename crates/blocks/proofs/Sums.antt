@@ -1,6 +1,5 @@
 -- Samples to blocks, blocks to a channel of a frame: what the loops add up.
 use mathlib.Core.Path.{◌≡◌, refl, sym, ap, ◌∙◌, subst}
-use mathlib.Core.Logic.{⊎_elim}
 use mathlib.Core.Bool.{Bool, true, false}
 use mathlib.Core.List.{List}
 use Prim.Native.Nat.{ℕ, ◌+◌, ◌*◌, ◌/◌, ◌%◌, ◌^◌, ◌≤◌, ◌<◌}
@@ -11,10 +10,9 @@ use borrow.Author.Tests.{ne_eqb}
 use lib.Dec.{eqb}
 use lib.Seq.{get_or-take}
 use lib.IntN.{ℤ, pos, nat_abs}
-use lib.ListN.{length, take, length-take, replicate, length-replicate, get_or-replicate}
+use lib.ListN.{length, take, length-take}
 use Rattle.numbers.specs.Sums.{at0}
 use Rattle.numbers.specs.Lists.{Held}
-use Rattle.numbers.proofs.Lists.{below_or}
 use Rattle.reference.specs.Frames.{Run, frame_length, frame_count}
 use Rattle.reference.specs.Scaling.{scaled, clamp}
 use Rattle.reference.specs.Stages.{taps_of, M, y}
@@ -28,8 +26,6 @@ use Rattle.reference.specs.declared.Converter.{Converter}
 use Rattle.reference.specs.declared.ChannelStats.{ChannelStats}
 use Rattle.reference.proofs.Frames.{frame_samples}
 use Rattle.channel_bytes.specs.Lent.{Lent, lent_run, byte_at}
-use Rattle.filters.specs.Filters.{Small}
-use Rattle.filters.proofs.Signals.{past}
 use Rattle.routes.specs.Routes.{last_of, y_of, stride, around, first_byte, block_length, fresh, margin_from, Kept, State}
 use Rattle.routes.proofs.Routes.{a_frame, y_of_is, y_of_size}
 use Rattle.gain.specs.Tallies.{tally}
@@ -137,18 +133,10 @@ pub record Staged (conv : Converter) (β : ℕ → ℕ) (first : Bool) (n at : �
   pub position : at ≡ first_byte conv.cutoff (margin_from conv.rate conv.cutoff (M (last_of conv)) first (samples_per_frame conv.rate + n) + 2 * M (last_of conv))
   pub state : State conv.rate conv.cutoff (last_of conv) first β (samples_per_frame conv.rate + n) x kept
 
--- b blocks of m samples of a frame's channel are done; the numbers in the arrays that go on to the next one are small
+-- b blocks of m samples of a frame's channel are done
 pub record Blocks {A : Type 0} (o : Layout A) (conv : Converter) (r : Run) (β : ℕ → ℕ) (c n b m at : ℕ) (told : ChannelStats) (x kept : List ℤ) (out out' : List A) : Type 0 where
-  pub x_small : Small (2 ^ 27) x
-  pub kept_small : Small (2 ^ 29) kept
   pub staged : Staged conv β (eqb b 0) (n + b * m) at x kept
   pub made : Made o conv r c n (b * m) told out out'
-
-pub zeros_small : (n : ℕ) {B : ℕ} → Small B (replicate n (pos 0))
-zeros_small n {B} =
-    record {
-      size = λ i. ⊎_elim (λ (l : i < n). rw (get_or-replicate n i (pos 0) (pos 0) l) (omega arith)) (λ (l : n ≤ i). rw (past (replicate n (pos 0)) i (omega (arith, length-replicate n (pos 0)))) (omega arith)) (below_or i n);
-    }
 
 kept_none : (rate : PcmRate) (cutoff : Cutoff) (F : List ℤ) (β : ℕ → ℕ) (n : ℕ) (l : List ℤ) → n % 2 ≡ 0 → Kept rate cutoff F true β n l
 unfolding Kept
@@ -211,21 +199,21 @@ ready_of j = record { slices = rw j.same at j.slices.lent; first = j.first; last
 -- ---- blocks of a frame's channel
 
 module _ {A : Type 0} {o : Layout A} {conv : Converter} {r : Run} {β : ℕ → ℕ} {c n m : ℕ} {x kept : List ℤ} {out : List A} where
-  pub blocks_none : {at : ℕ} {told : ChannelStats} → Small (2 ^ 27) x → Small (2 ^ 29) kept → Staged conv β true n at x kept → told ≡ no_samples → Blocks o conv r β c n 0 m at told x kept out out
-  blocks_none p q s e =
+  pub blocks_none : {at : ℕ} {told : ChannelStats} → Staged conv β true n at x kept → told ≡ no_samples → Blocks o conv r β c n 0 m at told x kept out out
+  blocks_none s e =
       let z : 0 * m ≡ 0 = omega arith in
       let i : n + 0 ≡ n = omega arith in
-      record { x_small = p; kept_small = q; staged = rw (z, i) s; made = rw z (made_none e) }
+      record { staged = rw (z, i) s; made = rw z (made_none e) }
 
   -- one more
   pub blocks_more : {b at at' : ℕ} {told more both : ChannelStats} {x' kept' : List ℤ} {out' out'' : List A} → Blocks o conv r β c n b m at told x kept out out' → m ≡ block_length conv.rate conv.cutoff
-      → Small (2 ^ 27) x' → Small (2 ^ 29) kept' → Staged conv β false (n + b * m + block_length conv.rate conv.cutoff) at' x' kept'
+      → Staged conv β false (n + b * m + block_length conv.rate conv.cutoff) at' x' kept'
       → Made o conv r c (n + b * m) m more out' out'' → b * m + m < 2 ^ 64 → both ≡ joined_channel told more → Blocks o conv r β c n (b + 1) m at' both x' kept' out out''
-  blocks_more {b} d is p q s g l j =
+  blocks_more {b} d is s g l j =
       let next : b * m + m ≡ (b + 1) * m = omega arith in
       let i : n + b * m + block_length conv.rate conv.cutoff ≡ n + (b + 1) * m = omega arith in
       let later : eqb (b + 1) 0 ≡ false = ne_eqb (b + 1) 0 (λ z. omega arith) in
-      record { x_small = p; kept_small = q; staged = rw later (rw i at s); made = rw next at (made_join d.made g l j) }
+      record { staged = rw later (rw i at s); made = rw next at (made_join d.made g l j) }
 
 -- the front of what is held
 pub front_of : {f : ℕ → ℤ} {a n : ℕ} {l : List ℤ} (m : ℕ) → m ≤ n → Held (pos 0) f a n l → Held (pos 0) f a (length (take m l)) (take m l)

@@ -12,6 +12,7 @@ ghost use Rattle.blocks.specs.Jobs.{run_of, bytes_of, in_frame, in_run};
 
 use output::Place;
 use reference::ChannelStats;
+use stages::Buffers;
 
 mod job;
 
@@ -50,7 +51,8 @@ impl<'a> Job<'a> {
         told
     }
 
-    // A channel of the frame whose first sample is n.
+    // A channel of the frame whose first sample is n. The arrays are of fixed length, and filled a block at a time: nothing
+    // here is on the heap.
     pub fn channel<P: Place>(&self, channel: usize, n: usize, out: &mut [P]) -> ChannelStats
         requires place { (channel < self.now.conv.channels) × (n + in_frame self.now ≤ in_run self.now) × (n % 2 ≡ 0) }
         requires room { Room P.layout (in_run self.now * self.now.conv.channels) out.old }
@@ -62,14 +64,12 @@ impl<'a> Job<'a> {
         let m = kernel::block_length(rate, cutoff);
         let last = self.taps.len() - 1;
         let mut bytes = [0; 512];
-        let mut odd = [0; 247];
-        let mut x = [0; 512];
-        let mut kept = [0; 184];
+        let mut buffers = Buffers::new();
         let mut y = [0; 336];
         let mut samples = [0; 336];
         let mut at = kernel::start(rate, cutoff, last, spf + n);
         at = self.gather(channel, at, 2 * last, &mut bytes);
-        kernel::margin(cutoff, self.tables, &bytes, 2 * last, &mut odd, &mut x);
+        kernel::margin(cutoff, self.tables, &bytes, 2 * last, &mut buffers);
         let mut told = ChannelStats::none();
         for b in 0..spf / m {
             let first = b == 0;
@@ -82,9 +82,7 @@ impl<'a> Job<'a> {
                 self.taps,
                 &bytes,
                 first,
-                &mut odd,
-                &mut x,
-                &mut kept,
+                &mut buffers,
                 &mut y,
             );
             let more = self.write(channel, n + b * m, &y[..m], &mut samples[..m], out);

@@ -2,12 +2,9 @@
 use mathlib.Core.Path.{◌≡◌, refl, sym, ap₂, ◌∙◌}
 use mathlib.Core.List.{List, [], ◌∷◌}
 use mathlib.Core.Bool.{Bool, true, false, ◌&&◌, true≢false}
-use mathlib.Core.Logic.{◌≢◌}
-use Prim.Native.Nat.{ℕ, suc, ◌<◌}
-use borrow.Author.Tests.{eqb-true, eq-eqb, ne_eqb}
+use Prim.Native.Nat.{ℕ}
+use borrow.Author.Tests.{eqb-true, eq-eqb}
 use lib.Dec.{eqb}
-use lib.ListN.{length, get_or, drop}
-use lib.Seq.{drop-cons}
 use Rattle.byte_lists.specs.Lists.{same}
 
 pub and_left : (a b : Bool) → a && b ≡ true → a ≡ true
@@ -28,9 +25,6 @@ pub and_false : (a b : Bool) → b ≡ false → a && b ≡ false
 and_false true b e = e
 and_false false b e = refl
 
-pub and_then : (a b : Bool) → a ≡ true → a && b ≡ b
-and_then a b e = rw e refl
-
 pub no_true : {A : Type 0} (a : Bool) → a ≡ true → a ≡ false → A
 no_true a e f = absurd (true≢false (sym e ∙ f))
 
@@ -43,16 +37,3 @@ same_is [] [] e = refl
 same_is [] (y ∷ ys) e = absurd (true≢false (sym e))
 same_is (x ∷ xs) [] e = absurd (true≢false (sym e))
 same_is (x ∷ xs) (y ∷ ys) e = ap₂ (λ (a : ℕ) (l : List ℕ). a ∷ l) (eqb-true x y (and_left _ _ e)) (same_is xs ys (and_right (eqb x y) _ e))
-
-module _ (xs ys : List ℕ) (k : ℕ) (h : k < length xs) (i : k < length ys) where
-  pub same_next : get_or xs k 0 ≡ get_or ys k 0 → same (drop k xs) (drop k ys) ≡ same (drop (suc k) xs) (drop (suc k) ys)
-  same_next e = rw (drop-cons xs k 0 h, drop-cons ys k 0 i) (and_then _ _ (eq-eqb _ _ e))
-
-  pub same_differ : get_or xs k 0 ≢ get_or ys k 0 → same (drop k xs) (drop k ys) ≡ false
-  same_differ e = rw (drop-cons xs k 0 h, drop-cons ys k 0 i) (and_not _ _ (ne_eqb _ _ e))
-
-pub same_longer : (xs ys : List ℕ) → length xs ≢ length ys → same xs ys ≡ false
-same_longer [] [] n = absurd (n refl)
-same_longer [] (y ∷ ys) n = refl
-same_longer (x ∷ xs) [] n = refl
-same_longer (x ∷ xs) (y ∷ ys) n = and_false (eqb x y) _ (same_longer xs ys (λ e. n (rw e)))

@@ -1,4 +1,5 @@
-// Settings changed while a converter is open: request 7.
+// Settings changed while a converter is open: request 7. Rate, cutoff and gain come one by one, as the public call has
+// them, whose form the documents promise: a record of them would be made for `wanted` alone.
 #![tactic(auto)]
 
 ghost use Rattle.std.specs.Prelude.{◌≡◌};

@@ -16,7 +16,8 @@ pub use slices::Slices;
 // What a position that no frame holds reads.
 const IDLE: u8 = 0x69;
 
-// Bytes of a channel of a frame, from its byte `offset` on, to every place.
+// Bytes of a channel of a frame, from its byte `offset` on, to every place. A part, which may be nothing, is no
+// `Slices`: its channels and the channel come one by one, here and in `copy`.
 fn pick(part: &[u8], channels: usize, channel: usize, offset: usize, places: &mut [u8])
     requires { (channels ≤ 6) × (channel < channels) × (offset + length places.old ≤ 4704) × (length part.now ≡ frame_length channels) }
     ensures { Held 0 (λ j. get_or part.now (j * channels + channel) 0x69) offset (length places.old) places.new }
@@ -26,7 +27,8 @@ fn pick(part: &[u8], channels: usize, channel: usize, offset: usize, places: &mu
     }
 }
 
-// Bytes of a channel of a part that is a frame, from its byte `offset` on, or idle bytes if it is nothing, to every place.
+// Bytes of a channel of a part that is a frame, from its byte `offset` on, or idle bytes if it is nothing, to every
+// place.
 fn copy(part: &[u8], channels: usize, channel: usize, offset: usize, places: &mut [u8])
     requires { (channels ≤ 6) × (channel < channels) × (offset + length places.old ≤ 4704) × (0 < length part.now → length part.now ≡ frame_length channels) }
     ensures { Held 0 (λ j. get_or part.now (j * channels + channel) 0x69) offset (length places.old) places.new }

@@ -80,7 +80,3 @@ pub line_exact : (ws : List Word) (a b : Line) → LineRead ws a → LineRead ws
 line_exact ws a b p q =
     ⊎_elim (λ d. ⊎_elim (λ e. d.1 ∙ ap Usage (same_fault (p.fault d.0 d.1) (q.fault e.0 e.1)) ∙ sym e.1) (λ n. p.takes b (q.takes_only n)) (usage_or b))
     (λ n. sym (q.takes a (p.takes_only n))) (usage_or a)
-
--- so what is read is what the code reads
-pub as_read : {ws : List Word} {a : Line} → LineRead ws a → a ≡ line_of ws
-as_read {ws} {a} p = line_exact ws a (line_of ws) p (line_read ws)

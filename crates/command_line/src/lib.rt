@@ -17,6 +17,7 @@ pub use telling::{kind, numbers};
 pub fn read(words: &[u8]) -> Line
     ensures { LineRead (words_of words.now) result }
 {
+    // A word is counted where it is read: its end shows only then, so there is no list of words to `enumerate`.
     let mut state = start();
     let mut k = 0u64;
     let mut left = words;

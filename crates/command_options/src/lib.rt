@@ -1,4 +1,7 @@
 // One word of the command line: an option, an option's value, a name; and what may come after it.
+//
+// The options so far, the word's number k and its bytes come one by one: each function needs other ones of them (the
+// jobs the bytes alone), and a record would be made anew for each word, only to be taken apart here.
 #![tactic(auto)]
 
 ghost use Rattle.std.specs.Prelude.{◌≡◌};
@@ -69,15 +72,14 @@ fn gain(word: &[u8]) -> Option<i32>
 fn sheet(k: u64, word: &[u8]) -> Option<u64>
     ensures { result ≡ reading.sheet_of k word.now }
 {
-    if name(true, word) { Some(k) } else { None }
+    name(true, word).then_some(k)
 }
 
 // 1 to 64 jobs.
 fn jobs(word: &[u8]) -> Option<u32>
     ensures { result ≡ reading.jobs_of word.now }
 {
-    let n = number(word)?;
-    if 1 <= n && n <= 64 { Some(n) } else { None }
+    number(word).filter(|n| 1 <= *n && *n <= 64)
 }
 
 // The options with an option's value.

@@ -7,7 +7,8 @@ ghost use Rattle.command_words.specs.Words.{words_of};
 
 use byte_lists::split_once;
 
-// Whether a word may be a file's name: it is not empty, and has no minus sign in front unless the options' end is marked.
+// Whether a word may be a file's name: it is not empty, and has no minus sign in front unless the options' end is marked,
+// which is a fact of the words before it, and nothing stands beside it.
 #[tactic(auto, unfolding(crate::specs::Words::name))]
 pub fn name(marked: bool, word: &[u8]) -> bool
     ensures { result ≡ words.name marked word.now }

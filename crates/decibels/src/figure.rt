@@ -4,7 +4,7 @@
 const ONE: u64 = 0x0800_0000_0000_0000;
 
 // A factor from 10^-6 up to 16 in 2^59ths, rounded down.
-#[tactic(auto, using(gain::proofs::Records::number))]
+#[tactic(auto, using(crate::proofs::Numbers::number))]
 fn parts(factor: f64) -> u64 {
     if factor != factor {
         return 0;

@@ -24,10 +24,6 @@ T_of e = rw e tt
 pub F_of : {b : Bool} → b ≡ false → T (not b)
 F_of e = rw e tt
 
-pub not_T_is : {b : Bool} → (T b → ⊥) → b ≡ false
-not_T_is {b = true} h = absurd (h tt)
-not_T_is {b = false} h = refl
-
 pub both : (a b : Bool) → T a → T b → T (a && b)
 both true b p q = q
 both false b p q = p

@@ -19,13 +19,12 @@ use Rattle.reference.proofs.Refusals.{error_refuses, at_first, at_next, at_end, 
 use Rattle.reference.specs.Promises.{by_decision}
 use Rattle.reference.specs.declared.PcmError.{PcmError}
 use Rattle.reference.proofs.Promises.{accepted_is, exit_accepted, exit_refused}
-use Rattle.dsf.specs.Dsf.{Bytes, number_at, blocks, data_bytes, data_place, channels, bits_per_sample, samples, needed, frames, frames_in, places_at, file_places, frame_places, accepts, our_byte, sample_byte, turn_byte, data_frame, file_data, file_frame}
+use Rattle.dsf.specs.Dsf.{Bytes, number_at, blocks, data_bytes, data_place, channels, bits_per_sample, samples, needed, frames, frames_in, file_places, frame_places, accepts, our_byte, sample_byte, turn_byte, data_frame, file_data, file_frame}
 use Rattle.dsf.specs.Reading.{HeadOf, file_header, header_places}
 use Rattle.dsf.specs.declared.DsfHeader.{DsfHeader}
 use Rattle.dsf.proofs.Alike.{T_is, T_of, left, right, skip}
 use Rattle.dsf.proofs.Numbers.{number_small, each_take, each_drop}
 use Rattle.dsf.proofs.Accepted.{sound_at, head_channels}
-use Rattle.dsf.proofs.Tests.{too_short}
 use Rattle.dsf.proofs.Head.{whole_head, header_right}
 use Rattle.dsf_frames.specs.Reading.{lesser, window_start, window_end, window_of, asked_places, window_places, window_data, window_frame, Framed, WindowOf}
 use Rattle.dsf_frames.specs.Columns.{WindowArgs}
@@ -136,13 +135,6 @@ whole_frame file f =
   where
     at : (j : ℕ) → get_or (drop 92 file) (j - 0) 0 ≡ get_or file (92 + j) 0
     at j = let z : j - 0 ≡ j = omega arith in rw z (get_or-drop 92 file j 0)
-
--- a file that has no header
-pub short_file : (file : List ℕ) (f room : ℕ) → length file < 92 → decide (frame_places file f room) ≡ refused 9 []
-unfolding frame_places file_places is_accepted
-short_file file f room l =
-    let e = too_short file (length file) l in
-    decide_stop (places_at file (length file)) _ (ap is_accepted e) ∙ e
 
 -- the places decide alike, and the frame is the same
 pub framed_as : {ps qs : List Place} {x y out out' : List ℕ} {answer : Result (Unit {0}) PcmError} → decide ps ≡ decide qs → x ≡ y → Framed ps x out out' answer → Framed qs y out out' answer

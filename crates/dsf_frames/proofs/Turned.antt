@@ -2,14 +2,14 @@
 use mathlib.Core.Path.{◌≡◌, refl}
 use mathlib.Core.Bool.{Bool, true, false, cond, ◌&&◌}
 use Prim.Native.Nat.{ℕ, ◌<◌}
-use lib.Dec.{T, eqb, ltb, eqb→eq, ltb→lt}
+use lib.Dec.{T, eqb, ltb, eqb→eq}
 use Rattle.numbers.specs.Lists.{total}
 use Rattle.numbers.proofs.Tests.{each_below, each_below_at}
 use Rattle.std.specs.Int.{w8, reverse_bits, reverse_bits_onto}
 use Rattle.dsf.specs.Dsf.{turned, our_byte}
 use Rattle.dsf.specs.Orders.{bit_order, ordered}
 use Rattle.dsf.specs.declared.BitOrder.TheVariants.{LowestFirst, HighestFirst}
-use Rattle.dsf.proofs.Alike.{left, right}
+use Rattle.dsf.proofs.Alike.{left}
 
 test : ℕ → Bool
 test x = eqb (turned (turned x)) x && ltb (turned x) 256
@@ -21,10 +21,6 @@ all_turned = tt
 pub turned_twice : (x : ℕ) → x < 256 → turned (turned x) ≡ x
 unfolding test
 turned_twice x h = eqb→eq _ _ (left (eqb (turned (turned x)) x) (ltb (turned x) 256) (each_below_at test 256 x all_turned h))
-
-pub turned_byte : (x : ℕ) → x < 256 → turned x < 256
-unfolding test
-turned_byte x h = ltb→lt _ _ (right (eqb (turned (turned x)) x) (ltb (turned x) 256) (each_below_at test 256 x all_turned h))
 
 -- as the machine turns it
 same : ℕ → Bool

@@ -92,9 +92,6 @@ module _ {n c first end start size out : ℕ} (a : ColumnArgs n c first end star
   pub cells : (k s : ℕ) → k + s ≤ 4704 → k * n + c + s * n < out + n
   cells k s h = omega (arith, mul-le-mul_right n h, add-mul k s n, a.lent, a.channel)
 
-  pub cell_small : (k : ℕ) → k ≤ 4704 → k * n + c < 2 ^ 64
-  cell_small k h = omega (arith, mul-le-mul h a.six, a.channel, a.six)
-
   pub lent_small : out + n < 2 ^ 64
   lent_small = omega (arith, a.lent, a.six)
 

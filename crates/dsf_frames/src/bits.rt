@@ -20,6 +20,7 @@ fn ours(order: BitOrder, x: u8) -> u8
 pub fn order_table(order: BitOrder) -> [u8; 256]
     ensures { Ordering order result }
 {
+    // By an index, which is the byte.
     let mut table = [0u8; 256];
     for x in 0..256 {
         table[x] = ours(order, x as u8);

@@ -11,12 +11,17 @@ use crate::{FrameWindow, Stretch};
 use dsf::{DsfHeader, read_header};
 use reference::PcmError;
 
+// Tells that a slice's numbers are bytes: of a parameter that is known, of the slice in a `Stretch` it is not.
+fn are_bytes(bytes: &[u8])
+    ensures { Bytes bytes.now }
+{}
+
 // Frame f out of a window of the file's data.
 fn frame_from_window(header: DsfHeader, f: u64, window: &Stretch, out: &mut [u8])
-    requires args { WindowArgs header.channels header.samples f window.now.start (length window.now.bytes.now) (length out.old) }
-    requires are_bytes { Bytes window.now.bytes.now }
+    requires { WindowArgs header.channels header.samples f window.now.start (length window.now.bytes.now) (length out.old) }
     ensures { out.new ≡ data_frame (window_data window.now.bytes.now window.now.start) header.channels header.bits_per_sample header.samples f }
 {
+    are_bytes(window.bytes);
     let channels = header.channels;
     let first = f * 4704;
     let end = (header.samples / 8).min(first + 4704);
@@ -45,7 +50,7 @@ fn groups(channels: u64, samples: u64, f: u64) -> FrameWindow
     FrameWindow { start, end }
 }
 
-// What a program that reads a file in pieces reads for a frame.
+// What a program that reads a file in pieces reads for a frame. Three numbers and no header: the C call has no more.
 #[tactic(auto, using(crate::proofs::Asked::no_window, crate::proofs::Asked::no_channels), unfolding(dsf::specs::Dsf::frames_in))]
 pub fn window(channels: u64, samples: u64, frame: u64) -> Option<FrameWindow>
     ensures { result ≡ window_of channels samples frame }
@@ -64,7 +69,8 @@ pub fn reaches(start: u64, size: u64, end: u64) -> bool
     end.saturating_sub(start) <= size
 }
 
-// Whether a window holds a frame, and a buffer is one.
+// Whether a window holds a frame, and a buffer is one. That there are at most six channels is a clause here, as in
+// `groups`: the fields of a `DsfHeader` are public, and one with that fact would ask it of whoever makes one.
 #[tactic(auto, using(crate::proofs::Asked::no_frame, crate::proofs::Asked::begins_late, crate::proofs::Asked::ends_early, crate::proofs::Asked::wrong_room, crate::proofs::Asked::fits), unfolding(dsf::specs::Dsf::frames_in))]
 fn asked(header: DsfHeader, frame: u64, window: &Stretch, room: usize) -> Result<(), PcmError>
     requires { header.channels ≤ 6 }
@@ -86,8 +92,7 @@ fn asked(header: DsfHeader, frame: u64, window: &Stretch, room: usize) -> Result
 
 // A frame of a file whose header is accepted.
 fn take(header: DsfHeader, frame: u64, window: &Stretch, out: &mut [u8]) -> Result<(), PcmError>
-    requires some { (1 ≤ header.channels) × (header.channels ≤ 6) }
-    requires are_bytes { Bytes window.now.bytes.now }
+    requires { (1 ≤ header.channels) × (header.channels ≤ 6) }
     ensures { Framed (asked_places header.channels header.samples frame window.now.start (length window.now.bytes.now) (length out.old)) (data_frame (window_data window.now.bytes.now window.now.start) header.channels header.bits_per_sample header.samples frame) out.old out.new result }
 {
     asked(header, frame, window, out.len())?;

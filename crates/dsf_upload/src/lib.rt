@@ -67,6 +67,8 @@ fn answer(head: &[u8], total: u64) -> Upload
     if may_go_on(head, total) {
         return Upload::Unfinished;
     }
+    // No `find`: its closure would have to know by itself that `head` is as long as `size`, which holds as a shorter
+    // beginning is hopeless at its whole length or was answered above.
     for k in 0..92 {
         let size = k + 1;
         if !may_go_on(&head[..size], size as u64) {

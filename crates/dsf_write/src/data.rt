@@ -19,7 +19,8 @@ fn gather(frames: &[u8], table: &[u8; 256], from: usize, stride: usize, out: &mu
     }
 }
 
-// A block of a channel: the blocks of the data are the channels' in turn.
+// A block of a channel: the blocks of the data are the channels' in turn. What is read and how many bytes of it a
+// channel has come one by one, here and in `put_data`: a record would be made there and taken apart here.
 fn put_block(
     frames: &[u8],
     table: &[u8; 256],

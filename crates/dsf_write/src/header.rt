@@ -1,5 +1,5 @@
 // The 92 bytes before the data.
-ghost use Rattle.std.specs.Prelude.{◌≡◌, ◌+◌, ◌*◌, ◌^◌, ◌≤◌, length};
+ghost use Rattle.std.specs.Prelude.{◌≡◌, ◌+◌, ◌≤◌, length};
 ghost use Rattle.dsf.specs.Dsf.{bytes, pair};
 ghost use Rattle.dsf.specs.Headers.{header};
 ghost use Rattle.dsf_write.specs.Written.{type_of};
@@ -13,13 +13,11 @@ fn put(out: &mut [u8], at: usize, bytes: &[u8])
     out[at..at + bytes.len()].copy_from_slice(bytes);
 }
 
-// The header of so many samples of each channel, and so many bytes of data.
-pub fn put_header(channels: u8, samples: u64, need: u64, out: &mut [u8])
-    requires { (1 ≤ channels) × (channels ≤ 6) × (need ≤ 6 * (2 ^ 61 + 4095)) × (92 ≤ length out.old) }
-    ensures { PutPromise 0 (header (bytes 8 (92 + need)) (bytes 8 0) (pair (type_of channels) channels) 1 (bytes 8 samples) (bytes 8 (12 + need))) out.old out.new }
+// The header: the stated length of the file, the samples of each channel, and the size of the data's chunk.
+pub fn put_header(channels: u8, stated: u64, samples: u64, size: u64, out: &mut [u8])
+    requires { (1 ≤ channels) × (channels ≤ 6) × (92 ≤ length out.old) }
+    ensures { PutPromise 0 (header (bytes 8 stated) (bytes 8 0) (pair (type_of channels) channels) 1 (bytes 8 samples) (bytes 8 size)) out.old out.new }
 {
-    let stated = 92 + need;
-    let size = 12 + need;
     put(out, 0, b"DSD \x1c\0\0\0\0\0\0\0");
     put(out, 12, &stated.to_le_bytes());
     put(

@@ -59,7 +59,8 @@ fn fill(channels: u8, frames: &[u8], out: &mut [u8])
     let count = channels as usize;
     let bytes = frames.len() / (4704 * count) * 4704;
     let samples = 8 * bytes as u64;
-    put_header(channels, samples, data_bytes(samples, channels as u64), out);
+    let need = data_bytes(samples, channels as u64);
+    put_header(channels, 92 + need, samples, 12 + need, out);
     put_data(frames, count, bytes, out);
 }
 

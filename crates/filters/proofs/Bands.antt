@@ -64,14 +64,6 @@ band_is : (h y : List ℤ) (v : List ℕ) (k : ℕ) → pos 8388608 *ℤ lifted 
 unfolding band_sum
 band_is h y v k = refl
 
--- one place: the centre's product c, and the taps
-pub single : (h y₀ y : List ℤ) (v : List ℕ) (k n : ℕ) {c : ℤ} → c ≡ pos 8388608 *ℤ lifted y k → at0 y k ≡ at0 y₀ k → n ≡ 8
-    → c +ℤ arms h (raised v) 0 (k + 8 - 1) (k + 8) (n - 0) ≡ band_sum h y₀ v k
-single h y₀ y v k n {c} e s m =
-    let d : k + 8 ≡ 8 + k = omega arith in
-    let f : n - 0 ≡ 8 = omega arith in
-    rw (d, f) (ap (λ (z : ℤ). z +ℤ arms h (raised v) 0 (8 + k - 1) (8 + k) 8) e) ∙ band_is h y v k ∙ band_same h y₀ y v k s
-
 -- ---- over the copy of xo these are the sums of HB, lifted by 2^53
 pub odd_eight : length (odd_taps HB) ≡ 8
 unfolding HB

@@ -42,7 +42,8 @@ fn one<const L: usize>(acc: [i64; L], h: i64, v: &[u64], down: usize, up: usize)
     s
 }
 
-// Two taps, two places apart: two values at a time are loaded, so most of those that the second tap takes are there from the first.
+// Two taps, two places apart: two values at a time are loaded, so most of those that the second tap takes are there
+// from the first.
 pub fn two<const L: usize>(
     acc: [i64; L],
     a: i64,

@@ -1,5 +1,9 @@
-// Module 5: filters over blocks of whole numbers: the sums of every place, then their rounding. Every place of the output is written, nothing
-// else is.
+// Module 5: filters over blocks of whole numbers: the sums of every place, then their rounding. Every place of the
+// output is written, nothing else is.
+//
+// That values are below 2^29 and taps below 2^25 is a clause of each function that needs it: values are slices that
+// are written from stage to stage, and a struct of one with its bound would be made anew for each call. The taps of
+// `Arms` have it as a fact.
 #![tactic(auto)]
 
 ghost use Rattle.std.specs.Prelude.{◌≡◌, ◌+◌, ◌*◌, ◌-◌, ◌^◌, ◌≤◌, ◌<◌, length};
@@ -39,7 +43,8 @@ pub fn fir1(y: &mut [i64], h: &[i64], x: &[i64])
     round::all::<24>(y);
 }
 
-// A filter at half the rate: its even taps over the places of x at an even distance from the centre, its odd ones over the others.
+// A filter at half the rate: its even taps over the places of x at an even distance from the centre, its odd ones over
+// the others.
 pub fn dec2(y: &mut [i64], he: &[i64], ho: &[i64], x: &[i64])
     requires he_nonzero { (0 < length he.now) × (length he.now + length ho.now ≤ 117) × (length he.now ≤ length ho.now + 1) × (length ho.now ≤ length he.now) × (2 * (length y.old + length he.now + length ho.now) ≤ length x.now + 3) × (length x.now ≤ 400) }
     requires phases { Phases he.now ho.now }
@@ -81,7 +86,8 @@ fn half_taps() -> [i64; 8]
     ]
 }
 
-// HB at half the rate, in place: y holds the values at even places, xo those at odd ones. Of the even taps only the centre is not 0.
+// HB at half the rate, in place: y holds the values at even places, xo those at odd ones. Of the even taps only the
+// centre is not 0.
 pub fn half(y: &mut [i64], xo: &[i64])
     requires y_in_bounds { (length y.old + 15 ≤ length xo.now) × (length xo.now ≤ 247) }
     requires small { Small (2 ^ 29) y.old }

@@ -14,7 +14,7 @@ fn lift(a: i64) -> u64
     (a + 536870912) as u64
 }
 
-// The copy: v begins with x, each value lifted.
+// The copy: v begins with x, each value lifted. By an index, which goes over both; v may be longer.
 pub fn raise(x: &[i64], v: &mut [u64])
     requires x_in_bounds { length x.now ≤ length v.old }
     requires small { Small (2 ^ 29) x.now }
@@ -26,7 +26,8 @@ pub fn raise(x: &[i64], v: &mut [u64])
     }
 }
 
-// Every second value of x, from place `from` on, lifted.
+// Every second value of x, from place `from` on, lifted. Not `raise` with a step and a start: the number of values read
+// has a formula of its own, which `raise`, with all values from place 0, would have to promise and prove as well.
 pub fn raise_second(x: &[i64], from: usize, v: &mut [u64])
     requires from_bound { (from ≤ 1) × (length x.now ≤ 400) × (200 ≤ length v.old) }
     requires small { Small (2 ^ 29) x.now }

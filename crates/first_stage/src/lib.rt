@@ -1,4 +1,5 @@
-// Module 4: sums of look-ups in byte tables, over windows of bytes. Of the tables of S1 or S1_WIDE they are u: crate stages.
+// Module 4: sums of look-ups in byte tables, over windows of bytes. Of the tables of S1 or S1_WIDE they are u: crate
+// stages.
 #![tactic(auto)]
 
 ghost use Rattle.std.specs.Prelude.{◌≡◌, ◌+◌, ◌*◌, ◌≤◌, pos, length, get_or};
@@ -18,7 +19,8 @@ fn table_sum(tables: &[i32], window: &[u8]) -> i64
     sum
 }
 
-// The sum over the window from byte `at` on, by 2 × half tables.
+// The sum over the window from byte `at` on, by 2 × half tables. `half` is a number that both callers write, 4 or 6, so
+// that the loops are of known length; it stands here beside the tables' length for that.
 fn window(tables: &[i32], half: usize, bytes: &[u8], at: usize) -> i64
     requires { (length tables.now ≡ 256 * (2 * half)) × (half ≤ 6) × (at + 2 * half ≤ length bytes.now) × (length bytes.now ≤ 512) }
     ensures { result ≡ window_sum tables.now half bytes.now at }
@@ -27,8 +29,8 @@ fn window(tables: &[i32], half: usize, bytes: &[u8], at: usize) -> i64
     table_sum(tables, &bytes[at..end])
 }
 
-// The sums of every step-th window, from byte `start` on. Two windows are summed in a turn: most bytes of the second are loaded for the
-// first.
+// The sums of every step-th window, from byte `start` on. Two windows are summed in a turn: most bytes of the second
+// are loaded for the first.
 pub fn first_stage(
     tables: &[i32],
     half: usize,

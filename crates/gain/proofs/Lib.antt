@@ -4,3 +4,4 @@ pub mod Records
 pub mod Tallies
 pub mod Scaling
 pub mod Order
+pub mod Clip

@@ -1,4 +1,5 @@
--- The factor of every allowed gain is finite, above 0 and at most 16: what is computed at |db| lies between what is computed at 0 and at 24 or 120, and antt runs those.
+-- The factor of every allowed gain is finite, above 0 and at most 16: what is computed at |db| lies between what is
+-- computed at 0 and at 24 or 120, and antt runs those.
 use mathlib.Core.Path.{◌≡◌, refl, sym, subst}
 use mathlib.Core.Logic.{◌⊎◌, inl, inr}
 use Prim.Native.Nat.{ℕ, zero, suc, ◌*◌, ◌≤◌, zero-le}

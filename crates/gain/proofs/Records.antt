@@ -1,4 +1,5 @@
--- A right gain record has the factor that its decibels give, and that factor is bounded; so is that of a record that the gain call makes.
+-- A right gain record has the factor that its decibels give, and that factor is bounded; so is that of a record that
+-- the gain call makes.
 use mathlib.Core.Path.{◌≡◌, refl, sym, ap, ◌∙◌, subst}
 use mathlib.Core.Bool.{Bool, true, false, not, ◌&&◌, true≢false}
 use Prim.Native.Nat.{ℕ}
@@ -7,10 +8,9 @@ use Rattle.std.specs.Float.{float_with_sign}
 use native.Mathlib.Omega.{arith}
 use borrow.Author.Tests.{eqb-true, ne_eqb}
 use lib.Dec.{T, eqb}
-use lib.Ieee.{Float, nan, inf, fin, binary64, of_int, neg, ne, lt, le, fits, is_nan, to_bits, of_bits}
+use lib.Ieee.{Float, nan, inf, fin, binary64, of_int, neg, lt, le, fits, is_nan, to_bits, of_bits}
 use lib.Ieee.Fits.{nan-fits, cond-fits, mul-fits, div-fits, and_l, and_r}
 use lib.Ieee.Bits.{of_bits-to_bits, is_true}
-use lib.Ieee.Compare.{nan_differs}
 use Rattle.reference.specs.Scaling.{whole, squared, magnitude, db_to_linear, allowed, right_gain}
 use Rattle.reference.specs.Refusals.{gain_places, decide, accepted, refused}
 use Rattle.reference.specs.Promises.{GainPromise}
@@ -18,13 +18,6 @@ use Rattle.reference.specs.declared.Gain.{Gain}
 use Rattle.reference.specs.declared.PcmError.TheVariants as error
 use Rattle.gain.specs.Scale.{bounded}
 use Rattle.gain.proofs.Reach.{factor_bounded}
-
--- what equals itself is no NaN
-pub number : (x : Float) → ne x x ≡ false → T (not (is_nan x))
-unfolding is_nan
-number nan h = absurd (true≢false (sym nan_differs ∙ h))
-number (inf s) h = tt
-number (fin s m e) h = tt
 
 -- floats with the same bits are the same
 pub same_bits : (x y : Float) → T (fits binary64 x) → T (fits binary64 y) → to_bits binary64 x ≡ to_bits binary64 y → x ≡ y

@@ -30,7 +30,8 @@ fn nearest_even(x: f64) -> f64
     (x + MAGIC) - MAGIC
 }
 
-// z, a whole number, brought into a sample's range. The second test is of the first one's answer: so each is one instruction.
+// z, a whole number, brought into a sample's range. The second test is of the first one's answer: so each is one
+// instruction.
 fn clip(z: f64) -> f64
     requires { T (in_signed binary64 63 z) }
     ensures { result ≡ of_int binary64 (clamp (to_signed 63 z)) }
@@ -72,7 +73,8 @@ fn before_clamp(y: i32, factor: f64) -> i64
     z as i64
 }
 
-// The numbers of a block as samples. Scaling keeps their order, so that for the lowest and the highest no other y is scaled again.
+// The numbers of a block as samples. Scaling keeps their order, so that for the lowest and the highest no other y is
+// scaled again.
 pub fn scale_block(ys: &[i64], factor: f64, out: &mut [i32]) -> ChannelStats
     requires ys_nonzero { (0 < length ys.now) × (length out.old ≡ length ys.now) }
     requires t { T (bounded factor) }

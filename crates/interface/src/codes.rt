@@ -1,4 +1,5 @@
-// The interface's numbers read as settings, each as `None` where it is unknown.
+// The interface's numbers read as settings, each as `None` where it is unknown. Numbers, flags and lists, one by one,
+// are those of the C calls; here they become types.
 ghost use Rattle.std.specs.Prelude.{◌≡◌, ◌&&◌};
 ghost use Rattle.reference.specs.Stages as stages;
 ghost use Rattle.interface.specs.Codes as codes;
@@ -7,12 +8,6 @@ ghost use Rattle.interface.specs.Settings as spelled;
 ghost use Rattle.interface.specs.Settings.{known, settings_of, known_converter, held_converter};
 
 use reference::{Converter, Cutoff, Filter, Gain, PcmRate, Run, Settings};
-
-pub fn hertz(rate: PcmRate) -> u64
-    ensures { result ≡ codes.hertz rate }
-{
-    u64::from(rate)
-}
 
 #[tactic(auto, unfolding(reference::specs::Codes::rate_from, crate::specs::Codes::if_known, crate::specs::Codes::rate_of))]
 pub fn rate_of(n: u32) -> Option<PcmRate>
@@ -56,7 +51,7 @@ fn tap(taps: &[i32], k: usize) -> i32
     taps.get(k).copied().unwrap_or(0)
 }
 
-// A list of taps as a filter record, with 0 past the list's end.
+// A list of taps as a filter record, with 0 past the list's end; of a longer list the first 117, place by place.
 fn listed(taps: &[i32]) -> Filter
     ensures { result ≡ spelled.listed taps.now }
 {
@@ -70,7 +65,8 @@ fn listed(taps: &[i32]) -> Filter
     }
 }
 
-// Settings as numbers and lists: the gain as decibels and factor, and the taps of a filter, which is given if the flag `own` says so.
+// Settings as numbers and lists: the gain as decibels and factor, and the taps of a filter, which is given if the flag
+// `own` says so.
 #[derive(Clone, Copy)]
 pub struct SettingNumbers<'a> {
     pub rate: u32,

@@ -1,4 +1,5 @@
-// What a call about a DSF file tells.
+// What a call about a DSF file tells. `data` is a list of the C call, as are the others; each comes in any length, so
+// that it is right is tried there and asked for here.
 ghost use Rattle.std.specs.Prelude.{◌≡◌, [], ◌∷◌, length};
 ghost use Rattle.reference.specs.Refusals.{decision};
 ghost use Rattle.interface.specs.Files.{ToldData, header_numbers, upload_number, upload_place};

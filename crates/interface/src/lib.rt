@@ -16,7 +16,7 @@ mod results;
 mod statistics;
 
 pub use codes::{
-    ConverterNumbers, RunNumbers, SettingNumbers, cutoff_of, flag_of, gain_of, hertz, rate_of,
+    ConverterNumbers, RunNumbers, SettingNumbers, cutoff_of, flag_of, gain_of, rate_of,
 };
 pub use files::{tell_data, tell_header, tell_number, tell_upload};
 pub use opening::tell_opening;

@@ -118,7 +118,8 @@ impl ResultLists<'_> {
     }
 }
 
-// A conversion's number is answered, its data and decibels written, and its statistics where it was accepted.
+// A conversion's number is answered, its data and decibels written, and its statistics where it was accepted. The lists
+// are lent one by one, as the C calls have them: a struct of them would be made for this call, and taken apart in it.
 pub fn tell_conversion(
     made: Result<ConvertStats, PcmError>,
     clipped: &mut [u64],

@@ -38,6 +38,7 @@ impl StatNumbers<'_> {
             return None;
         }
         let mut channels = [ChannelStats::none(); 6];
+        // By an index, which goes over the four lists of the C call at once.
         for c in 0..6 {
             let ends = Extremes {
                 lowest: self.lowest[c],
@@ -53,7 +54,8 @@ impl StatNumbers<'_> {
     }
 }
 
-// Statistics written in the lists.
+// Statistics written in the lists, which are lent one by one, as the C call has them. Without samples it is told zeros
+// beside the mark.
 #[tactic(auto, using(crate::proofs::Known::filled_to), unfolding(crate::specs::Told::told_stats, reference::specs::Statistics::channel_of))]
 pub fn put_stats(
     stats: ConvertStats,

@@ -1,16 +1,16 @@
 -- A block of each route, from what its function ensures to what `block` does; and what the functions ask of the taps.
 use mathlib.Core.Path.{◌≡◌, refl, sym, ◌∙◌, ap}
-use mathlib.Core.Logic.{⊎_elim}
+use mathlib.Core.Logic.{◌⊎◌, ⊎_elim}
 use mathlib.Core.Bool.{Bool, true, false}
 use mathlib.Core.List.{List, ◌++◌}
-use Prim.Native.Nat.{ℕ, ◌+◌, ◌-◌, ◌*◌, ◌/◌, ◌%◌, ◌≤◌, ◌<◌}
+use Prim.Native.Nat.{ℕ, ◌+◌, ◌-◌, ◌*◌, ◌/◌, ◌%◌, ◌≤◌}
 use native.Mathlib.Omega.{arith}
-use lib.Dec.{lit≤, lit<}
+use lib.Dec.{lit≤}
 use lib.IntN.{ℤ, pos}
-use lib.ListN.{length, get_or, take, length-take, get_or-append, get_or-eq_default}
+use lib.ListN.{length, take, get_or-append}
 use lib.Seq.{get_or-take}
 use Rattle.numbers.specs.Lists.{Held}
-use Rattle.numbers.proofs.Lists.{below_or, held_none}
+use Rattle.numbers.proofs.Lists.{held_none}
 use Rattle.reference.specs.Taps.{S1, S1_WIDE, F40, F80}
 use Rattle.reference.specs.Stages.{M, u, v, w, y_narrow, y_wide}
 use Rattle.reference.specs.declared.PcmRate.{PcmRate}
@@ -20,8 +20,12 @@ use Rattle.reference.specs.declared.Cutoff.TheVariants.{Standard, Low, Wide}
 use Rattle.reference.proofs.Locality.{F40_last, F80_last}
 use Rattle.routes.specs.Routes.{LowPass, HalvedFilter, halves_of, LastFilter, FirstTables, lent_taps, Taps, SomeTaps, input, stride, around, first_byte, fresh, margin_from, block_length, y_of, Kept, State, Brought}
 use Rattle.tables.specs.Tables.{ByteTables}
+use Rattle.routes.proofs.Arrays.{held_at}
 use Rattle.routes.proofs.Filters.{halves_length}
-use Rattle.kernel.proofs.Arms.{third, Narrow}
+
+-- the cutoff is Standard or Low
+abbrev pub Narrow : Cutoff → Type 0
+Narrow cutoff = (cutoff ≡ Standard) ⊎ (cutoff ≡ Low)
 
 -- ---- parts
 
@@ -32,15 +36,6 @@ module _ {A : Type 0} {d : A} {f : ℕ → A} {a n : ℕ} {l : List A} (held : H
 
   pub first_held : (rest : List A) → n ≤ length l → Held d f a n (l ++ rest)
   first_held rest s = record { is = λ k q. get_or-append l rest d k (omega arith) ∙ held.is k q }
-
-  -- the same place by another name
-  placed : (b : ℕ) → a ≡ b → Held d f b n l
-  placed b e = rw (sym e) held
-
--- bytes of a part are bytes
-pub part_bytes : (l : List ℕ) → ((i : ℕ) → get_or l i 0 < 256) → (m i : ℕ) → get_or (take m l) i 0 < 256
-part_bytes l h m i =
-    ⊎_elim (λ (s : i < m). rw (get_or-take m l i 0 s) (h i)) (λ (s : m ≤ i). rw (get_or-eq_default (take m l) 0 {n = i} (omega (arith, length-take m l))) (lit< tt)) (below_or i m)
 
 -- ---- what `margin` ensures
 abbrev pub Margined : Cutoff → ℕ → List ℕ → List ℤ → Type 0
@@ -95,9 +90,7 @@ module _ {h : List ℤ} {bytes : List ℕ} {x kept x' kept' y : List ℤ} where
       (r.0, record { margin = r.1.margin; w_kept = r.1.w_kept })
 
   pub either_blocked : (rate : PcmRate) (cutoff : Cutoff) → Narrow cutoff → (first : Bool) → Blocked rate Standard first h bytes x kept x' kept' y → Blocked rate cutoff first h bytes x kept x' kept' y
-  either_blocked rate Standard k first g = g
-  either_blocked rate Low k first g = as_low rate first g
-  either_blocked rate Wide k first g = third k
+  either_blocked rate cutoff k first g = ⊎_elim (λ e. rw e g) (λ e. rw e (as_low rate first g)) k
 
   pub blocked_88 : (first : Bool)
       → ((F : List ℤ) (β : ℕ → ℕ) (n : ℕ) → LowPass F → h ≡ halves_of F → 1000 ≤ n → Held 0 β (2 * (2 * n + M F) - 19) 372 (take 372 bytes) → Held (pos 0) (v β) (2 * n - M F) (2 * M F) x
@@ -106,7 +99,7 @@ module _ {h : List ℤ} {bytes : List ℕ} {x kept x' kept' y : List ℤ} where
   unfolding LastFilter lent_taps input stride around first_byte fresh margin_from block_length y_of Kept
   blocked_88 first g F β n t m b s =
       let few = t.last.few in
-      let r = g F β n t.last t.lent m (placed (front_held b 372 (omega arith)) _ (omega arith)) s.margin in
+      let r = g F β n t.last t.lent m (held_at _ (omega arith) (front_held b 372 (omega arith))) s.margin in
       (r.0, record { margin = r.1; w_kept = tt })
 
   pub blocked_176 : (first : Bool)
@@ -117,7 +110,7 @@ module _ {h : List ℤ} {bytes : List ℕ} {x kept x' kept' y : List ℤ} where
   blocked_176 first g F β n t m b s =
       let few = t.last.few in
       let e : F ≡ h = sym t.lent in
-      let r = g β n m (placed (front_held b 372 (omega arith)) _ (omega (arith, ap length e))) (rw e at s.margin) in
+      let r = g β n m (held_at _ (omega (arith, ap length e)) (front_held b 372 (omega arith))) (rw e at s.margin) in
       rw e (r.0, record { margin = r.1; w_kept = tt })
 
   -- k values of w are new
@@ -130,15 +123,15 @@ module _ {h : List ℤ} {bytes : List ℕ} {x kept x' kept' y : List ℤ} where
   blocked_352 true k is g F β n t m b s =
       let e : F ≡ h = sym t.lent in
       let l : M h ≤ 116 = omega (arith, t.last.few, ap length e) in
-      let bytes = placed (rw e at (front_held b 404 (omega arith))) _ (first_byte_352 n (M h) m l) in
-      let r = g β n m s.w_kept (rw is bytes) (rw is (placed (rw e at s.margin) _ (first_margin_352 n (M h) m))) (rw is held_none) in
-      rw e (r.0, record { margin = placed r.1 _ (next_margin_352 n (M h)); w_kept = (omega arith, placed r.2 _ (next_kept_352 n m)) })
+      let bytes = held_at _ (first_byte_352 n (M h) m l) (rw e at (front_held b 404 (omega arith))) in
+      let r = g β n m s.w_kept (rw is bytes) (rw is (held_at _ (first_margin_352 n (M h) m) (rw e at s.margin))) (rw is held_none) in
+      rw e (r.0, record { margin = held_at _ (next_margin_352 n (M h)) r.1; w_kept = (omega arith, held_at _ (next_kept_352 n m) r.2) })
   blocked_352 false k is g F β n t m b s =
       let e : F ≡ h = sym t.lent in
       let l : M h ≤ 116 = omega (arith, t.last.few, ap length e) in
-      let bytes = placed (rw e at (front_held b 372 (omega arith))) _ (next_byte_352 n (M h) m l) in
-      let r = g β n m s.w_kept.0 (rw is bytes) (rw is (placed (rw e at s.margin) _ (held_margin_352 n (M h)))) (rw is (rw e at s.w_kept.1)) in
-      rw e (r.0, record { margin = placed r.1 _ (next_margin_352 n (M h)); w_kept = (omega arith, placed r.2 _ (next_kept_352 n m)) })
+      let bytes = held_at _ (next_byte_352 n (M h) m l) (rw e at (front_held b 372 (omega arith))) in
+      let r = g β n m s.w_kept.0 (rw is bytes) (rw is (held_at _ (held_margin_352 n (M h)) (rw e at s.margin))) (rw is (rw e at s.w_kept.1)) in
+      rw e (r.0, record { margin = held_at _ (next_margin_352 n (M h)) r.1; w_kept = (omega arith, held_at _ (next_kept_352 n m) r.2) })
 
   pub blocked_wide176 : (first : Bool)
       → ((β : ℕ → ℕ) (n : ℕ) → 1000 ≤ n → Held 0 β (2 * n + 110) 179 (take 179 bytes) → Held (pos 0) (u S1_WIDE β) (2 * n - 116) 232 x
@@ -147,7 +140,7 @@ module _ {h : List ℤ} {bytes : List ℕ} {x kept x' kept' y : List ℤ} where
   unfolding LastFilter lent_taps input stride around first_byte fresh margin_from block_length y_of Kept
   blocked_wide176 first g F β n t m b s =
       let e : M F ≡ 116 = rw t.last F80_last in
-      let r = g β n m (placed (front_held b 179 (omega arith)) _ (omega arith)) (rw e at s.margin) in
+      let r = g β n m (held_at _ (omega arith) (front_held b 179 (omega arith))) (rw e at s.margin) in
       (r.0, record { margin = rw e r.1; w_kept = tt })
 
   pub blocked_wide352 : (first : Bool)
@@ -157,23 +150,22 @@ module _ {h : List ℤ} {bytes : List ℕ} {x kept x' kept' y : List ℤ} where
   unfolding LastFilter lent_taps input stride around first_byte fresh margin_from block_length y_of Kept
   blocked_wide352 first g F β n t m b s =
       let e : M F ≡ 60 = rw t.last F40_last in
-      let r = g β n m (placed (front_held b 347 (omega arith)) _ (omega arith)) (rw e at s.margin) in
+      let r = g β n m (held_at _ (omega arith) (front_held b 347 (omega arith))) (rw e at s.margin) in
       (r.0, record { margin = rw e r.1; w_kept = tt })
 
 -- ---- Standard and Low share an arm: what it is asked and what it gives is Standard's
 
 pub either_tables : (cutoff : Cutoff) → Narrow cutoff → {t : List ℤ} → FirstTables cutoff t → ByteTables S1 8 t
 unfolding FirstTables
-either_tables Standard k b = b
-either_tables Low k b = b
-either_tables Wide k b = third k
+either_tables cutoff k b = ⊎_elim (λ e. rw e at b) (λ e. rw e at b) k
+
+low_fresh : (first : Bool) → fresh Hz352800 Low first ≡ fresh Hz352800 Standard first
+unfolding fresh
+low_fresh true = refl
+low_fresh false = refl
 
 pub either_fresh : (cutoff : Cutoff) → Narrow cutoff → (first : Bool) → fresh Hz352800 cutoff first ≡ fresh Hz352800 Standard first
-unfolding fresh
-either_fresh Standard k first = refl
-either_fresh Low k true = refl
-either_fresh Low k false = refl
-either_fresh Wide k first = third k
+either_fresh cutoff k first = ⊎_elim (λ e. rw e refl) (λ e. rw e (low_fresh first)) k
 
 pub fresh_few : (first : Bool) → (168 ≤ fresh Hz352800 Standard first) × (fresh Hz352800 Standard first ≤ 184)
 unfolding fresh
@@ -187,11 +179,12 @@ lent_low Hz176400 F = refl
 lent_low Hz352800 F = refl
 
 module _ {h : List ℤ} where
-  pub either_taps : (rate : PcmRate) (cutoff : Cutoff) → Narrow cutoff → SomeTaps rate cutoff h → SomeTaps rate Standard h
+  low_taps : (rate : PcmRate) → SomeTaps rate Low h → SomeTaps rate Standard h
   unfolding LastFilter
-  either_taps rate Standard k t = t
-  either_taps rate Low k t = record { F = t.F; taps = record { last = t.taps.last; lent = t.taps.lent ∙ lent_low rate t.F } }
-  either_taps rate Wide k t = third k
+  low_taps rate t = record { F = t.F; taps = record { last = t.taps.last; lent = t.taps.lent ∙ lent_low rate t.F } }
+
+  pub either_taps : (rate : PcmRate) (cutoff : Cutoff) → Narrow cutoff → SomeTaps rate cutoff h → SomeTaps rate Standard h
+  either_taps rate cutoff k t = ⊎_elim (λ e. rw e at t) (λ e. low_taps rate (rw e at t)) k
 
   pub halved_taps : SomeTaps Hz88200 Standard h → HalvedFilter h
   unfolding LastFilter lent_taps

@@ -46,9 +46,6 @@ module _ {h : List ℤ} {k : ℕ} {sum : ℤ} {size : ℕ} (a : Added h k sum si
   bounds : nat_abs sum + nat_abs (tap h k) ≤ k * 2 ^ 31
   bounds = let s = a.some in omega (arith, a.small_sum, tap_size (tap h k) m)
 
-  sum_fits : SFits w64 sum
-  sum_fits = sfits_abs (omega (arith, bounds))
-
   pub next_fits : SFits w64 (sum +ℤ t (to_z w32 (of_z w32 (tap h k))))
   next_fits = rw (wide_is (tap h k) m) (sfits_abs (omega (arith, abs_add sum (tap h k), bounds)))
 

@@ -22,6 +22,7 @@ fn sums(h: &[i32]) -> Total
     let centre = h[0];
     let mut sum: i64 = 0;
     let mut size: u64 = 0;
+    // By an index: what stands so far is told of the first k taps.
     for k in 1..h.len() {
         let tap = h[k];
         sum += tap as i64;

@@ -2,13 +2,12 @@
 use mathlib.Core.Path.{◌≡◌, refl, sym, ap, ◌∙◌}
 use mathlib.Core.Logic.{⊎_elim}
 use mathlib.Core.List.{List, [], ◌∷◌, ◌++◌, append_assoc, append-nil}
-use Prim.Native.Nat.{ℕ, suc, ◌+◌, ◌≤◌, ◌<◌}
+use Prim.Native.Nat.{ℕ, suc, ◌+◌, ◌≤◌}
 use native.Mathlib.Nat.{zero-add}
-use native.Mathlib.Numerals.{add-one}
 use native.Mathlib.Omega.{arith}
-use lib.ListN.{length, take, drop, set, length-append, drop_of_length-le}
+use lib.ListN.{length, take, drop, length-append, drop_of_length-le}
 use borrow.Rule.Slice.PartMut.{put_mid}
-use lib.Seq.{set_split, length-take-le, take_all, take_at, drop_at, drop-drop}
+use lib.Seq.{length-take-le, take_all, take_at, drop_at, drop-drop}
 use Rattle.numbers.specs.Lists.{tabulate}
 use Rattle.numbers.proofs.Lists.{below_or}
 use Rattle.level_lines.specs.Text.{joined, with_text, Printed}
@@ -18,10 +17,6 @@ use Rattle.level_lines.specs.Lines.{printed}
 pub overwritten : (old : List ℕ) (at k : ℕ) {t new : List ℕ} → new ≡ t → k ≡ length t → Printed t old at (put_mid at k old new) (at + length t)
 unfolding with_text
 overwritten old at k {t} e h = record { written = rw (e, h, drop-drop (length t) at old) refl; after = refl }
-
-pub byte : {old : List ℕ} {at : ℕ} (b : ℕ) → at < length old → Printed (b ∷ []) old at (set old at b) (at + 1)
-unfolding with_text
-byte {old} {at} b h = record { written = rw add-one (set_split old at b h); after = refl }
 
 pub none_printed : (old : List ℕ) → Printed [] old 0 old 0
 unfolding with_text

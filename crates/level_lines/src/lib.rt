@@ -1,4 +1,5 @@
-// The lines that the level report prints.
+// The lines that the level report prints. Each is given the list and the place, and no `Text`: its callers hold the
+// list, and a `Text` would be made in each of them for this one call.
 #![tactic(auto)]
 
 ghost use Rattle.std.specs.Prelude.{◌+◌, ◌≤◌, length};

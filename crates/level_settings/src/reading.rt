@@ -5,6 +5,8 @@ ghost use Rattle.level_settings.specs.Reading.{NumberRead, ChannelsRead, Decibel
 
 use reference::{Cutoff, PcmRate};
 
+// The words of a rate and, below, of a cutoff: three cases each, of different types. A table of words and values that both
+// search would be longer than the cases.
 #[tactic(auto, unfolding(crate::specs::Settings::rate_named, crate::specs::Settings::rate_text, level_lines::specs::Text::text))]
 pub fn rate_named(word: &[u8]) -> Option<PcmRate>
     ensures { result ≡ names.rate_named word.now }

@@ -1,3 +1,4 @@
 pub mod Whole
 pub mod Buffers
 pub mod Opening
+pub mod Turns

@@ -6,7 +6,6 @@ use Rattle.reference.specs.declared.Converter.{Converter}
 use Rattle.level_lines.specs.Text.{joined, Printed}
 use Rattle.overs.specs.Overs.{Progress, none}
 use Rattle.levels.specs.Levels.{piece_lines, piece_states}
-use Rattle.level_input.specs.Moved.{moved_on}
 use Rattle.level_stream.specs.Report.{ending, left_over, all_clips, lines_of, text_by}
 
 -- the elements from a place up to another
@@ -36,15 +35,20 @@ moment frames clipped states left three = record { frames = frames; clipped = cl
 abbrev pub told_frame : ℕ → Moment → Moment → Run
 told_frame size m next = run (ltb 0 m.frames) (part 0 size m.three) (part size (2 * size) m.three) (eqb next.left size) (part size (2 * size) next.three)
 
--- what telling the frame at hand promises, the frame after it being in the buffer, whole if `came` is the size: the frame is counted, the first
--- `n` bytes of the text are its lines, what is in progress is carried on, and the buffer has moved on
-pub record Told (conv : Converter) (size : ℕ) (m : Moment) (came : ℕ) (text : List ℕ) (next : Moment) (text' : List ℕ) (n : ℕ) : Type 0 where
-  pub left : next.left ≡ came
-  pub frames : next.frames ≡ m.frames + 1
-  pub clipped : next.clipped ≡ m.clipped + frame_clips conv (at_hand m.frames (eqb came size) size m.three) 0
-  pub lines : Printed (piece_lines conv m.frames m.states (at_hand m.frames (eqb came size) size m.three)) text 0 text' n
-  pub carried : next.states ≡ piece_states conv m.states (at_hand m.frames (eqb came size) size m.three)
-  pub moved : next.three ≡ moved_on size m.three
+-- what telling a frame with its neighbours promises: its clips are counted, the first `n` bytes of the text are its
+-- lines, and what is in progress is carried on
+pub record Added (conv : Converter) (number : ℕ) (r : Run) (clipped : ℕ) (states : List Progress) (text : List ℕ) (clipped' : ℕ) (states' : List Progress) (text' : List ℕ) (n : ℕ) : Type 0 where
+  pub counted : clipped' ≡ clipped + frame_clips conv r 0
+  pub lines : Printed (piece_lines conv number states r) text 0 text' n
+  pub carried : states' ≡ piece_states conv states r
+
+-- the same by the same converter, the lines being the first bytes of some text
+pub record Reports (conv : Converter) (number : ℕ) (r : Run) (clipped : ℕ) (states : List Progress) (conv' : Converter) (clipped' : ℕ) (states' : List Progress) : Type 0 where
+  pub same : conv' ≡ conv
+  pub text : List ℕ
+  pub text' : List ℕ
+  pub n : ℕ
+  pub added : Added conv number r clipped states text clipped' states' text' n
 
 -- a turn from one moment to the next: the frame at hand is counted, the text passed on, the first `n` bytes of `text'`, is its lines, what is in
 -- progress is carried on, and it becomes the frame before
@@ -104,3 +108,8 @@ pub record AllTold (conv : Converter) (m : Moment) : Type 0 where
   pub turns : List (Turn conv)
   pub led : LeadTo turns m
   pub told : ToldWhole conv turns m
+
+-- the same, whatever the buffer holds
+pub record Everything (conv : Converter) (frames clipped : ℕ) (states : List Progress) (left : ℕ) : Type 0 where
+  pub three : List ℕ
+  pub told : AllTold conv (moment frames clipped states left three)

@@ -9,12 +9,16 @@ use reference::Converter;
 use std::io;
 use std::io::{Read, Write};
 
+mod each;
+mod few;
 mod frames;
 
+pub use each::{Came, Step, each_frame};
+pub use few::FewChannels;
 pub use frames::{refused, write_first};
 
-// Reads the line from one reader and the frames from another, which may give the rest of the same input, and writes the report to a writer. A
-// read or a write that fails ends the report where it is, and its error is the answer.
+// Reads the line from one reader and the frames from another, which may give the rest of the same input, and writes the
+// report to a writer. A read or a write that fails ends the report where it is, and its error is the answer.
 pub fn report<L: Read, F: Read, W: Write>(
     line_from: &mut L,
     frames_from: &mut F,

@@ -18,7 +18,8 @@ use level_settings::LineSettings;
 use overs::{OverCount, Progress};
 use reference::{ConvertStats, Converter, Gain, PcmError, Run, Settings};
 
-// What is told of a frame: how long its lines are, its clips over all channels, and what is in progress after it in each channel.
+// What is told of a frame: how long its lines are, its clips over all channels, and what is in progress after it in
+// each channel.
 #[derive(Clone, Copy)]
 pub struct Reported {
     pub length: usize,
@@ -44,19 +45,22 @@ pub fn opened(s: LineSettings) -> Result<Converter, PcmError>
     })
 }
 
+// Of samples, after the clamp: reference's `Extremes` are of numbers before it, in 64 bits, and are told of no samples.
 #[derive(Clone, Copy)]
 struct Extremes {
     low: i32,
     high: i32,
 }
 
-// Lowest and highest sample of channel c.
+// Lowest and highest sample of channel c. The samples of all channels, their count `ch` and c come one by one here and
+// in the next two functions: they are how overs asks for a channel, and c alone changes from call to call in `lines`.
 #[tactic(auto, unfolding(numbers::specs::Extremes::lesser, numbers::specs::Extremes::greater))]
 fn extremes_of(samples: &[i32], ch: usize, c: usize) -> Extremes
     requires { (c < ch) × (ch ≤ length samples.now) }
     ensures low_value { result.low ≡ extremes.extreme extremes.lesser (λ n. get_or samples.now (n * ch + c) (pos 0)) 0 (length samples.now / ch) }
     ensures high_value { result.high ≡ extremes.extreme extremes.greater (λ n. get_or samples.now (n * ch + c) (pos 0)) 0 (length samples.now / ch) }
 {
+    // By an index, as the channels take turns.
     let mut low = samples[c];
     let mut high = samples[c];
     for k in 0..samples.len() / ch {
@@ -67,7 +71,8 @@ fn extremes_of(samples: &[i32], ch: usize, c: usize) -> Extremes
     Extremes { low, high }
 }
 
-// Overs of channel c from what is in progress before it: none where its lowest and highest sample lie between the ends of full scale.
+// Overs of channel c from what is in progress before it: none where its lowest and highest sample lie between the ends
+// of full scale.
 #[tactic(auto, using(crate::proofs::Quiet::quiet_channel))]
 fn overs_of(samples: &[i32], ch: usize, c: usize, e: Extremes, p: Progress) -> OverCount
     requires c_lt_ch { (c < ch) × (ch ≤ length samples.now) × (length samples.now ≡ length samples.now / ch * ch) }
@@ -75,13 +80,11 @@ fn overs_of(samples: &[i32], ch: usize, c: usize, e: Extremes, p: Progress) -> O
     requires high_value { e.high ≡ extremes.extreme extremes.greater (λ n. get_or samples.now (n * ch + c) (pos 0)) 0 (length samples.now / ch) }
     ensures { result ≡ overs_of samples.now ch c p }
 {
-    if -8388608 < e.low {
-        if e.high < 8388607 {
-            return OverCount {
-                count: 0,
-                next: None,
-            };
-        }
+    if -8388608 < e.low && e.high < 8388607 {
+        return OverCount {
+            count: 0,
+            next: None,
+        };
     }
     overs::overs(samples, ch, c, p)
 }

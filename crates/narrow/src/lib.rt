@@ -1,8 +1,7 @@
-// Standard and Low: a block of y from its bytes, a flat function a rate. x holds v, `kept` the values of w that
-// `between` reads at 352,800; both keep their margin, the values before a block that its filters read, from block to
-// block. `odd` is scratch. The three stay apart: each is three calls, and asks and promises another rate's signal. So
-// do their parameters: every rate is lent other parts of the bytes and of y, so that a struct of them would be made
-// anew at each call.
+// Standard and Low: a block of y from its bytes, a flat function a rate. x of the arrays holds v, `kept` the values of
+// w that `between` reads at 352,800. The three stay apart: each is three calls, and asks and promises another rate's
+// signal. So do their parameters: every rate is lent other parts of the bytes and of y, so that a struct of them would
+// be made anew at each call.
 #![tactic(auto)]
 
 ghost use Rattle.std.specs.Prelude.{◌≡◌, ℕ, ◌+◌, ◌-◌, ◌*◌, ◌/◌, ◌%◌, ◌^◌, ◌≤◌, List, ℤ, pos, length};
@@ -14,7 +13,10 @@ ghost use Rattle.tables.specs.Tables.{ByteTables};
 ghost use Rattle.filters.specs.Filters.{Small};
 ghost use Rattle.routes.specs.Routes.{LowPass, HalvedFilter, halves_of};
 
+use stages::Buffers;
+
 // The values of w, and those between them, in turn: `kept` has w from 8 places before sample n's on.
+#[tactic(auto, using(routes::proofs::Filters::woven_gives))]
 fn between(kept: &[i64], y: &mut [i64])
     requires kept_len { (length kept.now ≡ 184) × (length y.old ≡ 336) }
     requires small { Small (2 ^ 29) kept.now }
@@ -25,50 +27,48 @@ fn between(kept: &[i64], y: &mut [i64])
     stages::weave(&kept[8..176], &z, y);
 }
 
+// The last k of the 184 values of w in `kept`, from k values of v after their margin.
+#[inline(always)]
+#[tactic(auto, using(stages::proofs::Smalls::front_fit))]
+fn newest(h: &[i64], x: &[i64], k: usize, kept: &mut [i64])
+    requires low_pass { LowPass h.now }
+    requires lengths { (k ≤ 184) × (length x.now ≡ 512) × (length kept.old ≡ 184) }
+    requires small { Small (2 ^ 27) x.now }
+    requires small_2 { Small (2 ^ 29) kept.old }
+    ensures small_3 { Small (2 ^ 29) kept.new }
+    ensures held { (β : ℕ → ℕ) (i : ℕ) → M h.now ≤ i + 184 - k → Held (pos 0) (v β) (i + 184 - k - M h.now) (2 * M h.now + k) x.now → Held (pos 0) (w h.now β) i (184 - k) kept.old → Held (pos 0) (w h.now β) i 184 kept.new }
+{
+    let e = 2 * (h.len() - 1) + k;
+    filters::fir1(&mut kept[184 - k..184], h, &x[..e]);
+}
+
 // At 88,200: h has the even taps, then the odd ones.
-pub fn narrow88(
-    tables: &[i32],
-    h: &[i64],
-    bytes: &[u8],
-    odd: &mut [i64],
-    x: &mut [i64],
-    y: &mut [i64],
-)
+pub fn narrow88(tables: &[i32], h: &[i64], bytes: &[u8], buffers: &mut Buffers, y: &mut [i64])
     requires byte_tables { ByteTables S1 8 tables.now }
     requires halved_filter { HalvedFilter h.now }
-    requires bytes_len { (length bytes.now ≡ 372) × (length odd.old ≡ 247) × (length x.old ≡ 512) × (length y.old ≡ 84) }
-    requires small { Small (2 ^ 27) x.old }
-    ensures small_2 { Small (2 ^ 27) x.new }
-    ensures held { (F : List ℤ) (β : ℕ → ℕ) (n : ℕ) → LowPass F → h.now ≡ halves_of F → 1000 ≤ n → Held 0 β (2 * (2 * n + M F) - 19) 372 bytes.now → Held (pos 0) (v β) (2 * n - M F) (2 * M F) x.old → Held (pos 0) (y_narrow Hz88200 F β) n 84 y.new × Held (pos 0) (v β) (2 * (n + 84) - M F) (2 * M F) x.new }
+    requires lengths { (length bytes.now ≡ 372) × (length y.old ≡ 84) }
+    ensures kept { buffers.new.kept ≡ buffers.old.kept }
+    ensures held { (F : List ℤ) (β : ℕ → ℕ) (n : ℕ) → LowPass F → h.now ≡ halves_of F → 1000 ≤ n → Held 0 β (2 * (2 * n + M F) - 19) 372 bytes.now → Held (pos 0) (v β) (2 * n - M F) (2 * M F) buffers.old.x → Held (pos 0) (y_narrow Hz88200 F β) n 84 y.new × Held (pos 0) (v β) (2 * (n + 84) - M F) (2 * M F) buffers.new.x }
 {
     let m = 2 * (h.len() - 1);
-    let e = m + 168;
-    stages::half_band(tables, bytes, &mut odd[0..183], &mut x[m..e]);
-    stages::halved(h, &x[0..e], y);
-    stages::shift(x, 168, m);
+    buffers.bring_v(tables, bytes, m, 168);
+    stages::halved(h, &buffers.x[..m + 168], y);
+    buffers.move_on(168, m);
 }
 
 // At 176,400.
-pub fn narrow176(
-    tables: &[i32],
-    h: &[i64],
-    bytes: &[u8],
-    odd: &mut [i64],
-    x: &mut [i64],
-    y: &mut [i64],
-)
+#[tactic(auto, using(stages::proofs::Smalls::front_fit))]
+pub fn narrow176(tables: &[i32], h: &[i64], bytes: &[u8], buffers: &mut Buffers, y: &mut [i64])
     requires byte_tables { ByteTables S1 8 tables.now }
     requires low_pass { LowPass h.now }
-    requires bytes_len { (length bytes.now ≡ 372) × (length odd.old ≡ 247) × (length x.old ≡ 512) × (length y.old ≡ 168) }
-    requires small { Small (2 ^ 27) x.old }
-    ensures small_2 { Small (2 ^ 27) x.new }
-    ensures by_index { (β : ℕ → ℕ) (n : ℕ) → 1000 ≤ n → Held 0 β (2 * (n + M h.now) - 19) 372 bytes.now → Held (pos 0) (v β) (n - M h.now) (2 * M h.now) x.old → Held (pos 0) (y_narrow Hz176400 h.now β) n 168 y.new × Held (pos 0) (v β) (n + 168 - M h.now) (2 * M h.now) x.new }
+    requires lengths { (length bytes.now ≡ 372) × (length y.old ≡ 168) }
+    ensures kept { buffers.new.kept ≡ buffers.old.kept }
+    ensures held { (β : ℕ → ℕ) (n : ℕ) → 1000 ≤ n → Held 0 β (2 * (n + M h.now) - 19) 372 bytes.now → Held (pos 0) (v β) (n - M h.now) (2 * M h.now) buffers.old.x → Held (pos 0) (y_narrow Hz176400 h.now β) n 168 y.new × Held (pos 0) (v β) (n + 168 - M h.now) (2 * M h.now) buffers.new.x }
 {
     let m = 2 * (h.len() - 1);
-    let e = m + 168;
-    stages::half_band(tables, bytes, &mut odd[0..183], &mut x[m..e]);
-    filters::fir1(y, h, &x[0..e]);
-    stages::shift(x, 168, m);
+    buffers.bring_v(tables, bytes, m, 168);
+    filters::fir1(y, h, &buffers.x[..m + 168]);
+    buffers.move_on(168, m);
 }
 
 // At 352,800: k values of w are new, 184 in a frame's first block and 168 in the others.
@@ -77,27 +77,18 @@ pub fn narrow352(
     h: &[i64],
     bytes: &[u8],
     k: usize,
-    odd: &mut [i64],
-    x: &mut [i64],
-    kept: &mut [i64],
+    buffers: &mut Buffers,
     y: &mut [i64],
 )
     requires byte_tables { ByteTables S1 8 tables.now }
     requires low_pass { LowPass h.now }
-    requires le_k { (168 ≤ k) × (k ≤ 184) × (length bytes.now ≡ 2 * k + 36) × (length odd.old ≡ 247) × (length x.old ≡ 512) × (length kept.old ≡ 184) × (length y.old ≡ 336) }
-    requires small { Small (2 ^ 27) x.old }
-    requires small_2 { Small (2 ^ 29) kept.old }
-    ensures small_3 { Small (2 ^ 27) x.new }
-    ensures small_4 { Small (2 ^ 29) kept.new }
-    ensures by_index { (β : ℕ → ℕ) (n : ℕ) → 1000 ≤ n → n % 2 ≡ 0 → Held 0 β (2 * (n / 2 + 176 - k + M h.now) - 19) (2 * k + 36) bytes.now → Held (pos 0) (v β) (n / 2 + 176 - k - M h.now) (2 * M h.now) x.old → Held (pos 0) (w h.now β) (n / 2 - 8) (184 - k) kept.old → Held (pos 0) (y_narrow Hz352800 h.now β) n 336 y.new × Held (pos 0) (v β) (n / 2 + 176 - M h.now) (2 * M h.now) x.new × Held (pos 0) (w h.now β) (n / 2 + 160) 16 kept.new }
+    requires le_k { (168 ≤ k) × (k ≤ 184) × (length bytes.now ≡ 2 * k + 36) × (length y.old ≡ 336) }
+    ensures { (β : ℕ → ℕ) (n : ℕ) → 1000 ≤ n → n % 2 ≡ 0 → Held 0 β (2 * (n / 2 + 176 - k + M h.now) - 19) (2 * k + 36) bytes.now → Held (pos 0) (v β) (n / 2 + 176 - k - M h.now) (2 * M h.now) buffers.old.x → Held (pos 0) (w h.now β) (n / 2 - 8) (184 - k) buffers.old.kept → Held (pos 0) (y_narrow Hz352800 h.now β) n 336 y.new × Held (pos 0) (v β) (n / 2 + 176 - M h.now) (2 * M h.now) buffers.new.x × Held (pos 0) (w h.now β) (n / 2 + 160) 16 buffers.new.kept }
 {
     let m = 2 * (h.len() - 1);
-    let e = m + k;
-    let o = k + 15;
-    stages::half_band(tables, bytes, &mut odd[0..o], &mut x[m..e]);
-    let a = 184 - k;
-    filters::fir1(&mut kept[a..184], h, &x[0..e]);
-    between(kept, y);
-    stages::shift(x, k, m);
-    stages::shift(kept, 168, 16);
+    buffers.bring_v(tables, bytes, m, k);
+    newest(h, &buffers.x, k, &mut buffers.kept);
+    between(&buffers.kept, y);
+    buffers.move_on(k, m);
+    stages::shift(&mut buffers.kept, 168, 16);
 }

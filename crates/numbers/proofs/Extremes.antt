@@ -1,7 +1,7 @@
 -- Laws of the least and the greatest: equal stretches, stretches joined.
 use mathlib.Core.Path.{◌≡◌, refl, sym, ap, ◌∙◌}
 use mathlib.Core.Logic.{◌⊎◌, inl, inr, ⊎_elim}
-use mathlib.Core.Bool.{Bool, true, false, cond, ◌&&◌}
+use mathlib.Core.Bool.{Bool, true, false, cond}
 use Prim.Native.Nat.{ℕ, zero, suc, ◌+◌, ◌<◌, ◌≤◌}
 use native.Mathlib.Nat.{add-zero, zero-add}
 use native.Mathlib.Omega.{arith}
@@ -22,18 +22,6 @@ pub extreme_same : (pick : ℤ → ℤ → ℤ) (f g : ℕ → ℤ) (a b n : ℕ
 extreme_same pick f g a b n some same =
     let e : f a ≡ g b = rw (add-zero a, add-zero b) at (same 0 some) in
     rw e (picked_same pick (g b) f g a b n same)
-
-pub extreme0_same : (pick : ℤ → ℤ → ℤ) (f g : ℕ → ℤ) (a b n : ℕ) → ((k : ℕ) → k < n → f (a + k) ≡ g (b + k)) → extreme0 pick f a n ≡ extreme0 pick g b n
-unfolding extreme0
-extreme0_same pick f g a b zero h = refl
-extreme0_same pick f g a b (suc n) h = extreme_same pick f g a b (suc n) (omega arith) h
-
--- there are no numbers in two stretches just if there are none in either
-pub none_of_both : (m n : ℕ) → (eqb m 0 && eqb n 0) ≡ eqb (m + n) 0
-none_of_both zero n = rw zero-add refl
-none_of_both (suc m) n =
-    let e : suc m + n ≡ suc (m + n) = omega arith in
-    rw (e, eqb-suc-zero m, eqb-suc-zero (m + n)) refl
 
 -- ---- the order of ℤ, by parts
 
@@ -111,14 +99,6 @@ module _ {R : ℤ → ℤ → Type 0} {pick : ℤ → ℤ → ℤ} (b : Best R p
   unfolding picked
   from_start s f a zero = b.same s
   from_start s f a (suc n) = b.next _ _ _ (b.left _ _) (from_start s f a n)
-
-  pub picked_join : (s : ℤ) (f : ℕ → ℤ) (a m n : ℕ) → pick (picked pick s f a m) (picked pick s f (a + m) n) ≡ picked pick s f a (m + n)
-  unfolding picked
-  picked_join s f a m zero = rw (add-zero m) (kept _ _ (from_start s f a m))
-  picked_join s f a m (suc n) =
-      let e : m + suc n ≡ suc (m + n) = omega arith in
-      let i : a + m + n ≡ a + (m + n) = omega arith in
-      rw e (assoc _ _ _ ∙ rw (picked_join s f a m n, i) refl)
 
   -- one the other betters
   pub bettered : (x y : ℤ) → R y x → pick x y ≡ y

@@ -1,26 +1,16 @@
 -- One operation of an i64 on values that fit, over ℤ, by the sizes. `t z` is z, read back from its bits, as a local holds it.
 use mathlib.Core.Path.{◌≡◌, ◌∙◌, ap₂}
-use Prim.Native.Nat.{ℕ, ◌+◌, ◌*◌, ◌<◌, ◌≤◌, ◌^◌}
+use Prim.Native.Nat.{ℕ, ◌+◌, ◌<◌, ◌^◌}
 use native.Mathlib.Omega.{arith}
-use lib.IntN.{ℤ, pos, neg_ℤ, nat_abs, ◌+ℤ◌, ◌-ℤ◌, ◌*ℤ◌}
+use lib.IntN.{ℤ, pos, neg_ℤ, nat_abs, ◌-ℤ◌}
 use mir.Syntax.{w32, w64}
 use mir.Val.{SFits, to_z, of_z}
 use mir.Facts.{to_z-of_z, sfits_widen}
 use lib.Signed.{mag}
-use Rattle.numbers.proofs.Integers.{sfits_abs, abs_add, abs_neg, abs_mul}
+use Rattle.numbers.proofs.Integers.{sfits_abs, abs_add, abs_neg}
 
 abbrev pub t : ℤ → ℤ
 t z = to_z w64 (of_z w64 z)
-
-module _ {a b : ℤ} (fa : SFits w64 a) (fb : SFits w64 b) where
-  pub add_fits : nat_abs a + nat_abs b < 2 ^ 63 → SFits w64 (t a +ℤ t b)
-  add_fits h = simp to_z-of_z (sfits_abs (omega (arith, abs_add a b)))
-
-  pub mul_fits : nat_abs a * nat_abs b < 2 ^ 63 → SFits w64 (t a *ℤ t b)
-  mul_fits h = simp to_z-of_z (sfits_abs (omega (arith, abs_mul a b)))
-
-  pub add_is : nat_abs a + nat_abs b < 2 ^ 63 → t (t a +ℤ t b) ≡ a +ℤ b
-  add_is h = to_z-of_z (add_fits h) ∙ ap₂ (λ (x y : ℤ). x +ℤ y) (to_z-of_z fa) (to_z-of_z fb)
 
 -- an i32 as an i64
 module _ (z : ℤ) (m : mag z < 2 ^ 31) where
@@ -36,9 +26,6 @@ module _ (z : ℤ) (m : mag z < 2 ^ 31) where
 -- a call's result, as a local holds it: the value that the callee ensures, with that value's size
 pub val : (r v : ℤ) → mag r < 2 ^ 63 → r ≡ v → t r ≡ v
 val r v m e = to_z-of_z {w = w64} (record { sfits = m }) ∙ e
-
-pub sized : (r v : ℤ) (B : ℕ) → mag r < 2 ^ 63 → r ≡ v → nat_abs v ≤ B → nat_abs (t r) ≤ B
-sized r v B m e h = rw (val r v m e) h
 
 pub pos_fits : {n : ℕ} → n < 2 ^ 63 → SFits w64 (pos n)
 pos_fits h = record { sfits = h }

@@ -92,10 +92,7 @@ fn step(p: Progress, s: i32) -> OverCount
 fn channel_size(length: usize, n: usize, c: usize) -> usize
     ensures { result ≡ overs.channel_size length n c }
 {
-    if n <= c {
-        return 0;
-    }
-    if length <= c {
+    if n <= c || length <= c {
         return 0;
     }
     (length - 1 - c) / n + 1

@@ -3,10 +3,8 @@ ghost use Rattle.interface.specs.Settings.{c_settings, c_converter, input};
 ghost use Rattle.interface.specs.Told.{stat_lists};
 ghost use Rattle.puigneht.specs.Calls.{results, DeskCall};
 
-use interface::{
-    ConverterNumbers, NOT_UNDERSTOOD, ResultLists, RunNumbers, SettingNumbers, StatNumbers,
-    flag_of, tell_conversion, understood,
-};
+use crate::asked::asked;
+use interface::{NOT_UNDERSTOOD, flag_of, tell_conversion};
 
 // Samples of a run of at most 8 frames, and the clips of each frame if `counts` is lent.
 #[unsafe(no_mangle)]
@@ -35,40 +33,19 @@ pub extern "C" fn puigneht_convert_desk<'a, 'b>(
 ) -> u8
     ensures { DeskCall (c_converter (c_settings rate cutoff channels gain.now own taps.now) numbers.now) (input has_before before.now frames.now has_after after.now) lent out.old out.new counts.old counts.new (results (stat_lists clipped.old lowest.old highest.old empty.old) «data».old decibels.old) (results (stat_lists clipped.new lowest.new highest.new empty.new) «data».new decibels.new) result }
 {
-    let asked = ConverterNumbers {
-        settings: SettingNumbers {
-            rate,
-            cutoff,
-            channels,
-            gain,
-            own,
-            taps,
-        },
-        stored: numbers,
-    };
-    let input = RunNumbers {
-        has_before,
-        before,
-        frames,
-        has_after,
-        after,
-    };
-    let told = ResultLists {
-        stats: StatNumbers {
-            clipped,
-            lowest,
-            highest,
-            empty,
-        },
-        data,
-        decibels,
-    };
-    let Some((conv, run)) = understood(asked, input, told) else {
+    let Some((conv, run)) = asked(
+        rate, cutoff, channels, gain, own, taps, numbers, has_before, before, frames, has_after,
+        after, clipped, lowest, highest, empty, data, decibels,
+    ) else {
         return NOT_UNDERSTOOD;
     };
     let Some(lent) = flag_of(lent) else {
         return NOT_UNDERSTOOD;
     };
-    let made = scarletbook_pcm::convert_desk(conv, run, lent, out, counts);
+    let made = if lent {
+        scarletbook_pcm::convert_desk(conv, run, out, Some(counts))
+    } else {
+        scarletbook_pcm::convert_desk(conv, run, out, None)
+    };
     tell_conversion(made, clipped, lowest, highest, empty, data, decibels)
 }

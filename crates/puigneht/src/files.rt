@@ -47,6 +47,7 @@ pub extern "C" fn puigneht_dsf_window(
     if window.len() != 2 {
         return NOT_UNDERSTOOD;
     }
+    // C has no `Option`: zeros stand for a window that is not there.
     let none = FrameWindow { start: 0, end: 0 };
     let found = dsf_frames::window(channels, samples, frame).unwrap_or(none);
     window.copy_from_slice(&[found.start, found.end]);

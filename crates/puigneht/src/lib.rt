@@ -1,4 +1,6 @@
-// The converter's calls for C and Rust. None asks anything of its arguments: where they are not understood, a call answers 255 and writes nothing.
+// The converter's calls for C and Rust. None asks anything of its arguments: where they are not understood, a call answers
+// 255 and writes nothing. Numbers, flags and lists, one by one, are those of C; what the five conversions share is in
+// asked.rt, and each names its own lists.
 #![tactic(auto)]
 
 ghost use Rattle.reference.specs.Promises.{PackPromise};
@@ -14,10 +16,10 @@ pub use files::{
     puigneht_dsf_write,
 };
 use interface::{
-    ConverterNumbers, NOT_UNDERSTOOD, ResultLists, RunNumbers, SettingNumbers, StatNumbers,
-    flag_of, tell_conversion, tell_gain, tell_opening, understood,
+    NOT_UNDERSTOOD, SettingNumbers, flag_of, tell_conversion, tell_gain, tell_opening,
 };
 
+mod asked;
 mod change;
 mod desk;
 mod sheets;
@@ -25,6 +27,7 @@ mod studio;
 mod turns;
 mod wav_files;
 
+use asked::asked;
 pub use change::puigneht_change;
 pub use desk::puigneht_convert_desk;
 pub use sheets::{puigneht_join_stats, puigneht_level_sheet};
@@ -101,35 +104,10 @@ pub extern "C" fn puigneht_convert_run<'a, 'b>(
 ) -> u8
     ensures { ConvertRunCall (c_converter (c_settings rate cutoff channels gain.now own taps.now) numbers.now) (input has_before before.now frames.now has_after after.now) out.old out.new (results (stat_lists clipped.old lowest.old highest.old empty.old) «data».old decibels.old) (results (stat_lists clipped.new lowest.new highest.new empty.new) «data».new decibels.new) result }
 {
-    let asked = ConverterNumbers {
-        settings: SettingNumbers {
-            rate,
-            cutoff,
-            channels,
-            gain,
-            own,
-            taps,
-        },
-        stored: numbers,
-    };
-    let input = RunNumbers {
-        has_before,
-        before,
-        frames,
-        has_after,
-        after,
-    };
-    let told = ResultLists {
-        stats: StatNumbers {
-            clipped,
-            lowest,
-            highest,
-            empty,
-        },
-        data,
-        decibels,
-    };
-    let Some((conv, run)) = understood(asked, input, told) else {
+    let Some((conv, run)) = asked(
+        rate, cutoff, channels, gain, own, taps, numbers, has_before, before, frames, has_after,
+        after, clipped, lowest, highest, empty, data, decibels,
+    ) else {
         return NOT_UNDERSTOOD;
     };
     let made = scarletbook_pcm::convert_run(conv, run, out);
@@ -161,35 +139,10 @@ pub extern "C" fn puigneht_convert_frame<'a, 'b>(
 ) -> u8
     ensures { ConvertFrameCall (c_converter (c_settings rate cutoff channels gain.now own taps.now) numbers.now) (input has_before before.now frames.now has_after after.now) out.old out.new (results (stat_lists clipped.old lowest.old highest.old empty.old) «data».old decibels.old) (results (stat_lists clipped.new lowest.new highest.new empty.new) «data».new decibels.new) result }
 {
-    let asked = ConverterNumbers {
-        settings: SettingNumbers {
-            rate,
-            cutoff,
-            channels,
-            gain,
-            own,
-            taps,
-        },
-        stored: numbers,
-    };
-    let input = RunNumbers {
-        has_before,
-        before,
-        frames,
-        has_after,
-        after,
-    };
-    let told = ResultLists {
-        stats: StatNumbers {
-            clipped,
-            lowest,
-            highest,
-            empty,
-        },
-        data,
-        decibels,
-    };
-    let Some((conv, run)) = understood(asked, input, told) else {
+    let Some((conv, run)) = asked(
+        rate, cutoff, channels, gain, own, taps, numbers, has_before, before, frames, has_after,
+        after, clipped, lowest, highest, empty, data, decibels,
+    ) else {
         return NOT_UNDERSTOOD;
     };
     let made = scarletbook_pcm::convert_frame(conv, run, out);
@@ -223,41 +176,20 @@ pub extern "C" fn puigneht_convert<'a, 'b>(
 ) -> u8
     ensures { ConvertCall (c_converter (c_settings rate cutoff channels gain.now own taps.now) numbers.now) (input has_before before.now frames.now has_after after.now) lent out.old out.new counts.old counts.new (results (stat_lists clipped.old lowest.old highest.old empty.old) «data».old decibels.old) (results (stat_lists clipped.new lowest.new highest.new empty.new) «data».new decibels.new) result }
 {
-    let asked = ConverterNumbers {
-        settings: SettingNumbers {
-            rate,
-            cutoff,
-            channels,
-            gain,
-            own,
-            taps,
-        },
-        stored: numbers,
-    };
-    let input = RunNumbers {
-        has_before,
-        before,
-        frames,
-        has_after,
-        after,
-    };
-    let told = ResultLists {
-        stats: StatNumbers {
-            clipped,
-            lowest,
-            highest,
-            empty,
-        },
-        data,
-        decibels,
-    };
-    let Some((conv, run)) = understood(asked, input, told) else {
+    let Some((conv, run)) = asked(
+        rate, cutoff, channels, gain, own, taps, numbers, has_before, before, frames, has_after,
+        after, clipped, lowest, highest, empty, data, decibels,
+    ) else {
         return NOT_UNDERSTOOD;
     };
     let Some(lent) = flag_of(lent) else {
         return NOT_UNDERSTOOD;
     };
-    let made = scarletbook_pcm::convert(conv, run, lent, out, counts);
+    let made = if lent {
+        scarletbook_pcm::convert(conv, run, out, Some(counts))
+    } else {
+        scarletbook_pcm::convert(conv, run, out, None)
+    };
     tell_conversion(made, clipped, lowest, highest, empty, data, decibels)
 }
 

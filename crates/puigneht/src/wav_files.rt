@@ -6,10 +6,8 @@ ghost use Rattle.interface.specs.Told.{if_ok, stat_lists};
 ghost use Rattle.puigneht.specs.Calls.{results};
 ghost use Rattle.puigneht.specs.Wav.{WavConvertCall, WavReadCall, read_numbers, WavWritten, WavWriteCall};
 
-use interface::{
-    ConverterNumbers, NOT_UNDERSTOOD, Report, ResultLists, RunNumbers, SettingNumbers, StatNumbers,
-    flag_of, rate_of, tell_conversion, tell_data, understood,
-};
+use crate::asked::asked;
+use interface::{NOT_UNDERSTOOD, Report, flag_of, rate_of, tell_conversion, tell_data};
 use reference::PcmError;
 use wav_format::WavFormat;
 
@@ -40,41 +38,20 @@ pub extern "C" fn puigneht_wav_convert<'a, 'b>(
 ) -> u8
     ensures { WavConvertCall (c_converter (c_settings rate cutoff channels gain.now own taps.now) numbers.now) (input has_before before.now frames.now has_after after.now) lent out.old out.new counts.old counts.new (results (stat_lists clipped.old lowest.old highest.old empty.old) «data».old decibels.old) (results (stat_lists clipped.new lowest.new highest.new empty.new) «data».new decibels.new) result }
 {
-    let asked = ConverterNumbers {
-        settings: SettingNumbers {
-            rate,
-            cutoff,
-            channels,
-            gain,
-            own,
-            taps,
-        },
-        stored: numbers,
-    };
-    let input = RunNumbers {
-        has_before,
-        before,
-        frames,
-        has_after,
-        after,
-    };
-    let told = ResultLists {
-        stats: StatNumbers {
-            clipped,
-            lowest,
-            highest,
-            empty,
-        },
-        data,
-        decibels,
-    };
-    let Some((conv, run)) = understood(asked, input, told) else {
+    let Some((conv, run)) = asked(
+        rate, cutoff, channels, gain, own, taps, numbers, has_before, before, frames, has_after,
+        after, clipped, lowest, highest, empty, data, decibels,
+    ) else {
         return NOT_UNDERSTOOD;
     };
     let Some(lent) = flag_of(lent) else {
         return NOT_UNDERSTOOD;
     };
-    let made = wav::convert(conv, run, lent, out, counts);
+    let made = if lent {
+        wav::convert(conv, run, out, Some(counts))
+    } else {
+        wav::convert(conv, run, out, None)
+    };
     tell_conversion(made, clipped, lowest, highest, empty, data, decibels)
 }
 

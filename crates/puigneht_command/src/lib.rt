@@ -1,5 +1,6 @@
-// The command's calls for C. None asks anything of its arguments: where a list of fixed length has another, or a rate or a
-// cutoff is unknown, a call answers 255 and writes nothing.
+// The command's calls for C. None asks anything of its arguments: where a list of fixed length has another, or a rate
+// or a cutoff is unknown, a call answers 255 and writes nothing. Numbers, flags and lists, one by one, are those of the
+// C calls, and so are the zeros that stand for a part or a piece that is not there: C has no `Option`.
 #![tactic(auto)]
 
 ghost use Rattle.std.specs.Prelude.{◌≡◌};

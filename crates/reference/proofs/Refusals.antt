@@ -33,18 +33,6 @@ pub at_end : decide [] ≡ accepted
 unfolding decide
 at_end = refl
 
-pub present_holds : (p : Place) (there : Bool) (ps : List Place) → there ≡ true → p.holds ≡ true → decide (if_present there p ++ ps) ≡ refused p.refusal p.carried
-unfolding if_present
-present_holds p there ps t e = rw t (at_first p ps e)
-
-pub present_passes : (p : Place) (there : Bool) (ps : List Place) → there ≡ true → p.holds ≡ false → decide (if_present there p ++ ps) ≡ decide ps
-unfolding if_present
-present_passes p there ps t e = rw t (at_next p ps e)
-
-pub absent_passes : (p : Place) (there : Bool) (ps : List Place) → there ≡ false → decide (if_present there p ++ ps) ≡ decide ps
-unfolding if_present
-absent_passes p there ps t = rw t
-
 -- ---- lists of places one after the other
 
 refused≢accepted : {A : Type 0} (n : ℕ) (d : List Datum) → refused n d ≡ accepted → A
@@ -164,9 +152,6 @@ module _ (conv : Converter) (opens : decide (held_places conv) ≡ accepted) whe
   later_true : eqb conv.reach (reach_of conv) && eqb conv.frame_length (frame_length conv.channels) ≡ true
   unfolding true_numbers
   later_true = and_right (eqb conv.samples_per_frame (samples_per_frame conv.rate)) _ numbers_true
-
-  pub stored_reach : conv.reach ≡ reach_of conv
-  stored_reach = eqb-true _ _ (and_left _ _ later_true)
 
   pub stored_frame : conv.frame_length ≡ frame_length conv.channels
   stored_frame = eqb-true _ _ (and_right (eqb conv.reach (reach_of conv)) _ later_true)

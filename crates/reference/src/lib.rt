@@ -57,7 +57,8 @@ pub struct Gain {
     pub linear: f64,
 }
 
-// A low-pass: its first `count` taps, from the centre outwards. The places past them are free.
+// A low-pass: its first `count` taps, from the centre outwards. The places past them are free: nothing here is on the
+// heap, so a filter of at most 117 taps is held in an array of that length.
 #[derive(Clone, Copy)]
 pub struct Filter {
     pub taps: [i32; 117],
@@ -178,7 +179,7 @@ pub fn frame_length(channels: u8) -> usize
 }
 
 // A run of frames, and the frames beside it that its first and last samples depend on. The slice of a neighbour that
-// is not there is not read.
+// is not there is not read. The customer named this form, a flag beside each slice; the methods answer an `Option`.
 #[derive(Clone, Copy)]
 pub struct Run<'a> {
     pub has_before: bool,
@@ -194,11 +195,7 @@ impl<'a> Run<'a> {
     pub fn frame_before(self) -> Option<&'a [u8]>
         ensures { option_copied result ≡ if_there (run_of self.entry).has_before (run_of self.entry).before }
     {
-        if self.has_before {
-            Some(self.before)
-        } else {
-            None
-        }
+        self.has_before.then_some(self.before)
     }
 
     // The frame after, where there is one.
@@ -206,11 +203,7 @@ impl<'a> Run<'a> {
     pub fn frame_after(self) -> Option<&'a [u8]>
         ensures { option_copied result ≡ if_there (run_of self.entry).has_after (run_of self.entry).after }
     {
-        if self.has_after {
-            Some(self.after)
-        } else {
-            None
-        }
+        self.has_after.then_some(self.after)
     }
 }
 

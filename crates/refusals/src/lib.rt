@@ -1,5 +1,6 @@
 // Where a call is turned down: document 01's places, tried from top to bottom. A function that asks for an accepted
-// converter reads its stored numbers.
+// converter reads its stored numbers. It asks by one clause: a record with that fact would be made by each caller from
+// `held`'s answer and opened here for its fields. Converter, run and output are three callers' own: no record has them.
 #![tactic(auto)]
 
 ghost use Rattle.std.specs.Prelude.{◌≡◌, [], ◌∷◌, ◌*◌, ◌≤◌, length, is_some, unwrap_or, option_copied};
@@ -80,7 +81,8 @@ pub fn held(conv: Converter) -> Result<(), PcmError>
     opening(conv.settings()).and(numbers(conv))
 }
 
-// All that a change tries: the converter as it is held, then what is wanted.
+// All that a change tries: the converter as it is held, then what is wanted. Rate, cutoff and gain come one by one, as
+// the public `change` has them, whose form the documents promise.
 #[tactic(auto, using(crate::proofs::Steps::one_after), unfolding(reference::specs::Changes::change_places))]
 pub fn change(conv: Converter, rate: PcmRate, cutoff: Cutoff, gain: Gain) -> Result<(), PcmError>
     ensures { decision result ≡ decide (change_places conv (changes.change rate cutoff gain)) }

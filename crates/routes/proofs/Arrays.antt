@@ -44,6 +44,6 @@ module _ {S : ℕ → ℤ} {a : ℕ} where
       → Held (pos 0) S a n s → Held (pos 0) S (a + by) m s'
   shifted by m l moved held = record { is = λ k q. moved k q ∙ held.is (k + by) (omega arith) ∙ ap S (omega arith) }
 
-  -- the same place by another name
-  pub held_at : {n : ℕ} {s : List ℤ} (b : ℕ) → a ≡ b → Held (pos 0) S a n s → Held (pos 0) S b n s
-  held_at b e held = rw (sym e) held
+-- the same place by another name
+pub held_at : {A : Type 0} {d : A} {f : ℕ → A} {a n : ℕ} {l : List A} (b : ℕ) → a ≡ b → Held d f a n l → Held d f b n l
+held_at b e held = rw (sym e) held

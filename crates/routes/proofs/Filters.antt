@@ -5,32 +5,34 @@ use Prim.Native.Nat.{ℕ, ◌+◌, ◌-◌, ◌*◌, ◌/◌, ◌%◌, ◌^◌, 
 use native.Mathlib.Omega.{arith}
 use lib.IntN.{ℤ, pos, nat_abs, ◌+ℤ◌}
 use lib.ListN.{length, take, drop, length-append}
-use lib.Seq.{take_at, drop_at, take_all}
+use lib.Seq.{get_or-take, take_at, drop_at, take_all}
 use Rattle.numbers.specs.Sums.{at0}
 use Rattle.numbers.specs.Lists.{Held, total, tabulate}
 use Rattle.numbers.specs.Parts.{woven}
 use Rattle.numbers.proofs.Integers.{abs_add}
 use Rattle.numbers.proofs.Sums.{sum_size}
 use Rattle.reference.specs.Rounding.{R}
-use Rattle.reference.specs.Taps.{HB}
+use Rattle.reference.specs.Taps.{HB, F40, F80}
 use Rattle.reference.specs.Stages.{tap, M, fir, between, w, y_narrow}
 use Rattle.reference.specs.declared.PcmRate.TheVariants.{Hz352800}
+use Rattle.reference.proofs.Locality.{F40_last, F80_last}
+use Rattle.reference.proofs.Sizes.{F40_sum}
 use Rattle.filters.specs.Filters.{even_taps, odd_taps, between_by, same_rate, middle, Small, Fit, Filled}
 use Rattle.filters.proofs.Signals.{filled_held, same_signal, same_held, middle_held, length_even, length_odd}
-use Rattle.filters.proofs.Tables.{between_is_HB}
-use Rattle.routes.specs.Routes.{halves_of}
+use Rattle.filters.proofs.Tables.{between_is_HB, filter_F40, filter_F80, absolute_F80}
+use Rattle.routes.specs.Routes.{LowPass, HalvedFilter, halves_of}
 use Rattle.routes.proofs.Arrays.{part_held, held_at}
 
 module _ {S : ℕ → ℤ} {a n : ℕ} {x : List ℤ} (held : Held (pos 0) S a n x) (e : ℕ) (inside : e ≤ n) (h : List ℤ) where
-  front : Held (pos 0) S (a + 0) (e - 0) (take (e - 0) x)
-  front = part_held 0 e (omega arith) inside held
+  front : Held (pos 0) S a e (take e x)
+  front = record { is = λ k q. get_or-take e x k (pos 0) q ∙ held.is k (omega arith) }
 
-  pub fir1_gives : {old new : List ℤ} (b : ℕ) → a + M h ≡ b → Filled (λ i. R (same_rate h (take (e - 0) x) i) 24) old new → length old + 2 * M h ≤ e
+  pub fir1_gives : {old new : List ℤ} (b : ℕ) → a + M h ≡ b → Filled (λ i. R (same_rate h (take e x) i) 24) old new → length old + 2 * M h ≤ e
       → Held (pos 0) (λ k. R (fir h S k) 24) b (length old) new
   fir1_gives b at filled l = held_at b (omega arith) (same_held h front filled (omega arith))
 
   -- at half the rate
-  pub halved_gives : {old new : List ℤ} (b : ℕ) → a + M h ≡ 2 * b → Filled (λ i. R (same_rate h (take (e - 0) x) (2 * i)) 24) old new → 2 * length old + 2 * M h ≤ e + 1
+  pub halved_gives : {old new : List ℤ} (b : ℕ) → a + M h ≡ 2 * b → Filled (λ i. R (same_rate h (take e x) (2 * i)) 24) old new → 2 * length old + 2 * M h ≤ e + 1
       → Held (pos 0) (λ k. R (fir h S (2 * k)) 24) b (length old) new
   halved_gives b at filled l = filled_held filled (λ i m. ap (λ (z : ℤ). R z 24) (same_signal h front (2 * i) (omega arith) ∙ ap (fir h S) (omega arith)))
 
@@ -82,7 +84,7 @@ module _ (F : List ℤ) (β : ℕ → ℕ) (k : ℕ) (low : 8 ≤ k) (t : List �
       let h = held_at k (omega (arith, HB_odd)) (middle_held (odd_taps HB) around filled (omega (arith, HB_odd)) (omega (arith, HB_odd))) in
       record { is = λ i m. h.is i (omega arith) ∙ ap (λ z. R z 23) (between_is_HB (w F β) (k + i)) }
 
-  pub woven_y : {old new : List ℤ} (n : ℕ) → n ≡ 2 * k → Filled (λ i. R (middle (odd_taps HB) (take 183 (drop 1 t)) i) 23) old new → length old ≡ 168
+  woven_y : {old new : List ℤ} (n : ℕ) → n ≡ 2 * k → Filled (λ i. R (middle (odd_taps HB) (take 183 (drop 1 t)) i) 23) old new → length old ≡ 168
       → (j : ℕ) → j < 336 → woven (take 168 (drop 8 t)) new j ≡ y_narrow Hz352800 F β (n + j)
   unfolding woven y_narrow
   woven_y n two filled l j m =
@@ -91,3 +93,23 @@ module _ (F : List ℤ) (β : ℕ → ℕ) (k : ℕ) (low : 8 ≤ k) (t : List �
       let even : at0 (take 168 (drop 8 t)) (j / 2) ≡ w F β (k + j / 2) = (part_held 8 176 (omega arith) (omega arith) held).is (j / 2) (omega arith) ∙ ap (w F β) (omega arith) in
       let odd = (halfway filled l).is (j / 2) (omega arith) in
       rw (r, q, even, odd)
+
+-- w and the values between, in turn, are y
+pub woven_gives : (F : List ℤ) (β : ℕ → ℕ) (n : ℕ) {len : ℕ} {t old new ys : List ℤ} → 16 ≤ n → n % 2 ≡ 0 → Held (pos 0) (w F β) (n / 2 - 8) 184 t
+    → Filled (λ i. R (middle (odd_taps HB) (take 183 (drop 1 t)) i) 23) old new → length old ≡ 168 → Held (pos 0) (woven (take 168 (drop 8 t)) new) 0 len ys → len ≡ 336
+    → Held (pos 0) (y_narrow Hz352800 F β) n 336 ys
+woven_gives F β n {t = t} {new = new} l even held filled long turns e =
+    record { is = λ j m. turns.is j (omega arith) ∙ ap (woven (take 168 (drop 8 t)) new) (omega arith) ∙ woven_y F β (n / 2) (omega arith) t held n (omega arith) filled long j m }
+
+-- ---- the filters of Wide, as they are lent
+
+pub halved_F80 : {h : List ℤ} → h ≡ halves_of F80 → HalvedFilter h
+halved_F80 e =
+    let long = halves_length F80 e in
+    record { some = omega (arith, long, F80_last); few = omega (arith, long, F80_last); F = F80; halved = e; keeps = filter_F80; small = omega (arith, absolute_F80) }
+
+low_pass_F40 : LowPass F40
+low_pass_F40 = record { some = omega (arith, F40_last); few = omega (arith, F40_last); keeps = filter_F40; small = omega (arith, F40_sum) }
+
+pub lent_F40 : {h : List ℤ} → h ≡ F40 → LowPass h
+lent_F40 e = rw e low_pass_F40

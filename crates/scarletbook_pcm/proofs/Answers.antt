@@ -9,9 +9,9 @@ use lib.IntN.{ℤ}
 use lib.ListN.{length}
 use Rattle.reference.specs.Frames.{Run, frame_count}
 use Rattle.reference.specs.Output.{all_samples, samples, stats, s24le, frame_clips, per_frame_clips}
-use Rattle.reference.specs.Refusals.{rack, accepted, error_decision, is_accepted, Place, decide, if_present, lent_length, opening_places, held_places, input_places, run_lengths, byte_lengths, convert_run_places, convert_frame_places, convert_places}
+use Rattle.reference.specs.Refusals.{rack, Decision, accepted, refused, error_decision, is_accepted, Place, decide, if_present, lent_length, opening_places, held_places, input_places, run_lengths, byte_lengths, convert_run_places, convert_frame_places, convert_places}
 use Rattle.reference.specs.Settings.{converter_of}
-use Rattle.reference.specs.Promises.{stats_told, OpeningPromise, Answered, SamplesPromise, BytesPromise, if_lent}
+use Rattle.reference.specs.Promises.{by_decision, Converted, stats_told, OpeningPromise, Answered, SamplesPromise, BytesPromise, if_lent}
 use Rattle.reference.specs.Statistics.{no_stats}
 use Rattle.reference.specs.declared.Converter.{Converter}
 use Rattle.reference.specs.declared.ConvertStats.{ConvertStats}
@@ -25,6 +25,11 @@ use Rattle.numbers.specs.Lists.{tabulate}
 use Rattle.output.specs.Fills.{items, bytes, written}
 use Rattle.output.proofs.Boxes.{written_items, written_bytes}
 use Rattle.scarletbook_pcm.specs.Calls.{AcceptedCall}
+
+pub kept : (d : Decision) (xs : List ℕ) → xs ≡ by_decision d xs xs
+unfolding by_decision
+kept accepted xs = refl
+kept (refused n d) xs = refl
 
 both : (ps qs : List Place) → decide (ps ++ qs) ≡ accepted → (decide ps ≡ accepted) × (decide qs ≡ accepted)
 both ps qs e = let h = decide_first ps qs e in (h, sym (decide_skip ps qs h) ∙ e)
@@ -94,11 +99,6 @@ module _ (places : List Place) (conv : Converter) (r : Run) where
     samples_refused out = record { answered = unanswered; written = sym (exit_refused (decide places) (samples conv r) out down) }
 
 module _ (whose : Limit) (conv : Converter) (r : Run) (out counts : List ℕ) where
-  -- a list that is not lent is not measured
-  unlent_places : (cs : List ℕ) → convert_places whose conv r out false cs ≡ convert_places whose conv r out false counts
-  unfolding convert_places byte_lengths if_present
-  unlent_places cs = refl
-
   module _ (lent : Bool) (told : ConvertStats) (is_stats : told ≡ stats conv r) (ok : accepted ≡ decide (convert_places whose conv r out lent counts)) where
     bytes_promise : (out' counts' : List ℕ) → out' ≡ s24le (samples conv r) → counts' ≡ if_lent lent (per_frame_clips conv r) counts → BytesPromise whose conv r lent out counts out' counts' (Ok told)
     bytes_promise out' counts' w k =
@@ -109,15 +109,10 @@ module _ (whose : Limit) (conv : Converter) (r : Run) (out counts : List ℕ) wh
           per_frame = k ∙ sym (exit_accepted (decide places) (if_lent lent (per_frame_clips conv r) counts) counts (sym ok));
         }
 
-  module _ (told : ConvertStats) (is_stats : told ≡ stats conv r) where
-    pub lent_promise : accepted ≡ decide (convert_places whose conv r out true counts) → (out' counts' : List ℕ) → out' ≡ written bytes (samples conv r)
-        → length counts ≡ frame_count conv.channels r.frames → counts' ≡ tabulate (frame_clips conv r) 0 (length counts) → BytesPromise whose conv r true out counts out' counts' (Ok told)
-    unfolding if_lent per_frame_clips
-    lent_promise ok out' counts' w l k = bytes_promise true told is_stats ok out' counts' (w ∙ written_bytes (samples conv r)) (k ∙ ap (λ n. tabulate (frame_clips conv r) 0 n) l)
-
-    pub unlent_promise : accepted ≡ decide (convert_places whose conv r out false []) → (out' : List ℕ) → out' ≡ written bytes (samples conv r) → BytesPromise whose conv r false out counts out' counts (Ok told)
-    unfolding if_lent
-    unlent_promise ok out' w = bytes_promise false told is_stats (ok ∙ ap decide (unlent_places [])) out' counts (w ∙ written_bytes (samples conv r)) refl
+  pub lent_promise : (told : ConvertStats) → told ≡ stats conv r → accepted ≡ decide (convert_places whose conv r out true counts) → (out' counts' : List ℕ) → out' ≡ written bytes (samples conv r)
+      → length counts ≡ frame_count conv.channels r.frames → counts' ≡ tabulate (frame_clips conv r) 0 (length counts) → BytesPromise whose conv r true out counts out' counts' (Ok told)
+  unfolding if_lent per_frame_clips
+  lent_promise told is_stats ok out' counts' w l k = bytes_promise true told is_stats ok out' counts' (w ∙ written_bytes (samples conv r)) (k ∙ ap (λ n. tabulate (frame_clips conv r) 0 n) l)
 
   bytes_refused : (lent : Bool) (e : PcmError) → error_decision e ≡ decide (convert_places whose conv r out lent counts) → BytesPromise whose conv r lent out counts out counts (Err e)
   bytes_refused lent e h =
@@ -131,5 +126,17 @@ module _ (whose : Limit) (conv : Converter) (r : Run) (out counts : List ℕ) wh
   pub lent_refused : (e : PcmError) → error_decision e ≡ decide (convert_places whose conv r out true counts) → BytesPromise whose conv r true out counts out counts (Err e)
   lent_refused e h = bytes_refused true e h
 
-  pub unlent_refused : (e : PcmError) → error_decision e ≡ decide (convert_places whose conv r out false []) → BytesPromise whose conv r false out counts out counts (Err e)
-  unlent_refused e h = bytes_refused false e (h ∙ ap decide (unlent_places []))
+-- where no list is lent there are no counts
+module _ (whose : Limit) (conv : Converter) (r : Run) (out : List ℕ) where
+  pub unlent_promise : (told : ConvertStats) → told ≡ stats conv r → accepted ≡ decide (convert_places whose conv r out false []) → (out' : List ℕ) → out' ≡ written bytes (samples conv r)
+      → BytesPromise whose conv r false out [] out' [] (Ok told)
+  unfolding if_lent
+  unlent_promise told is_stats ok out' w = bytes_promise whose conv r out [] false told is_stats ok out' [] (w ∙ written_bytes (samples conv r)) refl
+
+  pub unlent_refused : (e : PcmError) → error_decision e ≡ decide (convert_places whose conv r out false []) → BytesPromise whose conv r false out [] out [] (Err e)
+  unlent_refused e h = bytes_refused whose conv r out [] false e h
+
+  -- such a call promises of any list that it is not measured, and keeps its contents
+  pub any_unlent : (counts out' : List ℕ) (answer : Converted) → BytesPromise whose conv r false out [] out' [] answer → BytesPromise whose conv r false out counts out' counts answer
+  unfolding convert_places byte_lengths if_present if_lent
+  any_unlent counts out' answer p = record { answered = p.answered; written = p.written; per_frame = kept _ counts }

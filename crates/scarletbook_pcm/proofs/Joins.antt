@@ -12,12 +12,14 @@ use borrow.Fn.Kinds.{Dens, res_t, ended_of}
 use denote.Triple.Entry.{Args, Res}
 use denote.Triple.Clauses.{AtExit}
 use denote.Triple.Spec.{exits}
+use Rattle.std.specs.Prelude.{is_some}
 use Rattle.reference.specs.Frames.{Run, run, run_of}
 use Rattle.reference.specs.Refusals.{rack, desk}
 use Rattle.reference.specs.Promises.{ConvertPromise, DeskPromise, ConvertRunPromise}
 use Rattle.reference.specs.declared.Converter.{Converter}
 use Rattle.joins.specs.Joins.{Call, convert, convert_run, AcceptedConverter, AcceptedRun, JoinTo, GiveWholeRun}
 use Rattle.joins.proofs.Joins.{cut_runs_join}
+use Rattle.scarletbook_pcm.specs.Calls.{listed, left}
 use Rattle.scarletbook_pcm.proofs.convert_parts.Kinds as bytes-kinds
 use Rattle.scarletbook_pcm.proofs.convert_parts.Reads as bytes
 use Rattle.scarletbook_pcm.proofs.convert_desk_parts.Kinds as desk-kinds
@@ -31,8 +33,8 @@ use Rattle.scarletbook_pcm.specs.contracts.record.convert_run as record-items
 -- a call of `convert_parts`: its arguments a, its answer r, the lent lists s at exit
 module _ (κs : Lfts 3) (a : Dens κs bytes-kinds.ps) (r : (res_t bytes-kinds.r κs).Denot) (s : AtExit (ended_of 3 bytes-kinds.ps bytes-kinds.r) κs) where
   pub convert_ensures : bytes.Learnt κs a r s ≡
-      ConvertPromise a.0 (run a.1.0 a.1.1.0.now a.1.1.1.0.now a.1.1.1.1.0 a.1.1.1.1.1.0.now) a.1.1.1.1.1.1.0
-      a.1.1.1.1.1.1.1.0.now a.1.1.1.1.1.1.1.1.0.now s.1.1.1.1.1.1.1.0.now s.1.1.1.1.1.1.1.1.0.now r
+      ConvertPromise a.0 (run a.1.0 a.1.1.0.now a.1.1.1.0.now a.1.1.1.1.0 a.1.1.1.1.1.0.now) (is_some a.1.1.1.1.1.1.1.0)
+      a.1.1.1.1.1.1.0.now (listed a.1.1.1.1.1.1.1.0) s.1.1.1.1.1.1.0.now (left s.1.1.1.1.1.1.1.0) r
   convert_ensures = refl
 
   pub convert_call : bytes.Learnt κs a r s → Call a.0
@@ -41,8 +43,8 @@ module _ (κs : Lfts 3) (a : Dens κs bytes-kinds.ps) (r : (res_t bytes-kinds.r 
 -- of `convert_desk_parts`
 module _ (κs : Lfts 3) (a : Dens κs desk-kinds.ps) (r : (res_t desk-kinds.r κs).Denot) (s : AtExit (ended_of 3 desk-kinds.ps desk-kinds.r) κs) where
   pub convert_desk_ensures : desk-bytes.Learnt κs a r s ≡
-      DeskPromise a.0 (run a.1.0 a.1.1.0.now a.1.1.1.0.now a.1.1.1.1.0 a.1.1.1.1.1.0.now) a.1.1.1.1.1.1.0
-      a.1.1.1.1.1.1.1.0.now a.1.1.1.1.1.1.1.1.0.now s.1.1.1.1.1.1.1.0.now s.1.1.1.1.1.1.1.1.0.now r
+      DeskPromise a.0 (run a.1.0 a.1.1.0.now a.1.1.1.0.now a.1.1.1.1.0 a.1.1.1.1.1.0.now) (is_some a.1.1.1.1.1.1.1.0)
+      a.1.1.1.1.1.1.0.now (listed a.1.1.1.1.1.1.1.0) s.1.1.1.1.1.1.0.now (left s.1.1.1.1.1.1.1.0) r
   convert_desk_ensures = refl
 
   pub convert_desk_call : desk-bytes.Learnt κs a r s → Call a.0
@@ -60,10 +62,10 @@ module _ (κs : Lfts 2) (a : Dens κs items-kinds.ps) (r : (res_t items-kinds.r 
 
 -- over the run record: what a call of `convert`, `convert_desk` and `convert_run` promises of its arguments a, its answer r, and the lent lists s at exit
 abbrev pub record_said : (κs : Lfts 3) (a : Args record-bytes.signature κs) → Res record-bytes.signature κs → AtExit record-bytes.ended κs → Type 0
-record_said κs a r s = ConvertPromise a.0 (run_of a.1.0) a.1.1.0 a.1.1.1.0.now a.1.1.1.1.0.now s.1.1.1.0.now s.1.1.1.1.0.now r
+record_said κs a r s = ConvertPromise a.0 (run_of a.1.0) (is_some a.1.1.1.0) a.1.1.0.now (listed a.1.1.1.0) s.1.1.0.now (left s.1.1.1.0) r
 
 abbrev pub record_desk_said : (κs : Lfts 3) (a : Args record-desk.signature κs) → Res record-desk.signature κs → AtExit record-desk.ended κs → Type 0
-record_desk_said κs a r s = DeskPromise a.0 (run_of a.1.0) a.1.1.0 a.1.1.1.0.now a.1.1.1.1.0.now s.1.1.1.0.now s.1.1.1.1.0.now r
+record_desk_said κs a r s = DeskPromise a.0 (run_of a.1.0) (is_some a.1.1.1.0) a.1.1.0.now (listed a.1.1.1.0) s.1.1.0.now (left s.1.1.1.0) r
 
 abbrev pub record_run_said : (κs : Lfts 2) (a : Args record-items.signature κs) → Res record-items.signature κs → AtExit record-items.ended κs → Type 0
 record_run_said κs a r s = ConvertRunPromise a.0 (run_of a.1.0) a.1.1.0.now s.1.1.0.now r

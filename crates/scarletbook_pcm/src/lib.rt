@@ -1,7 +1,8 @@
 // The converter's calls. None asks anything: a call that document 01's table turns down is refused, and all lent memory keeps its contents.
 #![tactic(auto)]
 
-ghost use Rattle.std.specs.Prelude.{◌≡◌};
+ghost use Rattle.std.specs.Prelude.{◌≡◌, true, false, [], is_some};
+ghost use Rattle.scarletbook_pcm.specs.Calls.{listed, left};
 ghost use Rattle.reference.specs.Frames.{run, run_of};
 ghost use Rattle.reference.specs.Output as output;
 ghost use Rattle.reference.specs.Changes as changes;
@@ -51,6 +52,9 @@ pub fn change(
     changes::change(conv, rate, cutoff, gain)
 }
 
+// The four calls of the customer, each with its fields one by one, a flag beside each neighbour, as they were asked for;
+// those over the run record are in record.rt. Two forms of a call differ in a limit or a length, and each has a name.
+
 // 32-bit samples of a run. An absent neighbour's slice is neither read nor measured.
 #[tactic(auto, using(crate::proofs::Answers::run_accepted, crate::proofs::Answers::samples_promise, crate::proofs::Answers::samples_refused))]
 pub fn convert_run_parts<'a>(
@@ -99,23 +103,32 @@ pub fn convert_frame_parts<'a>(
     Ok(work::converted(conv, run, out, &mut []))
 }
 
-// Bytes of a run of as many frames as the rack or the desk takes. The flag beside the list of counts stays, as the
-// contract tells the list at exit, and of a `&mut` inside an `Option` it can tell nothing.
-#[tactic(auto, using(crate::proofs::Answers::lent_accepted, crate::proofs::Answers::unlent_accepted, crate::proofs::Answers::lent_promise, crate::proofs::Answers::unlent_promise, crate::proofs::Answers::lent_refused, crate::proofs::Answers::unlent_refused))]
-fn bytes_under<'a>(
+// Bytes of a run of as many frames as the rack or the desk takes, and the clips of each frame.
+// The calls below choose by their `Option`: passed on whole it would tell a proof nothing of its list.
+#[tactic(auto, using(crate::proofs::Answers::lent_accepted, crate::proofs::Answers::lent_promise, crate::proofs::Answers::lent_refused))]
+fn counted<'a>(
     whose: Limit,
     conv: Converter,
     run: Run<'a>,
-    lent: bool,
     out: &mut [u8],
     counts: &mut [u64],
 ) -> Result<ConvertStats, PcmError>
-    ensures { BytesPromise whose conv (run_of run.entry) lent out.old counts.old out.new counts.new result }
+    ensures { BytesPromise whose conv (run_of run.entry) true out.old counts.old out.new counts.new result }
 {
-    if lent {
-        refusals::byte_call(whose, conv, run, out, Some(&*counts))?;
-        return Ok(work::converted(conv, run, out, counts));
-    }
+    refusals::byte_call(whose, conv, run, out, Some(&*counts))?;
+    Ok(work::converted(conv, run, out, counts))
+}
+
+// The same without the clips.
+#[tactic(auto, using(crate::proofs::Answers::unlent_accepted, crate::proofs::Answers::unlent_promise, crate::proofs::Answers::unlent_refused))]
+fn uncounted<'a>(
+    whose: Limit,
+    conv: Converter,
+    run: Run<'a>,
+    out: &mut [u8],
+) -> Result<ConvertStats, PcmError>
+    ensures { BytesPromise whose conv (run_of run.entry) false out.old [] out.new [] result }
+{
     refusals::byte_call(whose, conv, run, out, None)?;
     Ok(work::converted(conv, run, out, &mut []))
 }
@@ -128,11 +141,10 @@ pub fn convert_parts<'a>(
     frames: &'a [u8],
     has_after: bool,
     after: &'a [u8],
-    lent: bool,
     out: &mut [u8],
-    counts: &mut [u64],
+    counts: Option<&mut [u64]>,
 ) -> Result<ConvertStats, PcmError>
-    ensures { ConvertPromise conv (run has_before before.now frames.now has_after after.now) lent out.old counts.old out.new counts.new result }
+    ensures { ConvertPromise conv (run has_before before.now frames.now has_after after.now) (is_some counts.entry) out.old (listed counts.entry) out.new (left counts.exit) result }
 {
     let run = Run {
         has_before,
@@ -141,7 +153,10 @@ pub fn convert_parts<'a>(
         has_after,
         after,
     };
-    bytes_under(Limit::Rack, conv, run, lent, out, counts)
+    match counts {
+        Some(counts) => counted(Limit::Rack, conv, run, out, counts),
+        None => uncounted(Limit::Rack, conv, run, out),
+    }
 }
 
 // For the listening desk, which takes at most 8 frames.
@@ -152,11 +167,10 @@ pub fn convert_desk_parts<'a>(
     frames: &'a [u8],
     has_after: bool,
     after: &'a [u8],
-    lent: bool,
     out: &mut [u8],
-    counts: &mut [u64],
+    counts: Option<&mut [u64]>,
 ) -> Result<ConvertStats, PcmError>
-    ensures { DeskPromise conv (run has_before before.now frames.now has_after after.now) lent out.old counts.old out.new counts.new result }
+    ensures { DeskPromise conv (run has_before before.now frames.now has_after after.now) (is_some counts.entry) out.old (listed counts.entry) out.new (left counts.exit) result }
 {
     let run = Run {
         has_before,
@@ -165,7 +179,10 @@ pub fn convert_desk_parts<'a>(
         has_after,
         after,
     };
-    bytes_under(Limit::Desk, conv, run, lent, out, counts)
+    match counts {
+        Some(counts) => counted(Limit::Desk, conv, run, out, counts),
+        None => uncounted(Limit::Desk, conv, run, out),
+    }
 }
 
 // 32-bit samples as three bytes each, their low 24 bits, least first: as many as there are bytes for. Later bytes are kept.

@@ -1,9 +1,11 @@
 // The run record, and the calls over it: each takes it apart and calls the function with plain parameters.
+ghost use Rattle.std.specs.Prelude.{is_some};
 ghost use Rattle.reference.specs.Frames.{run_of};
 ghost use Rattle.reference.specs.Promises.{ConvertRunPromise, ConvertFramePromise, ConvertPromise, DeskPromise};
+ghost use Rattle.scarletbook_pcm.specs.Calls.{listed, left};
 
-use crate::{convert_desk_parts, convert_frame_parts, convert_parts, convert_run_parts};
-use reference::{ConvertStats, Converter, PcmError, Run};
+use crate::{convert_frame_parts, convert_run_parts, counted, uncounted};
+use reference::{ConvertStats, Converter, Limit, PcmError, Run};
 
 pub fn convert_run<'a>(
     conv: Converter,
@@ -44,43 +46,27 @@ pub fn convert_frame<'a>(
 pub fn convert<'a>(
     conv: Converter,
     run: Run<'a>,
-    lent: bool,
     out: &mut [u8],
-    counts: &mut [u64],
+    counts: Option<&mut [u64]>,
 ) -> Result<ConvertStats, PcmError>
-    ensures { ConvertPromise conv (run_of run.entry) lent out.old counts.old out.new counts.new result }
+    ensures { ConvertPromise conv (run_of run.entry) (is_some counts.entry) out.old (listed counts.entry) out.new (left counts.exit) result }
 {
-    convert_parts(
-        conv,
-        run.has_before,
-        run.before,
-        run.frames,
-        run.has_after,
-        run.after,
-        lent,
-        out,
-        counts,
-    )
+    match counts {
+        Some(counts) => counted(Limit::Rack, conv, run, out, counts),
+        None => uncounted(Limit::Rack, conv, run, out),
+    }
 }
 
 pub fn convert_desk<'a>(
     conv: Converter,
     run: Run<'a>,
-    lent: bool,
     out: &mut [u8],
-    counts: &mut [u64],
+    counts: Option<&mut [u64]>,
 ) -> Result<ConvertStats, PcmError>
-    ensures { DeskPromise conv (run_of run.entry) lent out.old counts.old out.new counts.new result }
+    ensures { DeskPromise conv (run_of run.entry) (is_some counts.entry) out.old (listed counts.entry) out.new (left counts.exit) result }
 {
-    convert_desk_parts(
-        conv,
-        run.has_before,
-        run.before,
-        run.frames,
-        run.has_after,
-        run.after,
-        lent,
-        out,
-        counts,
-    )
+    match counts {
+        Some(counts) => counted(Limit::Desk, conv, run, out, counts),
+        None => uncounted(Limit::Desk, conv, run, out),
+    }
 }

@@ -60,7 +60,8 @@ fn place(due: u64, a: usize) -> u64
     8 * due + a as u64
 }
 
-// An album finishes after the turns of all that have no later place.
+// An album finishes after the turns of all that have no later place. A `for`, and no chain with a `sum`: its closures
+// would have to ask anew that album b is one of the list and in range.
 fn finish(frames: &[u64], dues: &[u64], turn: u64, a: usize) -> u64
     requires { (turns.in_range (board frames.now dues.now turn) ≡ true) × (length dues.now ≡ length frames.now) × (a < length frames.now) }
     ensures { (result ≡ finish_in (board frames.now dues.now turn) (simulated (board frames.now dues.now turn)) a) × (result ≤ 4320000) }

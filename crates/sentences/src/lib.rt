@@ -1,4 +1,6 @@
-// Refusals as sentences.
+// Refusals as sentences. A refusal comes as the C call hands it: its number, and two numbers a and b of the file, which
+// mean something else for each refusal. That 256 bytes are left is a clause of each function and no fact of `Text`,
+// which other printing fills to its end.
 #![tactic(auto)]
 
 ghost use Rattle.std.specs.Prelude.{◌++◌, ◌+◌, ◌*◌, ◌≤◌, length};
@@ -21,6 +23,7 @@ fn groups(text: &mut Text, k: u64, n: u64)
         return text.labelled(b"", n);
     }
     groups(text, k - 1, n / 1000);
+    // Digit by digit, as `Text::decimal` leaves out the zeros in front, which a group has.
     let d = n % 1000;
     text.put(&[
         b',',

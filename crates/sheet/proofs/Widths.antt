@@ -1,15 +1,17 @@
 -- Which numbers of a sheet fit their columns.
-use mathlib.Core.Path.{◌≡◌, sym, ◌∙◌}
-use mathlib.Core.Bool.{Bool, true, false, ◌||◌, or-false, or-true}
+use Rattle.std.proofs.Common.{rules}
+use Rattle.std.specs.List.{list_any}
+use mathlib.Core.List.{List, [], ◌∷◌}
+use mathlib.Core.Path.{◌≡◌, refl, sym, ◌∙◌}
+use mathlib.Core.Bool.{Bool, false, ◌||◌, or-false}
 use mathlib.Core.Logic.{⊎_elim}
-use Prim.Native.Nat.{ℕ, zero, suc, ◌+◌, ◌*◌, ◌^◌, ◌≤◌, ◌<◌}
-use native.Mathlib.Numerals.{add-one}
+use Prim.Native.Nat.{ℕ, zero, suc, ◌*◌, ◌^◌, ◌≤◌, ◌<◌}
 use native.Mathlib.Nat.{zero-add}
 use Rattle.numbers.specs.Lists.{total}
 use native.Mathlib.Omega.{arith}
 use borrow.Author.Tests.{ltb-false}
 use lib.Dec.{ltb}
-use lib.ListN.{length}
+use lib.ListN.{length, take, get_or}
 use Rattle.numbers.proofs.Lists.{below_or}
 use Rattle.reference.specs.Statistics.{channel_of, clip_sum}
 use Rattle.reference.specs.declared.ConvertStats.{ConvertStats}
@@ -50,22 +52,12 @@ unfolding too_wide sum_line
 sum_wide sum = rw or-false
 
 -- one channel after another
-pub some_more : (p : ℕ → Bool) (n : ℕ) → some_below p (n + 1) ≡ (some_below p n || p n)
-unfolding some_below
-some_more p n = rw add-one
-
 pub none_of : (p : ℕ → Bool) (n c : ℕ) → some_below p n ≡ false → c < n → p c ≡ false
 unfolding some_below
 none_of p zero c h l = absurd (omega arith)
 none_of p (suc n) c h l =
     let q = or_left (some_below p n) (p n) h in
     ⊎_elim (λ m. none_of p n c q.0 m) (λ m. let e : c ≡ n = omega arith in rw e q.1) (below_or c n)
-
-pub some_at : (p : ℕ → Bool) (n c : ℕ) → c < n → p c ≡ true → some_below p n ≡ true
-unfolding some_below
-some_at p zero c l h = absurd (omega arith)
-some_at p (suc n) c l h =
-    ⊎_elim (λ m. rw (some_at p n c m h)) (λ m. let e : c ≡ n = omega arith in rw (rw e at h) (or-true (some_below p n))) (below_or c n)
 
 -- counts that fit their columns, together
 module _ (stats : ConvertStats) where
@@ -91,3 +83,23 @@ module _ (channels : ℕ) (stats : ConvertStats) (fits : sheet_too_wide channels
   sum_fits =
       let h = (or_left (some_below (λ c. too_wide (channel_line stats c)) channels) (too_wide (sum_line (clip_sum stats channels))) fits).1 in
       ltb-false 14 (length (decimal (clip_sum stats channels))) (sym (sum_wide (clip_sum stats channels)) ∙ h)
+
+-- the first place, then those after it
+some_first : (p : ℕ → Bool) (n : ℕ) → some_below p (suc n) ≡ (p 0 || some_below (λ k. p (suc k)) n)
+unfolding some_below
+some_first p zero = grind rules
+some_first p (suc n) = rw (some_first p n) (grind rules)
+
+-- some of the first elements of a list
+pub some_taken : {X : Type 0} (test : X → Bool) (d : X) (l : List X) (n : ℕ) → n ≤ length l → list_any test (take n l) ≡ some_below (λ c. test (get_or l c d)) n
+unfolding some_below
+some_taken test d [] zero h = refl
+some_taken test d [] (suc n) h = absurd (omega (arith, h))
+some_taken test d (x ∷ xs) zero h = refl
+some_taken test d (x ∷ xs) (suc n) h = rw (some_first (λ c. test (get_or (x ∷ xs) c d)) n, some_taken test d xs n (omega (arith, h))) refl
+
+-- a test that agrees at each place
+pub some_same : (p q : ℕ → Bool) (n : ℕ) → ((c : ℕ) → c < n → p c ≡ q c) → some_below p n ≡ some_below q n
+unfolding some_below
+some_same p q zero h = refl
+some_same p q (suc n) h = rw (some_same p q n (λ c l. h c (omega (arith, l))), h n (omega arith)) refl

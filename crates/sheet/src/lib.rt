@@ -44,12 +44,9 @@ fn wide_channels(stats: ConvertStats, channels: usize) -> bool
     requires { channels ≤ 6 }
     ensures { result ≡ some_below (λ c. too_wide (channel_line stats c)) channels }
 {
-    for c in 0..channels {
-        if wide_channel(stats.channels[c]) {
-            return true;
-        }
-    }
-    false
+    stats.channels[..channels]
+        .iter()
+        .any(|channel| wide_channel(*channel))
 }
 
 // Whether a printed number is too wide for its column.

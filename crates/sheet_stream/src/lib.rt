@@ -6,8 +6,8 @@ use std::io::{Read, Write};
 
 mod frames;
 
-// Reads the line from one reader and the frames from another, which may give the rest of the same input, and writes the sheet to a writer. A
-// read or a write that fails ends it, and its error is the answer.
+// Reads the line from one reader and the frames from another, which may give the rest of the same input, and writes the
+// sheet to a writer. A read or a write that fails ends it, and its error is the answer.
 pub fn sheet<L: Read, F: Read, W: Write>(
     line_from: &mut L,
     frames_from: &mut F,

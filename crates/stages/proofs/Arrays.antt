@@ -3,7 +3,7 @@ use mathlib.Core.Path.{◌≡◌, ◌∙◌, ap}
 use mathlib.Core.List.{List}
 use Prim.Native.Nat.{ℕ, ◌+◌, ◌-◌, ◌*◌, ◌/◌, ◌%◌, ◌^◌, ◌≤◌, ◌<◌}
 use native.Mathlib.Omega.{arith}
-use lib.Dec.{lit<}
+use lib.Dec.{lit<, lit≤}
 use lib.IntN.{ℤ, pos, nat_abs}
 use lib.ListN.{length, get_or}
 use Rattle.numbers.specs.Sums.{at0}
@@ -12,7 +12,7 @@ use Rattle.numbers.specs.Parts.{evens, odds, woven}
 use Rattle.reference.specs.Rounding.{R}
 use Rattle.reference.specs.Taps.{S1, S1_WIDE, HB}
 use Rattle.reference.specs.Stages.{M, fir, u, v}
-use Rattle.reference.proofs.Locality.{S1_WIDE_length}
+use Rattle.reference.proofs.Locality.{S1_length, S1_WIDE_length}
 use Rattle.reference.proofs.Sizes.{fir_size, u_S1_size, u_WIDE_size, v_size}
 use Rattle.filters.specs.Filters.{alone, odd_taps, half_rate, Small, Fit, Filled}
 use Rattle.filters.proofs.Signals.{held_small, half_fit, half_held, length_odd}
@@ -78,6 +78,24 @@ module _ {β : ℕ → ℕ} {i n : ℕ} {even odd : List ℤ} (a : Around β i n
   v_held filled =
       let h = half_held halves_HB (u S1 β) a.at_even a.at_odd seam filled (omega (arith, a.long_even)) (omega (arith, a.long_even, odd_length)) in
       held_moved (rw a.long_even at h) (λ k m. ap (v β) (omega arith))
+
+-- the sums of every second window, from place 15 on and from place 0 on, are u at even and at odd places
+pub around : {tables even odd : List ℤ} {bytes : List ℕ} {n : ℕ} → ByteTables S1 8 tables → ((j : ℕ) → get_or bytes j 0 < 256) → length bytes ≡ 2 * n + 36 → length even ≡ n → length odd ≡ n + 15
+    → Held (pos 0) (λ k. window_sum tables 4 bytes (15 + 2 * k)) 0 n even → Held (pos 0) (λ k. window_sum tables 4 bytes (0 + 2 * k)) 0 (n + 15) odd
+    → (β : ℕ → ℕ) (i : ℕ) → 10 ≤ i → Held 0 β (2 * i - 19) (length bytes) bytes → Around β i n even odd
+around {n = n} rule byte long e o at_even at_odd β i l held =
+    let stage = first_held 4 S1_length (lit< tt) rule byte held in
+    record {
+      low = omega arith;
+      long_even = e;
+      long_odd = o;
+      at_even = held_moved (stage 15 2 n _ (omega (arith, long)) at_even) (λ k m. ap (u S1 β) (omega arith));
+      at_odd = held_moved (stage 0 2 (n + 15) _ (omega (arith, long)) at_odd) (λ k m. ap (u S1 β) (omega arith));
+    }
+
+-- the bytes are of some signal
+pub some_signal : {even odd : List ℤ} {bytes : List ℕ} {n : ℕ} → ((β : ℕ → ℕ) (i : ℕ) → 10 ≤ i → Held 0 β (2 * i - 19) (length bytes) bytes → Around β i n even odd) → Around (λ k. get_or bytes (k - 1) 0) 10 n even odd
+some_signal {bytes = bytes} at = at (λ k. get_or bytes (k - 1) 0) 10 (lit≤ tt) (any_bytes bytes 1 (length bytes))
 
 -- values of v are below 2^27
 pub v_small : (β : ℕ → ℕ) (i : ℕ) {n : ℕ} {l : List ℤ} → length l ≤ n → Held (pos 0) (v β) i n l → Small (2 ^ 27) l

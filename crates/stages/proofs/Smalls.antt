@@ -2,14 +2,13 @@
 use mathlib.Core.Path.{◌≡◌, ◌∙◌, ap}
 use mathlib.Core.Logic.{⊎_elim}
 use mathlib.Core.List.{List, ◌++◌}
-use Prim.Native.Nat.{ℕ, ◌+◌, ◌-◌, ◌*◌, ◌^◌, ◌≤◌, ◌<◌}
+use Prim.Native.Nat.{ℕ, ◌+◌, ◌-◌, ◌^◌, ◌≤◌, ◌<◌}
 use native.Mathlib.Omega.{arith}
 use native.Mathlib.Nat.{mul-le-mul_right}
-use lib.Dec.{lit≤}
 use lib.IntN.{ℤ, pos}
-use lib.ListN.{length, get_or, take, drop, length-take, get_or-append}
-use lib.Seq.{length-take-le, get_or-take, get_or-drop, get_or-append-add}
-use borrow.Rule.Slice.PartMut.{put_mid, same_len_mid}
+use lib.ListN.{length, get_or, take, drop, replicate, length-take, length-replicate, get_or-append, get_or-replicate}
+use lib.Seq.{get_or-take, get_or-drop, get_or-append-add}
+use borrow.Rule.Slice.PartMut.{put_mid}
 use Rattle.numbers.specs.Sums.{at0}
 use Rattle.numbers.specs.Lists.{Held}
 use Rattle.numbers.proofs.Lists.{below_or, held_some}
@@ -17,8 +16,9 @@ use Rattle.reference.specs.Rounding.{R}
 use Rattle.reference.specs.Stages.{M, fir}
 use Rattle.reference.proofs.Rounding.{R_size}
 use Rattle.reference.proofs.Sizes.{absolute_sum, fir_size}
-use Rattle.filters.specs.Filters.{same_rate, Small, Fit, Filter, Filled}
+use Rattle.filters.specs.Filters.{same_rate, Small, Fit, Filled}
 use Rattle.filters.proofs.Signals.{past}
+use Rattle.routes.specs.Routes.{LowPass}
 use Rattle.routes.proofs.Arrays.{part_length, put_held}
 
 module _ {B : ℕ} where
@@ -52,12 +52,22 @@ module _ {B : ℕ} where
   pub small_shift : {x x' : List ℤ} (by n : ℕ) → Small B x → ((k : ℕ) → k < n → get_or x' k (pos 0) ≡ get_or x (k + by) (pos 0)) → ((k : ℕ) → n ≤ k → get_or x' k (pos 0) ≡ get_or x k (pos 0)) → Small B x'
   small_shift by n s e f = record { size = λ j. ⊎_elim (λ (m : j < n). rw (e j m) (s.size (j + by))) (λ (m : n ≤ j). rw (f j m) (s.size j)) (below_or j n) }
 
+pub zeros_small : (n : ℕ) {B : ℕ} → Small B (replicate n (pos 0))
+zeros_small n {B} =
+    record {
+      size = λ i. ⊎_elim (λ (l : i < n). rw (get_or-replicate n i (pos 0) (pos 0) l) (omega arith)) (λ (l : n ≤ i). rw (past (replicate n (pos 0)) i (omega (arith, length-replicate n (pos 0)))) (omega arith)) (below_or i n);
+    }
+
 pub wider : {A B : ℕ} {l : List ℤ} → Small A l → A ≤ B → Small B l
 wider s e = record { size = λ j. omega (arith, s.size j) }
 
 pub small_fit : (h : List ℤ) {x : List ℤ} (n : ℕ) → absolute_sum h ≤ 40100000 → Small (2 ^ 27) x → Fit (same_rate h x) n
 unfolding same_rate
 small_fit h {x} n a s = record { fits = λ i m. omega (arith, fir_size h (at0 x) (i + M h) (2 ^ 27) s.size, mul-le-mul_right (2 ^ 27) a) }
+
+-- over the front of an array
+pub front_fit : {h x : List ℤ} (e n : ℕ) → LowPass h → Small (2 ^ 27) x → Fit (same_rate h (take e x)) n
+front_fit {h} e n f s = small_fit h n (omega (arith, f.small)) (small_front e s)
 
 -- what `fir1` gives
 pub fir1_small : (h : List ℤ) {x old new : List ℤ} → absolute_sum h ≤ 40100000 → Small (2 ^ 27) x → Filled (λ i. R (same_rate h x i) 24) old new → Small (2 ^ 29) new
@@ -71,26 +81,10 @@ fir1_small h {x} {old} {new} a s filled =
           (below_or j (length old));
     }
 
+pub front_small : {h x old new : List ℤ} (e : ℕ) → LowPass h → Small (2 ^ 27) x → Filled (λ i. R (same_rate h (take e x) i) 24) old new → Small (2 ^ 29) new
+front_small {h} e f s filled = fir1_small h (omega (arith, f.small)) (small_front e s) filled
+
 -- new values after a margin of m, up to place e
-module _ (m e : ℕ) (x new : List ℤ) (low : m ≤ e) (room : e ≤ length x) (long : length new ≡ length (take (e - m) (drop m x))) where
-  pub joined_length : length (put_mid m (e - m) x new) ≡ length x
-  joined_length = same_len_mid m (e - m) x new long
-
-  -- what a filter reads
-  pub joined_front : length (take (e - 0) (put_mid m (e - m) x new)) ≡ e
-  joined_front = length-take-le (e - 0) (put_mid m (e - m) x new) (omega (arith, joined_length)) ∙ omega arith
-
-  pub joined_held : {S : ℕ → ℤ} {a i n : ℕ} → Held (pos 0) S a m x → Held (pos 0) S i n new → i ≡ a + m → e - m ≤ n → Held (pos 0) S a e (put_mid m (e - m) x new)
-  joined_held old more i n = held_some e (omega arith) (put_held m (e - m) x new _ (omega arith) old more i n (omega (arith, long, part_length m e x room)))
-
-  module _ (s : Small (2 ^ 27) x) (r : Small (2 ^ 27) new) where
-    pub joined_small : Small (2 ^ 27) (put_mid m (e - m) x new)
-    joined_small = small_put m (e - m) s r
-
-    -- what `fir1` asks
-    pub fir1_asks : (h y : List ℤ) → 0 < length h → length h ≤ 117 → Filter h → absolute_sum h ≤ 40100000 → length y + 2 * M h ≤ e → e ≤ 456
-        → ((0 < length h) × (length h ≤ 117) × (length y + 2 * (length h - 1) ≤ length (take (e - 0) (put_mid m (e - m) x new))) × (length (take (e - 0) (put_mid m (e - m) x new)) ≤ 456))
-        × (Filter h × (Small (2 ^ 29) (take (e - 0) (put_mid m (e - m) x new)) × Fit (same_rate h (take (e - 0) (put_mid m (e - m) x new))) (length y)))
-    fir1_asks h y some few keeps small l fits =
-        let front = small_front (e - 0) joined_small in
-        ((some, few, omega (arith, joined_front), omega (arith, joined_front)), (keeps, (wider front (lit≤ tt), small_fit h (length y) small front)))
+pub joined_held : {S : ℕ → ℤ} {a i n : ℕ} (m e : ℕ) (x new : List ℤ) → m ≤ e → e ≤ length x → length new ≡ length (take (e - m) (drop m x))
+    → Held (pos 0) S a m x → Held (pos 0) S i n new → i ≡ a + m → e - m ≤ n → Held (pos 0) S a e (put_mid m (e - m) x new)
+joined_held m e x new low room long old more i n = held_some e (omega arith) (put_held m (e - m) x new _ (omega arith) old more i n (omega (arith, long, part_length m e x room)))

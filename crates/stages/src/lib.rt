@@ -11,8 +11,12 @@ ghost use Rattle.tables.specs.Tables.{ByteTables};
 ghost use Rattle.filters.specs.Filters.{same_rate, Small, Filled};
 ghost use Rattle.routes.specs.Routes.{HalvedFilter, halves_of};
 
-// v(i), v(i + 1), .., from the bytes around them, those from position 2i - 19 on: u(2i), u(2i + 2), .. go to the same places first, u(2i - 15),
-// u(2i - 13), .. to `odd`.
+mod buffers;
+
+pub use buffers::Buffers;
+
+// v(i), v(i + 1), .., from the bytes around them, those from position 2i - 19 on: u(2i), u(2i + 2), .. go to the same
+// places first, u(2i - 15), u(2i - 13), .. to `odd`.
 pub fn half_band(tables: &[i32], bytes: &[u8], odd: &mut [i64], out: &mut [i64])
     requires byte_tables { ByteTables S1 8 tables.now }
     requires out_len_bound { (length out.old ≤ 232) × (length odd.old ≡ length out.old + 15) × (length bytes.now ≡ 2 * length out.old + 36) }
@@ -44,7 +48,8 @@ pub fn weave(even: &[i64], odd: &[i64], out: &mut [i64])
     }
 }
 
-// Half the rate, with a filter whose even taps come first in h, then the odd ones: place i of y is around place 2i + M of x.
+// Half the rate, with a filter whose even taps come first in h, then the odd ones: place i of y is around place 2i + M
+// of x.
 pub fn halved(h: &[i64], x: &[i64], y: &mut [i64])
     requires halved_filter { HalvedFilter h.now }
     requires h_in_bounds { (2 * (length y.old + length h.now) ≤ length x.now + 3) × (length x.now ≤ 400) }

@@ -1,4 +1,5 @@
-// Entry b of table j, at 256 j + b: the sum over p = 0..7 of tap(8(j - B/2) + p), plus if bit 7 - p of b is 1, else minus.
+// Entry b of table j, at 256 j + b: the sum over p = 0..7 of tap(8(j - B/2) + p), plus if bit 7 - p of b is 1, else
+// minus. Constants, and not made at a start: nothing here has a state, and a call that made them would take longer.
 
 pub const S1_TABLES: [i32; 2048] = [
     -92690, -8988, -41100, 42602, -64168, 19534, -12578, 71124, -78840, 4862, -27250, 56452,

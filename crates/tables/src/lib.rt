@@ -1,5 +1,6 @@
-// Tap tables of tables.rs (F40 is `reference::Filter::built_in`), and the byte tables that `lut` makes of its first two. A `const` array that is indexed is made anew at each
-// use: a caller binds a table once, by these functions, and lends it.
+// Tap tables of tables.rs (F40 is `reference::Filter::built_in`), and the byte tables that `lut` makes of its first
+// two. A `const` array that is indexed is made anew at each use: a caller binds a table once, by these functions, and
+// lends it.
 #![tactic(auto)]
 
 ghost use Rattle.std.specs.Prelude.{◌≡◌};
@@ -10,6 +11,7 @@ mod bytes;
 mod taps;
 
 // Low-pass of Low.
+#[tactic(auto, unfolding(reference::specs::Taps::F30))]
 pub fn f30() -> [i32; 81]
     ensures { result ≡ F30 }
 {
@@ -17,6 +19,7 @@ pub fn f30() -> [i32; 81]
 }
 
 // Low-pass of Wide at 176,400.
+#[tactic(auto, unfolding(reference::specs::Taps::F80))]
 pub fn f80() -> [i32; 117]
     ensures { result ≡ F80 }
 {

@@ -11,7 +11,8 @@ pub const F30: [i32; 81] = [
     -921, -71, 421, 392, 159,
 ];
 
-// Wide filter at 352.8 kHz for 176.4 kHz output: passband 80 kHz, stopband from 88.2 kHz. Length 233, taps scaled by 2^24.
+// Wide filter at 352.8 kHz for 176.4 kHz output: passband 80 kHz, stopband from 88.2 kHz. Length 233, taps scaled by
+// 2^24.
 pub const F80: [i32; 117] = [
     7943420, 5321383, 444497, -1720403, -436850, 969397, 424316, -627240, -407208, 423287, 385945,
     -284138, -361043, 181839, 333097, -103510, -302759, 42406, 270721, 5376, -237690, -42310,

@@ -1,6 +1,6 @@
 // Records made by hand: a change of each, and each conversion with it. A refused call writes nothing.
 use crate::records::{filter, gain, keeps, numbers};
-use reference::{Converter, Filter};
+use reference::{Converter, Filter, Length};
 use std::alloc::Global;
 use std::io;
 use std::rt::Files;
@@ -37,12 +37,12 @@ fn change_right(row: &Row) -> bool {
         && keeps(conv, row[1], filter_of(row))
 }
 
-// The row's refusal, with nothing counted and the lists kept; or accepted, and they are written. `kind` is that of a wrong length.
-fn answered(done: Converted, row: &Row, kind: u64, kept: bool) -> bool {
+// The row's refusal, with nothing counted and the lists kept; or accepted, and they are written. `length` is what a wrong input's is not.
+fn answered(done: Converted, row: &Row, length: Length, kept: bool) -> bool {
     let told = test_support::answered(done);
     match row[24] {
         0 => told == Told::ACCEPTED && !kept,
-        4 => told == refusal(4, row[25], kind) && kept,
+        4 => told == refusal(4, row[25], length.number()) && kept,
         _ => {
             told == refusal(row[24], row[25], row[26]) && kept && test_support::clips_are(done, 0)
         }
@@ -54,14 +54,14 @@ fn samples_right<F: Fn(Converter, &[u8], &mut [i32]) -> Converted>(
     alloc: Global,
     row: &Row,
     noise: &[u8],
-    kind: u64,
+    length: Length,
     call: F,
 ) -> io::Result<bool>
     requires { F.IsAlwaysCallable call }
 {
     let mut out = vec![in alloc; 7i32; row[23] as usize]?;
     let done = call(record(row), up_to(noise, row[22]), &mut out);
-    Ok(answered(done, row, kind, out.iter().all(|x| *x == 7)))
+    Ok(answered(done, row, length, out.iter().all(|x| *x == 7)))
 }
 
 // A call for bytes, with a header of so many in front.
@@ -79,39 +79,53 @@ fn bytes_right<F: Fn(Converter, &[u8], &mut [u8], &mut [u64]) -> Converted>(
     let mut counts = [7u64; 1];
     let done = call(record(row), up_to(noise, row[22]), &mut out, &mut counts);
     let kept = out.iter().all(|b| *b == 7) && counts == [7];
-    Ok(answered(done, row, 0, kept))
+    Ok(answered(done, row, Length::WholeFrames, kept))
 }
 
 fn tell<R: Print + AllocGlobal>(rt: &R, rows: &[Row], noise: &[u8]) -> io::Result<()> {
     let alloc = rt.alloc();
     test_support::print_right(rt, "records changed", rows, |row| Ok(change_right(row)))?;
     test_support::print_right(rt, "records in convert_run", rows, |row| {
-        samples_right(alloc, row, noise, 0, |conv, frame, out| {
+        samples_right(alloc, row, noise, Length::WholeFrames, |conv, frame, out| {
             scarletbook_pcm::convert_run_parts(conv, false, frame, frame, false, frame, out)
         })
     })?;
     test_support::print_right(rt, "records in convert_frame", rows, |row| {
-        samples_right(alloc, row, noise, 1, |conv, frame, out| {
+        samples_right(alloc, row, noise, Length::OneFrame, |conv, frame, out| {
             scarletbook_pcm::convert_frame_parts(conv, false, frame, frame, false, frame, out)
         })
     })?;
     test_support::print_right(rt, "records in convert", rows, |row| {
         bytes_right(alloc, row, noise, 0, |conv, frame, out, counts| {
             scarletbook_pcm::convert_parts(
-                conv, false, frame, frame, false, frame, true, out, counts,
+                conv,
+                false,
+                frame,
+                frame,
+                false,
+                frame,
+                out,
+                Some(counts),
             )
         })
     })?;
     test_support::print_right(rt, "records in convert_desk", rows, |row| {
         bytes_right(alloc, row, noise, 0, |conv, frame, out, counts| {
             scarletbook_pcm::convert_desk_parts(
-                conv, false, frame, frame, false, frame, true, out, counts,
+                conv,
+                false,
+                frame,
+                frame,
+                false,
+                frame,
+                out,
+                Some(counts),
             )
         })
     })?;
     test_support::print_right(rt, "records in files", rows, |row| {
         bytes_right(alloc, row, noise, 44, |conv, frame, out, counts| {
-            wav::convert_parts(conv, false, frame, frame, false, frame, true, out, counts)
+            wav::convert_parts(conv, false, frame, frame, false, frame, out, Some(counts))
         })
     })
 }

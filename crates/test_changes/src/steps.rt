@@ -96,7 +96,7 @@ fn as_fresh(alloc: Global, conv: Converter, row: &Row, noise: &[u8]) -> Result<b
     if test_support::answered(a) != told(row) || test_support::answered(b) != told(row) {
         return Ok(false);
     }
-    Ok(row[8] != 0 || same_clips(a, b) && x.as_slice() == y.as_slice())
+    Ok(!told(row).is_accepted() || same_clips(a, b) && x.as_slice() == y.as_slice())
 }
 
 pub fn all<R: Files + Print + AllocGlobal>(rt: &R) -> io::Result<()> {

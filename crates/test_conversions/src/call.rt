@@ -1,6 +1,24 @@
-// Records from numbers.
+// Records from numbers, and what calls are given and leave.
 use reference::{Converter, Gain, Settings};
-use test_support::{Told, cutoff, float, rate};
+use test_support::{Converted, Told, cutoff, float, rate};
+
+// The lengths of a call: before, frames, after, output and counts.
+#[derive(Clone, Copy)]
+pub struct Lengths {
+    pub before: u64,
+    pub frames: u64,
+    pub after: u64,
+    pub out: usize,
+    pub counts: usize,
+}
+
+// What a call for bytes answers, and what it leaves of its output and counts.
+#[derive(Drop)]
+pub struct Outcome {
+    pub done: Converted,
+    pub out: Vec<u8>,
+    pub counts: Vec<u64>,
+}
 
 // The record that the gain call makes of decibels, or of 0 dB where it refuses.
 pub fn made(db: u64) -> Gain {

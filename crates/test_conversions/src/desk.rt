@@ -1,35 +1,23 @@
 // The listening desk's entry: up to 8 frames what `convert` gives, and its refusals in their order. Standard at 88,200 Hz, mono, 6 dB.
+use crate::call::{Lengths, Outcome};
 use crate::input::Pattern;
 use crate::{call, input};
 use reference::{Converter, Limit, Run};
 use std::alloc::{AllocError, Global};
 use std::io;
-use test_support::{Converted, refusal};
+use test_support::refusal;
 
 fn standard() -> Converter {
     call::standard(0x4018_0000_0000_0000)
 }
 
-// The lengths of a call: before, run, after, output and counts.
-#[derive(Clone, Copy)]
-struct Lengths {
-    before: u64,
-    frames: u64,
-    after: u64,
-    out: usize,
-    counts: usize,
-}
-
-// What a call answers, and what it leaves of an output and counts that held 7's.
-#[derive(Drop)]
-struct Made {
-    done: Converted,
-    out: Vec<u8>,
-    counts: Vec<u64>,
-}
-
-// A call with both neighbours and the counts lent, cut out of these bytes.
-fn called(alloc: Global, limit: Limit, lengths: Lengths, bytes: &[u8]) -> Result<Made, AllocError> {
+// A call with both neighbours and the counts lent, cut out of these bytes; output and counts held 7's.
+fn called(
+    alloc: Global,
+    limit: Limit,
+    lengths: Lengths,
+    bytes: &[u8],
+) -> Result<Outcome, AllocError> {
     let before = test_support::up_to(bytes, lengths.before);
     let frames = test_support::up_to(bytes, lengths.frames);
     let after = test_support::up_to(bytes, lengths.after);
@@ -43,10 +31,10 @@ fn called(alloc: Global, limit: Limit, lengths: Lengths, bytes: &[u8]) -> Result
         after,
     };
     let done = match limit {
-        Limit::Desk => scarletbook_pcm::convert_desk(standard(), run, true, &mut out, &mut counts),
-        Limit::Rack => scarletbook_pcm::convert(standard(), run, true, &mut out, &mut counts),
+        Limit::Desk => scarletbook_pcm::convert_desk(standard(), run, &mut out, Some(&mut counts)),
+        Limit::Rack => scarletbook_pcm::convert(standard(), run, &mut out, Some(&mut counts)),
     };
-    Ok(Made { done, out, counts })
+    Ok(Outcome { done, out, counts })
 }
 
 // Whether it is refused so, and writes and counts nothing: lengths, number and data.

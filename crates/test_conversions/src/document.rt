@@ -78,9 +78,8 @@ fn no_frames() -> u64 {
         &[],
         true,
         &frame,
-        true,
         &mut [],
-        &mut [],
+        Some(&mut []),
     );
     u64::from(clipped(run, 0)) + u64::from(clipped(packed, 0))
 }

@@ -48,7 +48,8 @@ fn told(row: &Row) -> Told {
 
 // Whether a row is refused for its settings: opening looks at these alone.
 fn by_settings(row: &Row) -> bool {
-    row[7] != 0 && row[7] != 4
+    let told = told(row);
+    !told.is_accepted() && told.number != 4
 }
 
 fn opened_right(answer: Told, row: &Row) -> bool {
@@ -62,11 +63,7 @@ fn opened_right(answer: Told, row: &Row) -> bool {
 
 // The clips of the first two channels, how far over they are, lowest and highest, and their marks.
 fn counted(done: Converted, row: &Row) -> bool {
-    let stats = test_support::to_numbers(test_support::stats(done));
-    let clipped = &stats[0];
-    let lowest = &stats[1];
-    let highest = &stats[2];
-    let empty = &stats[3];
+    let [clipped, lowest, highest, empty] = test_support::to_numbers(test_support::stats(done));
     [clipped[0], clipped[1]] == [row[13], row[14]]
         && [lowest[0], highest[0], lowest[1], highest[1]] == [row[75], row[76], row[77], row[78]]
         && [empty[0], empty[1]] == [row[79] % 2, row[79] / 2]
@@ -74,7 +71,7 @@ fn counted(done: Converted, row: &Row) -> bool {
 
 // The row's samples, clips, extremes and reach; a refused call counts nothing and keeps the output.
 fn converted_right(done: Converted, conv: Converter, row: &Row, out: &[i32]) -> bool {
-    if row[7] != 0 {
+    if !told(row).is_accepted() {
         return counted(done, row) && out.iter().all(|x| *x == 0);
     }
     counted(done, row)
@@ -102,9 +99,8 @@ fn others_refuse(conv: Converter, row: &Row, frames: &[u8]) -> bool {
         frames,
         false,
         frames,
-        true,
         &mut out,
-        &mut counts,
+        Some(&mut counts),
     );
     let desk = scarletbook_pcm::convert_desk_parts(
         conv,
@@ -113,9 +109,8 @@ fn others_refuse(conv: Converter, row: &Row, frames: &[u8]) -> bool {
         frames,
         false,
         frames,
-        true,
         &mut out,
-        &mut counts,
+        Some(&mut counts),
     );
     let file = wav::convert_parts(
         conv,
@@ -124,9 +119,8 @@ fn others_refuse(conv: Converter, row: &Row, frames: &[u8]) -> bool {
         frames,
         false,
         frames,
-        true,
         &mut out,
-        &mut counts,
+        Some(&mut counts),
     );
     [one, bytes, desk, file]
         .iter()

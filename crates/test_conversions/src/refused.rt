@@ -1,7 +1,8 @@
 // Document 01's table: each place's number and data as the original gives them (data/), and nothing written. Number 5 is left to its proof: it
 // wants 2.5 GB of frames.
 use crate::call;
-use reference::{Converter, Gain, Settings};
+use crate::call::Lengths;
+use reference::{Converter, Gain, Length, Settings};
 use std::alloc::{AllocError, Global};
 use std::io;
 use std::rt::Files;
@@ -31,15 +32,6 @@ enum Conversion {
     Bytes,
 }
 
-#[derive(Clone, Copy)]
-struct Lengths {
-    before: u64,
-    frames: u64,
-    after: u64,
-    out: u64,
-    counts: u64,
-}
-
 // The settings of a row.
 fn settings(row: &Row) -> Settings {
     let gain = Gain {
@@ -52,7 +44,7 @@ fn settings(row: &Row) -> Settings {
 // A refusal as the original has it: a wrong neighbour, 13 or 14, is its `InputLength`, one frame.
 fn as_original(told: Told) -> Told {
     match told.number {
-        13 | 14 => refusal(4, told.first, 1),
+        13 | 14 => refusal(4, told.first, Length::OneFrame.number()),
         _ => told,
     }
 }
@@ -82,9 +74,9 @@ fn converted(
     let before = up_to(&bytes, lengths.before);
     let frames = up_to(&bytes, lengths.frames);
     let after = up_to(&bytes, lengths.after);
-    let mut out = vec![in alloc; 7i32; lengths.out as usize]?;
-    let mut raw = vec![in alloc; 7u8; lengths.out as usize]?;
-    let mut counts = vec![in alloc; 7u64; lengths.counts as usize]?;
+    let mut out = vec![in alloc; 7i32; lengths.out]?;
+    let mut raw = vec![in alloc; 7u8; lengths.out]?;
+    let mut counts = vec![in alloc; 7u64; lengths.counts]?;
     let done = match conversion {
         Conversion::Run => scarletbook_pcm::convert_run_parts(
             conv, true, before, frames, true, after, &mut out,
@@ -99,9 +91,8 @@ fn converted(
             frames,
             true,
             after,
-            true,
             &mut raw,
-            &mut counts,
+            Some(&mut counts),
         ),
     };
     Ok(Made {
@@ -159,8 +150,8 @@ fn lengths_refused(alloc: Global, row: &Row) -> io::Result<bool> {
         before: row[1],
         frames: row[2],
         after: row[3],
-        out: row[4],
-        counts: row[5],
+        out: row[4] as usize,
+        counts: row[5] as usize,
     };
     refused(alloc, conversion, call::standard(0), lengths, row)
 }

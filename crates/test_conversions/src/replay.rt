@@ -1,4 +1,5 @@
 // Each line of data/conversions, converted by every call over the run record.
+use crate::call::Outcome;
 use crate::input::{Digest, Pattern, of_bytes, of_samples};
 use crate::{call, input};
 use reference::{Converter, Run};
@@ -79,7 +80,8 @@ impl Line {
     }
 }
 
-// What every call of a line is given.
+// What every call of a line is given. A neighbour that is not there has bytes all the same, which no call may read: an
+// `Option` would hand it none.
 #[derive(Drop)]
 struct Input {
     converter: Converter,
@@ -110,14 +112,16 @@ fn frame_samples(i: &Input, out: &mut [i32]) -> Converted {
     scarletbook_pcm::convert_frame(i.converter, i.run(), out)
 }
 
+// A flag beside the counts: a function that is called through an `Fn` bound can take no `Option` of a `&mut`.
 fn run_bytes(i: &Input, lent: bool, out: &mut [u8], counts: &mut [u64]) -> Converted {
-    scarletbook_pcm::convert(i.converter, i.run(), lent, out, counts)
+    scarletbook_pcm::convert(i.converter, i.run(), out, lent.then_some(counts))
 }
 
-// By the listening desk's entry: of plain parameters with the counts lent, else over the run record.
+// By the listening desk's entry: of plain parameters with the counts lent, else over the run record. One function of
+// this and the next would be handed two calls each, one of eight parameters, and be no shorter.
 fn desk_bytes(i: &Input, lent: bool, out: &mut [u8], counts: &mut [u64]) -> Converted {
     if !lent {
-        return scarletbook_pcm::convert_desk(i.converter, i.run(), false, out, counts);
+        return scarletbook_pcm::convert_desk(i.converter, i.run(), out, None);
     }
     scarletbook_pcm::convert_desk_parts(
         i.converter,
@@ -126,16 +130,15 @@ fn desk_bytes(i: &Input, lent: bool, out: &mut [u8], counts: &mut [u64]) -> Conv
         &i.frames,
         i.has_after,
         &i.after,
-        true,
         out,
-        counts,
+        Some(counts),
     )
 }
 
 // A file: with the counts lent by the plain call, else over the run record.
 fn file_bytes(i: &Input, lent: bool, out: &mut [u8], counts: &mut [u64]) -> Converted {
     if !lent {
-        return wav::convert(i.converter, i.run(), false, out, counts);
+        return wav::convert(i.converter, i.run(), out, None);
     }
     wav::convert_parts(
         i.converter,
@@ -144,9 +147,8 @@ fn file_bytes(i: &Input, lent: bool, out: &mut [u8], counts: &mut [u64]) -> Conv
         &i.frames,
         i.has_after,
         &i.after,
-        true,
         out,
-        counts,
+        Some(counts),
     )
 }
 
@@ -164,22 +166,14 @@ fn samples_right<F: Fn(&Input, &mut [i32]) -> Converted>(
     Ok(line.counted(done) && of_samples(&out) == line.samples)
 }
 
-// What a call for bytes answers, and what it leaves of an output of 0's and counts of 7's.
-#[derive(Drop)]
-struct Made {
-    done: Converted,
-    out: Vec<u8>,
-    counts: Vec<u64>,
-}
-
-// A call for bytes, with so many of a header in front.
+// A call for bytes, with so many of a header in front; the output held 0's, the counts 7's.
 fn converted<F: Fn(&Input, bool, &mut [u8], &mut [u64]) -> Converted>(
     alloc: Global,
     line: &Line,
     header: usize,
     lent: bool,
     call: F,
-) -> Result<Made, AllocError>
+) -> Result<Outcome, AllocError>
     requires { F.IsAlwaysCallable call }
 {
     let input = line.input(alloc)?;
@@ -187,7 +181,7 @@ fn converted<F: Fn(&Input, bool, &mut [u8], &mut [u64]) -> Converted>(
     let mut out = vec![in alloc; 0u8; room]?;
     let mut counts = vec![in alloc; 7u64; line.frames as usize]?;
     let done = call(&input, lent, &mut out, &mut counts);
-    Ok(Made { done, out, counts })
+    Ok(Outcome { done, out, counts })
 }
 
 fn bytes_right<F: Fn(&Input, bool, &mut [u8], &mut [u64]) -> Converted>(

@@ -39,9 +39,8 @@ impl Album {
             &bytes,
             false,
             &none,
-            true,
             &mut packed,
-            &mut counts,
+            Some(&mut counts),
         );
         Ok(Album {
             bytes,

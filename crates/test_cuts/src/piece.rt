@@ -7,7 +7,8 @@ use crate::score::Round;
 use crate::{call, input};
 use test_support::{Converted, up_to, up_to_mut};
 
-// A piece starts at a frame of the album and has so many frames.
+// A piece starts at a frame of the album and has so many frames. A neighbour that is not there has its buffer all the
+// same, with bytes that no call may read, so there is a flag beside the buffer, as the calls take it.
 #[derive(Clone, Copy)]
 pub struct Piece {
     pub from: usize,
@@ -61,7 +62,7 @@ impl Piece {
     fn call(self, lent: bool, buffers: &mut Buffers) -> Converted {
         let frames = up_to(&buffers.frames, (self.frames * FRAME) as u64);
         let out = up_to_mut(&mut buffers.bytes, (self.frames * PACKED) as u64);
-        let counts = up_to_mut(&mut buffers.counts, self.frames as u64);
+        let counts = lent.then_some(up_to_mut(&mut buffers.counts, self.frames as u64));
         let before = &buffers.before;
         let after = &buffers.after;
         if self.from == 1 {
@@ -72,7 +73,6 @@ impl Piece {
                 frames,
                 self.has_after,
                 after,
-                lent,
                 out,
                 counts,
             );
@@ -84,7 +84,6 @@ impl Piece {
             frames,
             self.has_after,
             after,
-            lent,
             out,
             counts,
         )

@@ -28,9 +28,8 @@ fn bytes(before: u64, room: u64, told: Told, buffers: &mut Buffers) -> bool {
         up_to(&buffers.frames, 9408),
         true,
         &buffers.after,
-        false,
         up_to_mut(&mut buffers.bytes, room),
-        &mut [0u64; 1],
+        None,
     );
     call::refused(done, told) && buffers.bytes.iter().all(|x| *x == BYTE)
 }

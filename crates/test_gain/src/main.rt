@@ -38,14 +38,11 @@ fn is_record(&[db, factor]: &Pair) -> bool {
     gain::right_gain(Gain { db, linear })
 }
 
-// What `lifted` has made positive; 0 stands for no number.
+// What `lifted` has made positive, above -2^31.
 fn lowered(n: u64) -> i64
     ensures { nat_abs result < 2147483648 }
 {
-    let low = n % 0x1_0000_0000;
-    if low == 0 {
-        return 0;
-    }
+    let low = (n % 0x1_0000_0000).max(1);
     low as i64 - 0x8000_0000
 }
 

@@ -2,7 +2,12 @@
 use crate::rows::of_row;
 use std::rt::Files;
 use std::{fs, io};
-use test_support::{refusal, to_stats, up_to_mut};
+use test_support::{Told, refusal, to_stats, up_to_mut};
+
+// What a row's call answers.
+fn told(row: &[u64; 29]) -> Told {
+    refusal(row[26], row[27], row[28])
+}
 
 // Whether a row's statistics are printed so, and nothing is written past the sheet, or refused as the row says. A row has the channels, the
 // output's length, the statistics, and the answer.
@@ -13,10 +18,9 @@ fn right(row: &[u64; 29], sheet: &[u8]) -> bool {
     let mut out = [7u8; 400];
     let channels = (row[0] % 256) as u8;
     let answer = sheet::level_sheet(channels, to_stats(numbers), up_to_mut(&mut out, row[1]));
-    let told = test_support::answered(answer);
     match out.strip_prefix(sheet) {
         Some(behind) => {
-            behind.iter().all(|b| *b == 7) && told == refusal(row[26], row[27], row[28])
+            behind.iter().all(|b| *b == 7) && test_support::answered(answer) == told(row)
         }
         None => false,
     }
@@ -27,7 +31,11 @@ fn count(rows: &[[u64; 29]], sheets: &[u8]) -> u64 {
     let mut equal = 0u64;
     let mut left = sheets;
     for row in rows {
-        let long = if row[26] == 0 { row[1] as usize } else { 0 };
+        let long = if told(row).is_accepted() {
+            row[1] as usize
+        } else {
+            0
+        };
         let (sheet, others) = left.split_at(left.len().min(long));
         equal = equal.saturating_add(u64::from(right(row, sheet)));
         left = others;

@@ -9,6 +9,8 @@ use std::alloc::{AllocError, Global};
 use std::rt::Files;
 use std::{fs, io};
 
+// What a hexadecimal digit stands for, by hand: `to_digit` takes capital letters too, which the stored files do not
+// have.
 #[tactic(auto, using(std::proofs::lemmas::Bool::Decides::nat_tests), unfolding(crate::specs::Answers::digit))]
 fn digit(b: u8) -> u64
     ensures { (result ≡ answers.digit b) × (result < 16) }
@@ -62,11 +64,11 @@ fn begins(headers: &[u64], start: usize, file: &[u8]) -> bool
     requires { start ≤ 1012 }
     ensures { result ≡ begins_as file.now headers.now start 44 }
 {
-    let mut yes = true;
-    for k in 0..44 {
-        yes &= at(file, k, 0) as u64 == at(headers, start + k, 0);
-    }
-    yes
+    (0..44usize).all(
+        |k|
+            requires { (k < 44) × (start ≤ 1012) }
+        { at(file, k, 0) as u64 == at(headers, start + k, 0) },
+    )
 }
 
 // Whether a file begins with the header that Python writes, one of 24.

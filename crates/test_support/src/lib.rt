@@ -1,4 +1,5 @@
-// What the programs that compare share: floats by their bits, refusals as numbers, parts of lists, stored answers, lines.
+// What the programs that compare share: floats by their bits, refusals as numbers, parts of lists, stored answers,
+// lines.
 #![tactic(auto)]
 
 ghost use Rattle.std.specs.Prelude.{◌≡◌, IfOk, [], ◌∷◌, cond, ◌&&◌, ◌+◌, ◌*◌, ◌%◌, ◌≤◌, eqb, ltb, pos, ◌+ℤ◌, length, take, get_or};
@@ -9,6 +10,7 @@ ghost use Rattle.test_support.specs.Answers.{told, stats_of, clips_of};
 
 use reference::{ChannelStats, ConvertStats, Cutoff, Extremes, PcmError, PcmRate};
 use std::io;
+use std::num::{f64_from_bits_with_nan, f64_to_bits_with_nan};
 
 mod answers;
 
@@ -18,22 +20,17 @@ pub use answers::{begins_as_python, numbers};
 pub fn float(n: u64) -> f64
     ensures { result ≡ of_bits binary64 n }
 {
-    if n % 0x8000_0000_0000_0000 > 0x7ff0_0000_0000_0000 {
-        return 0.0 / 0.0;
-    }
-    f64::from_bits(n)
+    f64_from_bits_with_nan(n)
 }
 
 pub fn bits(x: f64) -> u64
     ensures { result ≡ to_bits binary64 x }
 {
-    if x != x {
-        return 0x7ff8_0000_0000_0000;
-    }
-    f64::to_bits(x)
+    f64_to_bits_with_nan(x)
 }
 
-// A refusal's number and data as the stored rows have them: number 0, with zeros behind it, is no refusal.
+// A refusal's number and data as the stored rows have them: number 0, with zeros behind it, is no refusal. An `Option`
+// would say so too, but each row has the three numbers, and what a call answers is only compared with them.
 #[derive(Clone, Copy, PartialEq, Eq, Debug)]
 pub struct Told {
     pub number: u64,
@@ -155,12 +152,14 @@ pub fn up_to_mut<T>(s: &mut [T], n: u64) -> &mut [T] {
     &mut s[..end]
 }
 
-// Six clip counts, six lowest, six highest and six marks of channels without samples, as the stored rows have them: numbers with a sign by their
-// bits.
+// Six clip counts, six lowest, six highest and six marks of channels without samples, as the stored rows have them:
+// numbers with a sign by their bits. The C interface's lists are of other types, `i64` and `u8`: to read and write them
+// here would take both conversions.
 pub type StatsNumbers = [[u64; 6]; 4];
 
 pub fn to_stats([clipped, lowest, highest, empty]: StatsNumbers) -> ConvertStats {
     let mut channels = [ChannelStats::none(); 6];
+    // By an index, which goes over the four lists at once.
     for c in 0..6 {
         let extremes = Extremes {
             lowest: lowest[c].cast_signed(),
@@ -175,20 +174,13 @@ pub fn to_stats([clipped, lowest, highest, empty]: StatsNumbers) -> ConvertStats
 }
 
 pub fn to_numbers(stats: ConvertStats) -> StatsNumbers {
-    let mut clipped = [0u64; 6];
-    let mut lowest = [0u64; 6];
-    let mut highest = [0u64; 6];
-    let mut empty = [1u64; 6];
-    for c in 0..6 {
-        let channel = stats.channels[c];
-        clipped[c] = channel.clipped;
-        if let Some(extremes) = channel.extremes {
-            lowest[c] = extremes.lowest.cast_unsigned();
-            highest[c] = extremes.highest.cast_unsigned();
-            empty[c] = 0;
-        }
-    }
-    [clipped, lowest, highest, empty]
+    let channels = stats.channels;
+    [
+        channels.map(|c| c.clipped),
+        channels.map(|c| c.extremes.map_or(0, |e| e.lowest.cast_unsigned())),
+        channels.map(|c| c.extremes.map_or(0, |e| e.highest.cast_unsigned())),
+        channels.map(|c| u64::from(c.extremes.is_none())),
+    ]
 }
 
 // The next number of a sequence below 2^32.
@@ -219,7 +211,22 @@ fn passed<T, F: Fn(&T) -> io::Result<bool>>(cases: &[T], test: F) -> io::Result<
     Ok(n)
 }
 
-// How many cases there are, and how many are right or equal.
+// How many cases there are, and how many of them pass, which the line calls by a word.
+fn print_passed<T, F: Fn(&T) -> io::Result<bool>>(
+    rt: &impl Print,
+    name: &str,
+    cases: &[T],
+    word: &str,
+    test: F,
+) -> io::Result<()>
+    requires { F.IsAlwaysCallable test }
+{
+    let all = cases.len();
+    let n = passed(cases, test)?;
+    println!(rt; "{name} {all} {word} {n}")
+}
+
+// How many are right.
 pub fn print_right<T, F: Fn(&T) -> io::Result<bool>>(
     rt: &impl Print,
     name: &str,
@@ -228,11 +235,10 @@ pub fn print_right<T, F: Fn(&T) -> io::Result<bool>>(
 ) -> io::Result<()>
     requires { F.IsAlwaysCallable test }
 {
-    let all = cases.len();
-    let right = passed(cases, test)?;
-    println!(rt; "{name} {all} right {right}")
+    print_passed(rt, name, cases, "right", test)
 }
 
+// How many are equal.
 pub fn print_equal<T, F: Fn(&T) -> io::Result<bool>>(
     rt: &impl Print,
     name: &str,
@@ -241,9 +247,7 @@ pub fn print_equal<T, F: Fn(&T) -> io::Result<bool>>(
 ) -> io::Result<()>
     requires { F.IsAlwaysCallable test }
 {
-    let all = cases.len();
-    let equal = passed(cases, test)?;
-    println!(rt; "{name} {all} equal {equal}")
+    print_passed(rt, name, cases, "equal", test)
 }
 
 // A rate and a cutoff by their route: three times the cutoff and the rate, both from 0.
@@ -257,11 +261,7 @@ pub fn rate(route: u64) -> PcmRate {
 
 // By its hertz; a number that is none stands for 88,200.
 pub fn rate_of_hertz(hertz: u64) -> PcmRate {
-    match hertz {
-        352800 => PcmRate::Hz352800,
-        176400 => PcmRate::Hz176400,
-        _ => PcmRate::Hz88200,
-    }
+    PcmRate::try_from((hertz % 0x1_0000_0000) as u32).unwrap_or(PcmRate::Hz88200)
 }
 
 pub fn cutoff(route: u64) -> Cutoff {

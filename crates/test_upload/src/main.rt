@@ -25,12 +25,13 @@ fn head(heads: &[u8; HEADS], case: &[u8; 28], file: &mut [u8]) {
     );
 }
 
-// An answer's kind and number.
-fn told(u: Upload) -> (u8, u64) {
-    match u {
-        Upload::Accepted => (0, 0),
-        Upload::Unfinished => (1, 0),
-        Upload::GiveUp(n) => (2, n),
+// A case's answer, by its kind and number.
+fn told(kind: u8, n: u64) -> Option<Upload> {
+    match (kind, n) {
+        (0, 0) => Some(Upload::Accepted),
+        (1, 0) => Some(Upload::Unfinished),
+        (2, n) => Some(Upload::GiveUp(n)),
+        _ => None,
     }
 }
 
@@ -44,12 +45,16 @@ struct Tallies {
 // A file is given whole if the upload is as long as the case says.
 fn call(case: &[u8; 28], file: &[u8], tallies: &mut Tallies) {
     let [length, n] = numbers::<2>(case, 12);
-    let right = (byte(case, 3), n);
-    let answer = told(dsf_upload::give_up_header(up_to(file, length.min(92)), length));
-    tallies.heads.add(answer == right, answer.0 == 0);
+    let right = told(byte(case, 3), n);
+    let answer = dsf_upload::give_up_header(up_to(file, length.min(92)), length);
+    tallies
+        .heads
+        .add(Some(answer) == right, answer == Upload::Accepted);
     if length <= file.len() as u64 {
-        let answer = told(dsf_upload::give_up(up_to(file, length)));
-        tallies.files.add(answer == right, answer.0 == 0);
+        let answer = dsf_upload::give_up(up_to(file, length));
+        tallies
+            .files
+            .add(Some(answer) == right, answer == Upload::Accepted);
     }
 }
 

@@ -7,6 +7,7 @@ use std::array;
 
 #[derive(Clone, Copy)]
 pub struct Case {
+    // From 0, as the stored headers stand in order.
     pub rate: u64,
     pub channels: u8,
     pub frames: u64,
@@ -21,36 +22,21 @@ pub fn all() -> [Case; 24] {
     })
 }
 
-// The bytes of a number of blocks, of which a case has at most six.
-fn bytes(blocks: u64, block: usize) -> usize
-    requires { block ≤ 14112 }
-    ensures { result ≤ 84672 }
-{
-    match blocks {
-        0 => 0,
-        1 => block,
-        2 => 2 * block,
-        3 => 3 * block,
-        4 => 4 * block,
-        _ => 6 * block,
-    }
-}
-
 impl Case {
     pub fn pcm_rate(&self) -> PcmRate {
         test_support::rate(self.rate)
     }
 
-    // Bytes of a file's data.
+    // Bytes of a file's data: at most six frames of a channel.
     fn size(&self) -> usize
         ensures { result ≤ 84672 }
     {
-        let block = match self.rate {
-            0 => 3528,
-            1 => 7056,
-            _ => 14112,
-        };
-        bytes(self.frames % 4 * (self.channels as u64), block)
+        let n = (self.frames % 4 * (self.channels as u64)).min(6) as usize;
+        match self.rate {
+            0 => n * 3528,
+            1 => n * 7056,
+            _ => n * 14112,
+        }
     }
 
     // The bytes of its samples: those that the seed 1 stands for.

@@ -32,13 +32,6 @@ pub record Going (t rest : List ℕ) (a : ℕ) (F D : List ℕ) : Type 0 where
   pub takes : (albums : List Album) → t ≡ album_lines albums → More rest a F D albums
   pub takes_only : (more : List Album) → rest ≡ album_lines more → SomeAlbums t
 
-pub starts : (t F D : List ℕ) → Going t t 0 F D
-starts t F D =
-    record {
-      takes = λ albums e. record { more = albums; is = e; count = omega arith; frames = refl; dues = refl };
-      takes_only = λ more e. record { albums = more; is = e };
-    }
-
 no_lines : [] ≡ album_lines []
 unfolding album_lines
 no_lines = refl

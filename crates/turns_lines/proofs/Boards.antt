@@ -1,6 +1,6 @@
 -- What is printed for a board, by what the simulation answers.
 use mathlib.Core.Path.{◌≡◌, refl, sym, ap, ap₂, ◌∙◌}
-use mathlib.Core.Bool.{Bool, true, false, ◌&&◌}
+use mathlib.Core.Bool.{Bool, true, false, true≢false}
 use mathlib.Core.List.{List}
 use Rattle.std.specs.Prelude.{Result}
 use Prim.Native.Nat.{ℕ, ◌≤◌}
@@ -44,15 +44,15 @@ module _ {frames dues : List ℕ} {turn : ℕ} {finishes : List ℕ} {late : Lis
         same = n ∙ sym m;
       }
 
-  pub turned_down : length dues ≡ length frames → length finishes ≡ length frames → length late ≡ length frames → is_accepted (decision v) ≡ false → board_answer (board frames dues turn) ≡ refused_line 19
+  -- a board of more than 8 albums is in no range, whatever the lists' lengths
+  pub turned_down : length dues ≡ length frames → (length frames ≤ 8 → (length finishes ≡ length frames) × (length late ≡ length frames)) → is_accepted (decision v) ≡ false → board_answer (board frames dues turn) ≡ refused_line 19
   unfolding board_answer fitting
-  turned_down d m n e =
+  turned_down d room e =
       let no = was_not frames dues turn (length finishes) (length late) (ap is_accepted (sym p.decided) ∙ e) in
-      rw (out no)
+      rw (out (in_range (board frames dues turn)) refl no)
     where
-      go : (b : Bool) → (true && (b && (true && true))) ≡ false → b ≡ false
-      go true h = h
-      go false h = refl
-
-      out : fitting frames dues turn (length finishes) (length late) ≡ false → in_range (board frames dues turn) ≡ false
-      out h = go (in_range (board frames dues turn)) (rw (eq-eqb (length dues) (length frames) d, eq-eqb (length finishes) (length frames) m, eq-eqb (length late) (length frames) n) at h)
+      out : (b : Bool) → in_range (board frames dues turn) ≡ b → fitting frames dues turn (length finishes) (length late) ≡ false → in_range (board frames dues turn) ≡ false
+      out false is h = is
+      out true is h =
+          let r = room (ranges (board frames dues turn) is).few in
+          absurd (true≢false (rw (eq-eqb (length dues) (length frames) d, eq-eqb (length finishes) (length frames) r.0, eq-eqb (length late) (length frames) r.1, is) at h))

@@ -1,4 +1,5 @@
-// What the program `turns` reads and what it prints.
+// What the program `turns` reads and what it prints. `out` has 1,024 places, which is more than the longest answer; it is a
+// slice with that clause and no array, since the printing of `Text` writes to a slice.
 #![tactic(auto)]
 
 ghost use Rattle.std.specs.Prelude.{◌≡◌, ◌≤◌, length, take};

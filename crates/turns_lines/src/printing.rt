@@ -38,6 +38,7 @@ fn all_lines(finishes: &[u64], late: &[i32], out: &mut [u8]) -> usize
     ensures upper_bound { result ≤ 1024 }
 {
     let mut text = Text { out, at: 0 };
+    // By an index, which is printed and goes over both lists.
     for a in 0..finishes.len() {
         album_line(&mut text, a as u64, finishes[a], late[a]);
     }
@@ -45,16 +46,17 @@ fn all_lines(finishes: &[u64], late: &[i32], out: &mut [u8]) -> usize
     text.at
 }
 
-// The answer for a board.
+// The answer for a board. One of more than 8 albums is refused: so there are places for 8.
 pub fn board(turn: u64, frames: &[u64], dues: &[u64], out: &mut [u8]) -> usize
-    requires { (length frames.now ≤ 256) × (length dues.now ≡ length frames.now) × (length out.old ≡ 1024) }
+    requires { (length dues.now ≡ length frames.now) × (length out.old ≡ 1024) }
     ensures printed { Printed (board_answer (turns.board frames.now dues.now turn)) out.old 0 out.new result }
     ensures upper_bound { result ≤ 1024 }
 {
-    let mut finishes = [0u64; 256];
-    let mut late = [0i32; 256];
-    let finishes = &mut finishes[..frames.len()];
-    let late = &mut late[..frames.len()];
+    let albums = frames.len().min(8);
+    let mut finishes = [0u64; 8];
+    let mut late = [0i32; 8];
+    let finishes = &mut finishes[..albums];
+    let late = &mut late[..albums];
     match schedule::simulate(frames, dues, turn, finishes, late) {
         Ok(()) => all_lines(finishes, late, out),
         Err(_) => level_lines::refused_line(out, 0, 19),

@@ -4,7 +4,8 @@ ghost use Rattle.turns_lines.specs.Steps.{capped, NumberRead, FieldRead, AlbumsR
 
 use byte_lists::split_once;
 
-// A number's first digit.
+// A number's first digit. This, `more` and `number` are not level_settings': those numbers have three digits at most,
+// and a fourth is refused; these have any number of digits, and above a million all are alike.
 fn digit(byte: u8) -> Option<u64>
     ensures { NumberRead (byte ∷ []) result }
 {
@@ -19,7 +20,7 @@ fn digit(byte: u8) -> Option<u64>
 fn cap(n: u64) -> u64
     ensures { result ≡ capped n }
 {
-    if n < 1000001 { n } else { 1000001 }
+    n.min(1000001)
 }
 
 // Whether a digit may come after a number: none comes after 0.
@@ -31,12 +32,11 @@ fn goes_on(n: u64) -> bool
 
 // One digit more.
 fn more(n: u64, byte: u8) -> Option<u64>
-    requires { n ≤ 1000001 }
     ensures { (t : List ℕ) → 0 < length t → NumberRead t (Some n) → NumberRead (t ++ (byte ∷ [])) result }
 {
     let digit = digit(byte)?;
     if goes_on(n) {
-        Some(cap(n * 10 + digit))
+        Some(cap(n.saturating_mul(10).saturating_add(digit)))
     } else {
         None
     }
@@ -63,7 +63,8 @@ pub fn field(text: &[u8], end: u8) -> Option<(u64, &[u8])>
     Some((number(word)?, rest))
 }
 
-// The albums' lines: how many there are, and their numbers.
+// The albums' lines: how many there are, and their numbers. The lists are of fixed length, as nothing here is on the
+// heap. An album is counted where its line is read: a line's end shows only then, so no `for` goes over the lines.
 pub fn albums(text: &[u8], frames: &mut [u64; 256], dues: &mut [u64; 256]) -> Option<usize>
     requires { length text.now ≤ 1024 }
     ensures read { AlbumsRead text.now result frames.new dues.new }

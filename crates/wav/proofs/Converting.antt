@@ -1,8 +1,8 @@
 -- What the converting writer leaves, from its places and from what `convert` leaves behind the header.
 use mathlib.Core.Path.{◌≡◌, refl, sym, ap, ◌∙◌}
-use Rattle.std.specs.Prelude.{Option, Err, unwrap_or}
+use Rattle.std.specs.Prelude.{Err}
 use mathlib.Core.List.{List, [], ◌++◌}
-use mathlib.Core.Bool.{Bool, true, false}
+use mathlib.Core.Bool.{Bool, false}
 use Prim.Native.Nat.{ℕ, ◌-◌, ◌*◌, ◌≤◌}
 use native.Mathlib.Omega.{arith}
 use lib.ListN.{length, take, drop, length-drop, length-append}
@@ -10,7 +10,7 @@ use lib.Seq.{length-take-le}
 use borrow.Rule.Slice.PartMut.{put_mid}
 use Rattle.numbers.proofs.Lists.{length_tabulate}
 use Rattle.interface.specs.Codes.{hertz}
-use Rattle.reference.specs.Frames.{Run, if_there}
+use Rattle.reference.specs.Frames.{Run}
 use Rattle.reference.specs.Output.{all_samples, samples, stats, per_frame_clips, s24le}
 use Rattle.reference.specs.Refusals.{Decision, accepted, error_decision, decide, is_accepted, if_present, rack, convert_places}
 use Rattle.reference.specs.Promises.{Converted, stats_told, if_lent, ConvertPromise}
@@ -24,38 +24,30 @@ use Rattle.wav_format.proofs.Reading.{length_header}
 use Rattle.wav_format.proofs.Writing.{whole}
 use Rattle.wav_checks.specs.Places.{data_size, wav_lengths, wav_places}
 use Rattle.wav_checks.proofs.Accepted.{length_of, long_enough, two_channels, rest_told, convert_takes}
+use Rattle.scarletbook_pcm.proofs.Answers.{kept}
 use Rattle.wav.specs.Promises.{WavPromise}
 
 pub length_data : (conv : Converter) (r : Run) → length (s24le (samples conv r)) ≡ data_size conv r
 unfolding s24le samples data_size
 length_data conv r = length_tabulate _ 0 (3 * length (samples conv r)) ∙ ap (λ (n : ℕ). 3 * n) (length_tabulate _ 0 (all_samples conv r))
 
--- what is asked of counts that are lent, or not, is what is asked of the list and the flag
-lent_places : (conv : Converter) (r : Run) (lent : Bool) (out counts : List ℕ) (b : Bool) (o : Option (List ℕ)) → (b ≡ lent) × (o ≡ if_there lent counts)
-    → decide (wav_places conv r out b (unwrap_or o [])) ≡ decide (wav_places conv r out lent counts)
-unfolding wav_places wav_lengths if_present if_there
-lent_places conv r true out counts b o e = rw (e.0, e.1) refl
-lent_places conv r false out counts b o e = rw e.0 refl
-
 module _ (conv : Converter) (r : Run) (lent : Bool) (out counts : List ℕ) where
   abbrev dd : Decision
   dd = decide (wav_places conv r out lent counts)
 
-  pub refused_call : (b : Bool) (o : Option (List ℕ)) → (b ≡ lent) × (o ≡ if_there lent counts) → (e : PcmError) → error_decision e ≡ decide (wav_places conv r out b (unwrap_or o []))
-      → WavPromise conv r lent out counts out counts (Err e)
+  pub refused_call : (e : PcmError) → error_decision e ≡ dd → (out' : List ℕ) → out' ≡ out → WavPromise conv r lent out counts out' counts (Err e)
   unfolding stats_told
-  refused_call b o t e h =
-      let no : error_decision e ≡ dd = h ∙ lent_places conv r lent out counts b o t in
-      let down : is_accepted dd ≡ false = ap is_accepted (sym no) ∙ error_refuses e in
+  refused_call e refuses out' kept =
+      let down : is_accepted dd ≡ false = ap is_accepted (sym refuses) ∙ error_refuses e in
       record {
-        answered = record { decided = no; counted = sym (exit_refused dd (stats conv r) no_stats down) };
-        written = sym (exit_refused dd (wav_file conv.rate conv.channels (s24le (samples conv r))) out down);
+        answered = record { decided = refuses; counted = sym (exit_refused dd (stats conv r) no_stats down) };
+        written = kept ∙ sym (exit_refused dd (wav_file conv.rate conv.channels (s24le (samples conv r))) out down);
         per_frame = sym (exit_refused dd (if_lent lent (per_frame_clips conv r) counts) counts down);
       }
 
-  module _ (b : Bool) (o : Option (List ℕ)) (t : (b ≡ lent) × (o ≡ if_there lent counts)) (accepts : accepted ≡ decide (wav_places conv r out b (unwrap_or o []))) where
+  module _ (accepts : accepted ≡ dd) where
     ok : dd ≡ accepted
-    ok = sym (accepts ∙ lent_places conv r lent out counts b o t)
+    ok = sym accepts
 
     pub fits_header : (conv.channels ≤ 2) × (length out - 44 ≤ most_data) × (44 ≤ length out)
     fits_header = (two_channels conv r out lent counts ok, rest_told conv r out lent counts ok, long_enough conv r out lent counts ok)
@@ -104,3 +96,8 @@ module _ (conv : Converter) (r : Run) (lent : Bool) (out counts : List ℕ) wher
           let m : mid ≡ h ++ drop 44 out = put ∙ ap (λ (x : ℕ). header (hertz conv.rate) conv.channels x ++ drop 44 out) n in
           wav_promise part part' counts' a part_length p _
           (whole h mid out part' (length_header (hertz conv.rate) conv.channels (length (s24le (samples conv r)))) m ∙ ap (λ (l : List ℕ). h ++ l) (part_is part part' counts' a part_length p))
+
+-- a call with no list promises of any list that it is not measured, and keeps its contents
+pub any_unlent : (conv : Converter) (r : Run) (out counts out' : List ℕ) (answer : Converted) → WavPromise conv r false out [] out' [] answer → WavPromise conv r false out counts out' counts answer
+unfolding wav_places wav_lengths if_present if_lent
+any_unlent conv r out counts out' answer p = record { answered = p.answered; written = p.written; per_frame = kept _ counts }

@@ -1,29 +1,23 @@
-// The call over the run record: it takes the record apart and calls the function with plain parameters.
+// The call over the run record.
+ghost use Rattle.std.specs.Prelude.{is_some};
 ghost use Rattle.reference.specs.Frames.{run_of};
+ghost use Rattle.scarletbook_pcm.specs.Calls.{listed, left};
 ghost use Rattle.wav.specs.Promises.{WavPromise};
 
-use crate::convert_parts;
+use crate::{counted, uncounted};
 use reference::{ConvertStats, Converter, PcmError, Run};
 
 // A file from a run.
 pub fn convert<'a>(
     conv: Converter,
     run: Run<'a>,
-    lent: bool,
     out: &mut [u8],
-    counts: &mut [u64],
+    counts: Option<&mut [u64]>,
 ) -> Result<ConvertStats, PcmError>
-    ensures { WavPromise conv (run_of run.entry) lent out.old counts.old out.new counts.new result }
+    ensures { WavPromise conv (run_of run.entry) (is_some counts.entry) out.old (listed counts.entry) out.new (left counts.exit) result }
 {
-    convert_parts(
-        conv,
-        run.has_before,
-        run.before,
-        run.frames,
-        run.has_after,
-        run.after,
-        lent,
-        out,
-        counts,
-    )
+    match counts {
+        Some(counts) => counted(conv, run, out, counts),
+        None => uncounted(conv, run, out),
+    }
 }

@@ -5,17 +5,15 @@ use mathlib.Core.List.{List, []}
 use mathlib.Core.Bool.{true}
 use Prim.Native.Nat.{ℕ, ◌+◌}
 use lib.ListN.{length, drop}
-use Rattle.reference.specs.Refusals.{accepted, refused, decide, is_accepted}
+use Rattle.reference.specs.Refusals.{accepted, refused, decide}
 use Rattle.reference.specs.declared.PcmRate.{PcmRate}
 use Rattle.reference.specs.declared.PcmError.{PcmError}
-use Rattle.reference.proofs.Refusals.{error_refuses}
 use Rattle.reference.proofs.Promises.{exit_accepted, decision_exact}
 use Rattle.wav_format.specs.Wav.{wav_file, Right, Taken, right_data}
 use Rattle.wav_format.specs.Places.{read_places, write_places}
 use Rattle.wav_format.specs.Promises.{ReadPromise, file_samples, WritePromise}
 use Rattle.wav_format.specs.declared.WavFormat.{WavFormat}
 use Rattle.std.specs.Prelude.{Result, Ok, Err}
-use Rattle.byte_lists.proofs.Same.{no_true}
 use Rattle.wav_format.proofs.Reading.{right_of, right_is, takes_taken, taken_takes, of_file, data_is, length_file, read_accepts, accepts_read, read_refuses, tells}
 use Rattle.wav_format.proofs.Writing.{samples_there, accepted_right, writes}
 
@@ -32,10 +30,6 @@ takes_exactly file =
 -- so a file of the definition is never refused, and any other always
 pub answered_taken : (file : List ℕ) (f : WavFormat) → ReadPromise file (Ok f) → Taken file
 answered_taken file f p = (takes_exactly file).0 (sym p.decided)
-
-pub answered_not : (file : List ℕ) (x : PcmError) → ReadPromise file (Err x) → Taken file → ⊥
-unfolding is_accepted
-answered_not file x p t = no_true _ (ap is_accepted (p.decided ∙ (takes_exactly file).1 t)) (error_refuses x)
 
 -- ---- written, then read
 

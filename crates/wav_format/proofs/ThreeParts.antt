@@ -1,17 +1,15 @@
 -- The header from its three parts.
 use mathlib.Core.Path.{◌≡◌, refl, ap, ◌∙◌}
 use mathlib.Core.List.{List, ◌++◌}
-use Prim.Native.Nat.{ℕ, ◌/◌, ◌^◌, ◌≤◌}
+use Prim.Native.Nat.{ℕ, ◌/◌, ◌^◌}
 use native.Mathlib.Omega.{arith}
-use lib.Dec.{lit≤}
-use lib.ListN.{drop}
+use lib.ListN.{take, drop}
 use lib.Seq.{drop-drop}
 use borrow.Rule.Slice.PartMut.{put_mid}
 use Rattle.level_lines.specs.Text.{text, joined}
 use Rattle.reference.specs.Codes.{hertz}
 use Rattle.reference.specs.declared.PcmRate.{PcmRate}
-use Rattle.reference.specs.declared.PcmRate.TheVariants.{Hz88200, Hz176400, Hz352800}
-use Rattle.std.specs.Int.{w16, w32, to_le_bytes}
+use Rattle.std.specs.Int.{w16, w32, w64, to_le_bytes}
 use Rattle.wav_format.specs.Wav.{bytes, fields, header}
 use Rattle.wav_format.specs.Deciding.{riff, format, data_head}
 
@@ -23,14 +21,17 @@ four_bytes n =
     let c : n / 256 ^ 2 / 256 ≡ n / 256 ^ 3 = omega arith in
     rw (b, c)
 
+-- the low four of eight
+pub low_bytes : (n : ℕ) → take 4 (to_le_bytes w64 n) ≡ bytes 4 n
+unfolding bytes
+low_bytes n =
+    let b : n / 256 / 256 ≡ n / 256 ^ 2 = omega arith in
+    let c : n / 256 ^ 2 / 256 ≡ n / 256 ^ 3 = omega arith in
+    rw (b, c)
+
 pub two_bytes : (n : ℕ) → to_le_bytes w16 n ≡ bytes 2 n
 unfolding bytes
 two_bytes n = refl
-
-pub hertz_small : (rate : PcmRate) → hertz rate ≤ 352800
-hertz_small Hz88200 = lit≤ tt
-hertz_small Hz176400 = lit≤ tt
-hertz_small Hz352800 = lit≤ tt
 
 -- put one after the other into a list of 44 places or more
 pub three_parts : (rate channels n : ℕ) (out : List ℕ)

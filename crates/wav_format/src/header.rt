@@ -35,11 +35,10 @@ fn format(rate: u64, channels: u64) -> [u8; 24]
 
 // `data`, and its size.
 fn data_head(n: u64) -> [u8; 8]
-    requires { n ≤ most_data }
     ensures { result ≡ deciding.data_head n }
 {
     let mut head = *b"data\0\0\0\0";
-    head[4..8].copy_from_slice(&(n as u32).to_le_bytes());
+    head[4..8].copy_from_slice(&n.to_le_bytes()[..4]);
     head
 }
 

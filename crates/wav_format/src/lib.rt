@@ -31,20 +31,22 @@ fn frame_size(rate: PcmRate, channels: usize) -> usize
     3 * rate.samples_per_frame() * channels
 }
 
-// Whether the reader takes so many bytes of data at this rate and with these channels.
+// Whether the reader takes so many bytes of data in this format.
 #[tactic(auto, unfolding(crate::specs::Wav::right_data))]
-fn right_data(rate: PcmRate, channels: u8, n: usize) -> bool
-    ensures { result ≡ right_data rate channels n }
+fn right_data(format: WavFormat, n: usize) -> bool
+    ensures { result ≡ right_data format.rate format.channels n }
 {
-    if channels < 1 || channels > 2 {
+    if format.channels < 1 || format.channels > 2 {
         return false;
     }
-    let frame = frame_size(rate, channels as usize);
+    let frame = frame_size(format.rate, format.channels as usize);
     n % frame == 0 && n / frame <= MOST_FRAMES && n <= 4294967259
 }
 
 // ---- reading
 
+// The rate and the channels of the one header that can be right, from a byte of each: any other byte gives a header
+// that the file does not have, so these need no refusal and no `TryFrom`, which would name one.
 #[tactic(auto, unfolding(crate::specs::Deciding::rate_of))]
 fn rate_of(x: u8) -> PcmRate
     ensures { result ≡ deciding.rate_of x }
@@ -66,13 +68,13 @@ fn channels_of(x: u8) -> u8
     }
 }
 
-// Whether a file begins with the header of this rate, these channels and so many bytes of data.
-fn has_header(file: &[u8], rate: PcmRate, channels: u8, n: usize) -> bool
-    requires { (44 ≤ length file.now) × (channels ≤ 2) × (n ≤ most_data) }
-    ensures { result ≡ same (take 44 file.now) (wav.header (codes.hertz rate) channels n) }
+// Whether a file begins with the header of this format and so many bytes of data.
+fn has_header(file: &[u8], format: WavFormat, n: usize) -> bool
+    requires { (44 ≤ length file.now) × (format.channels ≤ 2) × (n ≤ most_data) }
+    ensures { result ≡ same (take 44 file.now) (wav.header (codes.hertz format.rate) format.channels n) }
 {
     let mut head = [0u8; 44];
-    put_header(rate, channels, n, &mut head);
+    put_header(format.rate, format.channels, n, &mut head);
     &file[..44] == &head[..]
 }
 
@@ -85,9 +87,10 @@ pub fn read(file: &[u8]) -> Result<WavFormat, PcmError>
     }
     let rate = rate_of(file[24]);
     let channels = channels_of(file[22]);
+    let format = WavFormat { rate, channels };
     let n = file.len() - 44;
-    if right_data(rate, channels, n) && has_header(file, rate, channels, n) {
-        return Ok(WavFormat { rate, channels });
+    if right_data(format, n) && has_header(file, format, n) {
+        return Ok(format);
     }
     Err(PcmError::NotWav)
 }
@@ -109,7 +112,7 @@ pub fn write(rate: PcmRate, channels: u8, bytes: &[u8], out: &mut [u8]) -> Resul
     ensures { WritePromise rate channels bytes.now out.old out.new result }
 {
     let n = bytes.len();
-    if !right_data(rate, channels, n) {
+    if !right_data(WavFormat { rate, channels }, n) {
         return Err(PcmError::NotWav);
     }
     let expected = 44 + n;

@@ -1,4 +1,4 @@
--- What is bound once a call: the taps in the front of their array, and the tables of a route.
+-- What is bound once a call: the taps in the front of their array, the tables of a route, and what makes a run ready.
 use mathlib.Core.Path.{◌≡◌, ◌∙◌, ap₂}
 use mathlib.Core.List.{List, ◌++◌, append_assoc}
 use Prim.Native.Nat.{ℕ, ◌+◌, ◌-◌, ◌*◌, ◌/◌}
@@ -10,12 +10,15 @@ use lib.Seq.{take_at}
 use Rattle.numbers.specs.Sums.{at0}
 use Rattle.filters.specs.Filters.{Filled}
 use Rattle.filters.proofs.Signals.{is_even, is_odd}
-use Rattle.routes.specs.Routes.{FirstTables, halves_of}
+use Rattle.routes.specs.Routes.{FirstTables, last_of, halves_of, lent_taps}
 use mathlib.Core.Logic.{◌⊎◌, inl, inr}
 use Rattle.reference.specs.Taps.{S1}
 use Rattle.reference.specs.declared.Cutoff.{Cutoff}
 use Rattle.reference.specs.declared.Cutoff.TheVariants.{Standard, Low}
 use Rattle.tables.specs.Tables.{ByteTables}
+use Rattle.reference.specs.declared.Converter.{Converter}
+use Rattle.blocks.specs.Blocks.{Ready}
+use Rattle.workspace.specs.Accepted.{Accepted}
 
 -- the even ones, and then the odd ones after them
 pub halves_bound : (f rest : List ℤ) (e : ℕ) {old new old' new' : List ℤ} → e ≡ (length f + 1) / 2 → Filled (λ k. at0 f (2 * k + 0)) old new → length old ≡ e
@@ -32,3 +35,7 @@ halves_bound f rest e {new = new} {new' = new'} is g a g' b =
 pub narrow_tables : (cutoff : Cutoff) (tables : List ℤ) → (cutoff ≡ Standard) ⊎ (cutoff ≡ Low) → ByteTables S1 8 tables → FirstTables cutoff tables
 unfolding FirstTables
 narrow_tables cutoff tables is t = elim is [ inl e ↦ rw e t | inr e ↦ rw e t ]
+
+-- the tables and the taps that are bound are the route's
+pub made_ready : {conv : Converter} {n : ℕ} {b f a : List ℕ} {tables taps : List ℤ} → Accepted conv n b f a → FirstTables conv.cutoff tables → taps ≡ lent_taps conv.rate conv.cutoff (last_of conv) → Ready conv n b f a tables taps
+made_ready x t e = record { slices = x.slices; first = t; last = record { last = x.last; lent = e }; factor = x.factor }

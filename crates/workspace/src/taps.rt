@@ -1,7 +1,7 @@
 // The taps of a route's last filter, widened.
 ghost use Rattle.std.specs.Prelude.{◌≡◌, ◌≤◌, take};
 
-// The first `count` of the values.
+// The first `count` of the values, in an array of the longest filter's length: nothing here is on the heap.
 #[derive(Clone, Copy)]
 pub struct Taps {
     pub values: [i64; 117],

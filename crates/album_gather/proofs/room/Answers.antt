@@ -1,5 +1,4 @@
 use Rattle.std.proofs.Common.{[], ◌∷◌}
-use Rattle.reference.specs.Refusals.{Place}
 use Rattle.refusals.proofs.Steps.{one_after}
 use Rattle.album_gather.specs.Steps.{lent_places}
 use Rattle.album_gather.proofs.room.Goals as goal

@@ -17,7 +17,7 @@ overflow_mul-samples c = omega (arith, c.requires.0.few)
 
 pub put_header-requires : goal.put_header-requires
 put_header-requires c =
-    (c.requires.0.one, c.requires.0.six, c.data_bytes.ensures.1, omega (arith, c.requires.1, length_is c.args.channels c.args.frames.now))
+    (c.requires.0.one, c.requires.0.six, omega (arith, c.requires.1, length_is c.args.channels c.args.frames.now))
 
 pub put_data-requires : goal.put_data-requires
 unfolding frame_count written_channel
@@ -31,7 +31,7 @@ unfolding frame_count written_data written_channel written
 returns c =
     let n = c.args.channels in
     let fr = c.args.frames.now in
-    let e : c.data_bytes.result ≡ written_data n fr = c.data_bytes.ensures.0 in
+    let e : c.data_bytes-need.result ≡ written_data n fr = c.data_bytes-need.ensures.0 in
     let h = c.put_header.ensures in
     let w = whole_file _ _ _ (written_byte n fr) (written_data n fr) (header_put _ _ _ _ _ _ h) (h.same ∙ c.requires.1 ∙ length_is n fr) c.put_data.ensures in
     rw e at w

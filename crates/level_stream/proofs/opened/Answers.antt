@@ -1,4 +1,3 @@
-use Rattle.std.proofs.Common.{rules}
 use Rattle.level_stream.proofs.Opening.{usable}
 use Rattle.level_stream.proofs.opened.Goals as goal
 

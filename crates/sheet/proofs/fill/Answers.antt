@@ -7,6 +7,13 @@ use Rattle.sheet.specs.Promises.{sheet_length}
 use Rattle.sheet.proofs.Widths.{channels_fit, sum_fits, sum_small}
 use Rattle.sheet.proofs.fill.Goals as goal
 
+pub returns : goal.returns
+unfolding sheet sheet_length
+returns c =
+    let sum = rw c.clips.ensures at c.put_sum.ensures.printed in
+    let all = ended (search rules) (both c.put_channels.ensures.printed sum).printed in
+    filled all (omega (arith, all.after, c.put_channels.ensures.value, c.put_sum.ensures.value))
+
 pub put_channels-requires : goal.put_channels-requires
 unfolding sheet_length
 put_channels-requires c = (c.requires.0, channels_fit c.args.channels c.args.stats c.requires.1, omega arith)
@@ -20,10 +27,3 @@ put_sum-requires c = (
   rw c.clips.ensures (sum_fits c.args.channels c.args.stats c.requires.1),
   omega (arith, c.put_channels.ensures.value, c.put_channels.ensures.printed.same_length),
 )
-
-pub returns : goal.returns
-unfolding sheet sheet_length
-returns c =
-    let sum = rw c.clips.ensures at c.put_sum.ensures.printed in
-    let all = ended (search rules) (both c.put_channels.ensures.printed sum).printed in
-    filled all (omega (arith, all.after, c.put_channels.ensures.value, c.put_sum.ensures.value))

@@ -1,21 +1,18 @@
-use Rattle.std.proofs.Common.{arith, refl, sym, ◌∙◌}
+use Rattle.std.proofs.Common.{rules, ap, refl, sym, arith, ◌∙◌}
+use Rattle.std.proofs.lemmas.Iterator.{YieldsList-from_slice}
+use Rattle.std.proofs.lemmas.Iterator.Search.{any_from_yields_List}
+use Rattle.std.specs.List.{list_any}
+use Rattle.columns.specs.Columns.{too_wide}
+use Rattle.reference.specs.declared.ChannelStats.{ChannelStats}
 use Rattle.reference.specs.Statistics.{no_samples, channel_of}
-use Rattle.sheet.specs.Sheet.{some_below}
-use Rattle.sheet.proofs.Widths.{channel_wide, some_at, some_more}
+use Rattle.sheet.specs.Sheet.{figures}
+use Rattle.sheet.proofs.Widths.{channel_wide, some_taken, some_same}
 use Rattle.sheet.proofs.wide_channels.Goals as goal
 
-pub loop-c-init : goal.loop-c-init
-unfolding some_below
-loop-c-init c = refl
-
-pub returns-then-wide_channel : goal.returns-then-wide_channel
+pub returns : goal.returns
 unfolding channel_of no_samples
-returns-then-wide_channel c =
-    let wide = channel_wide c.args.stats c.loop-c.c (omega arith) ∙ sym c.wide_channel.ensures ∙ c.if-wide_channel.true in
-    sym (some_at _ c.args.channels c.loop-c.c (omega arith) wide)
-
-pub loop-c-preserved : goal.loop-c-preserved
-unfolding channel_of no_samples
-loop-c-preserved c =
-    let fits = channel_wide c.args.stats c.loop-c.c (omega arith) ∙ sym c.wide_channel.ensures ∙ c.if-wide_channel.false in
-    some_more _ c.loop-c.c ∙ rw (c.loop-c.invariant, fits) refl
+returns c =
+    any_from_yields_List (λ (x : ChannelStats). too_wide (figures x)) c.any.new.self _ _ c.any.ensures.ran (YieldsList-from_slice c.iter.result.rest.now refl) (λ x b q k. search rules)
+    ∙ ap (list_any (λ (x : ChannelStats). too_wide (figures x))) c.iter.ensures.rest
+    ∙ some_taken (λ (x : ChannelStats). too_wide (figures x)) no_samples c.args.stats.channels c.args.channels (omega (arith, c.requires))
+    ∙ some_same _ _ c.args.channels (λ k l. sym (channel_wide c.args.stats k (omega (arith, l, c.requires))))

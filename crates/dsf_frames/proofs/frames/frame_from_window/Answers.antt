@@ -9,7 +9,7 @@ loop-number-init c = (refl, λ d k h t. absurd (omega arith))
 pub column-requires : goal.column-requires
 column-requires c =
     let l = c.loop-number in
-    rw (c.min-end.ensures, l.invariant.0) (column_args c.requires.args l.number c.loop-number-test.true (omega arith))
+    rw (c.min-end.ensures, l.invariant.0) (column_args c.requires l.number c.loop-number-test.true (omega arith))
 
 pub loop-number-preserved : goal.loop-number-preserved
 loop-number-preserved c =
@@ -23,4 +23,4 @@ returns c =
     let a = c.args in
     let e : l.number ≡ a.header.channels = omega arith in
     let order = rw c.bit_order.ensures at c.order_table-table.ensures in
-    frame_is c.requires.args a.header.bits_per_sample a.window.now.bytes.now _ l.out refl c.requires.are_bytes.each order (omega arith) (l.invariant.0 ∙ c.requires.args.lent) (rw e at l.invariant.1)
+    frame_is c.requires a.header.bits_per_sample a.window.now.bytes.now _ l.out refl c.are_bytes.ensures.each order (omega arith) (l.invariant.0 ∙ c.requires.lent) (rw e at l.invariant.1)

@@ -7,8 +7,8 @@ returns-in_err-asked c =
     let p = err_from_is_err_and c.from_residual.result c.from_residual.ensures.1 in
     rw (p.1, p.2) (turned_down _ _ c.in_err-asked.ensures)
 
-pub frame_from_window-requires-clause-args : goal.frame_from_window-requires-clause-args
-frame_from_window-requires-clause-args c = args _ _ _ _ _ _ c.in_ok-asked.ensures c.requires.some.0 c.requires.some.1
+pub frame_from_window-requires : goal.frame_from_window-requires
+frame_from_window-requires c = args _ _ _ _ _ _ c.in_ok-asked.ensures c.requires.0 c.requires.1
 
 pub returns : goal.returns
 returns c = given _ c.in_ok-asked.ensures c.frame_from_window.ensures

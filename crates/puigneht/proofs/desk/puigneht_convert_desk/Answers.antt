@@ -1,12 +1,15 @@
 use Rattle.std.proofs.Common.{sym, refl}
 use Rattle.reference.specs.Frames.{run_of}
+use Rattle.reference.specs.Refusals.{desk}
 use Rattle.reference.specs.Promises.{DeskPromise}
 use Rattle.interface.specs.Settings.{c_settings, c_converter, input}
 use Rattle.interface.specs.Told.{stat_lists}
 use Rattle.interface.proofs.Known.{some_known, none_known}
+use Rattle.scarletbook_pcm.proofs.Answers.{any_unlent}
 use Rattle.puigneht.specs.Calls.{results}
 use Rattle.puigneht.proofs.Calls.{turned_away, not_left, not_right, stats_six, data_room, lent_converted}
 use Rattle.puigneht.proofs.desk.puigneht_convert_desk.Goals as goal
+use Rattle.puigneht.proofs.desk.puigneht_convert_desk.Goals.{then-lent, else-lent}
 
 pub returns-in_default : goal.returns-in_default
 returns-in_default c = turned_away (not_right _ _ (none_known _ _ (sym c.in_default.ensures))) (refl, refl, refl)
@@ -28,7 +31,12 @@ tell_conversion-requires-clause-data_len c =
 pub returns : goal.returns
 returns c =
     let a = c.args in
-    let made = c.convert_desk-made in
-    lent_converted _ _ _ (sym c.in-Some.ensures) _ _ made.result
-    (λ p l answer. DeskPromise p.0 (run_of p.1) l a.out.now a.counts.now made.new.out made.new.counts answer) _ _ (sym c.in-Some-flag_of.ensures) made.ensures
+    let made = c.if-lent in
+    let promise : DeskPromise c.in-Some.conv (run_of c.in-Some.run') c.in-Some-flag_of.lent a.out.now a.counts.now made.out made.counts made.made =
+    elim made.branch [
+      | then-lent w ↦ rw (w.if-lent.true, w.out-is, w.counts-is, w.made-is) w.convert_desk-made.ensures
+      | else-lent w ↦ rw (w.if-lent.false, w.out-is, w.counts-is, w.made-is) (any_unlent desk _ _ _ _ _ _ w.convert_desk-made-else-lent.ensures)
+    ] in
+    lent_converted _ _ _ (sym c.in-Some.ensures) _ _ made.made
+    (λ p l answer. DeskPromise p.0 (run_of p.1) l a.out.now a.counts.now made.out made.counts answer) _ _ (sym c.in-Some-flag_of.ensures) promise
     c.tell_conversion.ensures.told_whole c.tell_conversion.ensures.empty_after

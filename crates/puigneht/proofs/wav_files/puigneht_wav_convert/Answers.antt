@@ -4,9 +4,11 @@ use Rattle.wav.specs.Promises.{WavPromise}
 use Rattle.interface.specs.Settings.{c_settings, c_converter, input}
 use Rattle.interface.specs.Told.{stat_lists}
 use Rattle.interface.proofs.Known.{some_known, none_known}
+use Rattle.wav.proofs.Converting.{any_unlent}
 use Rattle.puigneht.specs.Calls.{results}
 use Rattle.puigneht.proofs.Calls.{turned_away, not_left, not_right, stats_six, data_room, lent_converted}
 use Rattle.puigneht.proofs.wav_files.puigneht_wav_convert.Goals as goal
+use Rattle.puigneht.proofs.wav_files.puigneht_wav_convert.Goals.{then-lent, else-lent}
 
 pub returns-in_default : goal.returns-in_default
 returns-in_default c = turned_away (not_right _ _ (none_known _ _ (sym c.in_default.ensures))) (refl, refl, refl)
@@ -28,7 +30,12 @@ tell_conversion-requires-clause-data_len c =
 pub returns : goal.returns
 returns c =
     let a = c.args in
-    let made = c.convert-made in
-    lent_converted _ _ _ (sym c.in-Some.ensures) _ _ made.result
-    (λ p l answer. WavPromise p.0 (run_of p.1) l a.out.now a.counts.now made.new.out made.new.counts answer) _ _ (sym c.in-Some-flag_of.ensures) made.ensures
+    let made = c.if-lent in
+    let promise : WavPromise c.in-Some.conv (run_of c.in-Some.run') c.in-Some-flag_of.lent a.out.now a.counts.now made.out made.counts made.made =
+    elim made.branch [
+      | then-lent w ↦ rw (w.if-lent.true, w.out-is, w.counts-is, w.made-is) w.convert-made.ensures
+      | else-lent w ↦ rw (w.if-lent.false, w.out-is, w.counts-is, w.made-is) (any_unlent _ _ _ _ _ _ w.convert-made-else-lent.ensures)
+    ] in
+    lent_converted _ _ _ (sym c.in-Some.ensures) _ _ made.made
+    (λ p l answer. WavPromise p.0 (run_of p.1) l a.out.now a.counts.now made.out made.counts answer) _ _ (sym c.in-Some-flag_of.ensures) promise
     c.tell_conversion.ensures.told_whole c.tell_conversion.ensures.empty_after

@@ -12,7 +12,7 @@ use Rattle.turns_lines.proofs.printing.board.Goals as goal
 pub all_lines-requires : goal.all_lines-requires
 all_lines-requires c =
     let t = told c.simulate.ensures (ap decision c.in-Ok.is) in
-    (t.few, t.same, c.requires.2)
+    (t.few, t.same, c.requires.1)
 
 pub returns-in-Ok-clause-printed : goal.returns-in-Ok-clause-printed
 returns-in-Ok-clause-printed c =
@@ -22,4 +22,4 @@ returns-in-Ok-clause-printed c =
 pub returns-in-Err-clause-printed : goal.returns-in-Err-clause-printed
 returns-in-Err-clause-printed c =
     let down : is_accepted (decision c.simulate.result) ≡ false = ap (λ (v : Result (Unit {0}) PcmError). is_accepted (decision v)) c.in-Err.is ∙ error_refuses c.in-Err.field-0 in
-    rw (turned_down c.simulate.ensures c.requires.1 (search rules) (search rules) down) c.refused_line.ensures.printed
+    rw (turned_down c.simulate.ensures c.requires.0 (λ few. (search rules, search rules)) down) c.refused_line.ensures.printed

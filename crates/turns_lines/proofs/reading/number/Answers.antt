@@ -1,6 +1,6 @@
 -- `number`: digit by digit.
 use Rattle.std.proofs.Common.{arith}
-use Rattle.turns_lines.proofs.Digits.{empty, longer, next, ends, number_le}
+use Rattle.turns_lines.proofs.Digits.{empty, longer, next, ends}
 use Rattle.turns_lines.proofs.reading.number.Goals as goal
 
 pub returns-in_err-first : goal.returns-in_err-first
@@ -8,9 +8,6 @@ returns-in_err-first c = rw c.from_residual.ensures (empty c.args.text.now c.in_
 
 pub returns-in_err-n : goal.returns-in_err-n
 returns-in_err-n c = rw (c.from_residual-in_err-n.ensures, c.in_ok-first.ensures.cases.0) (longer (omega arith) c.in_err-n.ensures c.in_ok-first.rest.now)
-
-pub more-requires : goal.more-requires
-more-requires c = number_le c.loop-byte.invariant
 
 pub returns-in_err-n-2 : goal.returns-in_err-n-2
 returns-in_err-n-2 c =

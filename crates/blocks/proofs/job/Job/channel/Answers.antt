@@ -8,7 +8,7 @@ use Rattle.numbers.proofs.Lists.{part_end}
 use Rattle.blocks.specs.declared.job.Job.{Job}
 use Rattle.blocks.specs.Jobs.{bytes_of, in_frame, in_run}
 use Rattle.blocks.proofs.Places.{whole_blocks, some_taps, few_taps, margin_fits, block_fits}
-use Rattle.blocks.proofs.Sums.{run_few, even_frame, zeros_small, staged_begins, staged_gives, staged_near, blocks_none, blocks_more, front_of, at_end, ready_of}
+use Rattle.blocks.proofs.Sums.{run_few, even_frame, staged_begins, staged_gives, staged_near, blocks_none, blocks_more, front_of, at_end, ready_of}
 use Rattle.blocks.proofs.job.Job.channel.Goals as goal
 
 pub overflow_sub-last : goal.overflow_sub-last
@@ -30,18 +30,15 @@ gather-at-requires g c =
     (omega arith, omega arith, omega arith, margin_fits job.conv.cutoff (length job.taps.now - 1) (omega arith))
 
 pub margin-requires-clause-n_bound : goal.margin-requires-clause-n_bound
-margin-requires-clause-n_bound g c = (omega (arith, few_taps c.args.self.now.last), c.gather-at.auto.bytes, refl, refl)
-
-pub margin-requires-clause-small : goal.margin-requires-clause-small
-margin-requires-clause-small g c = zeros_small 512
+margin-requires-clause-n_bound g c = (omega (arith, few_taps c.args.self.now.last), c.gather-at.auto.bytes)
 
 pub loop-b-init : goal.loop-b-init
 loop-b-init g c =
     let job = c.args.self.now in
     let last = length job.taps.now - 1 in
     let from = c.start-at.ensures.0 ∙ ap (λ z. first_byte job.conv.cutoff (margin_from job.conv.rate job.conv.cutoff last true (z + c.args.n))) c.samples_per_frame-spf.ensures.0 in
-    blocks_none c.margin.ensures.small_2 (zeros_small 184)
-    (staged_begins (ready_of job) (bytes_of job c.args.channel) c.args.n last refl c.requires.place.2 from c.gather-at.ensures.value c.gather-at.ensures.held c.margin.ensures.by_index)
+    blocks_none
+    (staged_begins (ready_of job) (bytes_of job c.args.channel) c.args.n last refl c.requires.place.2 from c.gather-at.ensures.value c.gather-at.ensures.held c.margin.ensures.held)
     c.none-told.ensures
 
 -- the block's place in its frame, and in the run
@@ -62,17 +59,17 @@ pub write-more-requires-clause-held : goal.write-more-requires-clause-held
 write-more-requires-clause-held g c =
     let job = c.args.self.now in
     let worked = staged_gives (ready_of job) (bytes_of job c.args.channel) (c.args.n + c.loop-b.b * c.block_length-m.result) c.loop-b.invariant.staged c.fresh-new.ensures.0
-    c.gather-at-in-loop-b.ensures.held c.gather-at-in-loop-b.ensures.value c.block.ensures.held in
+    c.gather-at-in-loop-b.ensures.held c.gather-at-in-loop-b.ensures.value c.block.ensures in
     front_of c.block_length-m.result (omega arith) worked.0
 
 pub loop-b-preserved : goal.loop-b-preserved
 loop-b-preserved g c =
     let job = c.args.self.now in
     let worked = staged_gives (ready_of job) (bytes_of job c.args.channel) (c.args.n + c.loop-b.b * c.block_length-m.result) c.loop-b.invariant.staged c.fresh-new.ensures.0
-    c.gather-at-in-loop-b.ensures.held c.gather-at-in-loop-b.ensures.value c.block.ensures.held in
+    c.gather-at-in-loop-b.ensures.held c.gather-at-in-loop-b.ensures.value c.block.ensures in
     let long : length (take c.block_length-m.result c.block.new.y) ≡ c.block_length-m.result = length-take-le c.block_length-m.result c.block.new.y (omega arith) in
     let near = ends job c.loop-b.b c.samples_per_frame-spf.result c.block_length-m.result c.args.n c.loop-b-test.true c.samples_per_frame-spf.ensures.0 c.block_length-m.ensures.0 c.requires.place.1 in
-    blocks_more c.loop-b.invariant c.block_length-m.ensures.0 c.block.ensures.small_3 c.block.ensures.small_4 worked.1 (rw long at c.write-more.ensures) (omega (arith, near)) c.join-told.ensures
+    blocks_more c.loop-b.invariant c.block_length-m.ensures.0 worked.1 (rw long at c.write-more.ensures) (omega (arith, near)) c.join-told.ensures
 
 pub returns : goal.returns
 returns g c =

@@ -3,4 +3,4 @@ use Rattle.blocks.specs.Jobs.{run_of, bytes_of}
 use Rattle.blocks.proofs.job.Job.channel.Given as goal
 
 abbrev pub invariant-loop-b : goal.invariant-loop-b
-invariant-loop-b g l = Blocks g.P.Place.layout l.self.conv (run_of l.self) (bytes_of l.self l.channel) l.channel l.n l.b l.m l.at l.told l.x l.kept l.initial.out l.out
+invariant-loop-b g l = Blocks g.P.Place.layout l.self.conv (run_of l.self) (bytes_of l.self l.channel) l.channel l.n l.b l.m l.at l.told l.buffers.x l.buffers.kept l.initial.out l.out

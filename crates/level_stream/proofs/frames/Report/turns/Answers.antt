@@ -1,0 +1,12 @@
+-- `turns` meets its contract.
+use Rattle.std.proofs.lemmas.Result.{IfOk-weaker}
+use Rattle.level_stream.proofs.Buffers.{everything}
+use Rattle.level_stream.proofs.frames.Report.turns.Goals as goal
+
+pub returns : goal.returns
+returns g c =
+    let of = c.args.self.now.of in
+    IfOk-weaker c.each_frame.result _ _
+    (λ came ended few. everything (λ s. s.of.conv) (λ s. s.clipped) (λ s. s.states) _ _ _ c.args.self.now c.each_frame.new.step of.opened
+    c.size-size.ensures.size c.requires.0 c.requires.1 ended few)
+    c.each_frame.ensures.ended

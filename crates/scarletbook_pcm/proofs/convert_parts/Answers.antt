@@ -1,0 +1,4 @@
+use Rattle.scarletbook_pcm.proofs.convert_parts.Goals as goal
+
+pub returns-in-Some : goal.returns-in-Some
+returns-in-Some c = rw c.in-Some.is c.counted.ensures

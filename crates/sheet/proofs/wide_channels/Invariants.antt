@@ -1,7 +1,0 @@
-use Rattle.std.proofs.Common.{◌≡◌, false}
-use Rattle.columns.specs.Columns.{too_wide}
-use Rattle.sheet.specs.Sheet.{channel_line, some_below}
-use Rattle.sheet.proofs.wide_channels.Given as goal
-
-abbrev pub invariant-loop-c : goal.invariant-loop-c
-invariant-loop-c l = some_below (λ c. too_wide (channel_line l.stats c)) l.c ≡ false

@@ -1,0 +1,5 @@
+use Rattle.stages.proofs.Smalls.{zeros_small}
+use Rattle.stages.proofs.buffers.Buffers.new.Goals as goal
+
+pub invariant_of-result : goal.invariant_of-result
+invariant_of-result c = record { x_small = zeros_small 512; kept_small = zeros_small 184 }
