@@ -1,13 +1,14 @@
 -- Laws of opening an album.
-use Rattle.std.proofs.Common.{◌≡◌, Ok, Err, ℕ, ◌≤◌, ◌<◌, Bool, true, false, not, ◌&&◌, leb, ◌≢◌, List, [], ◌∷◌, ◌++◌, length, drop, sym, refl, ap, ◌∙◌, true≢false, ltb-false, leb-true, lt-ltb, le-ltb, append-nil, drop_of_length-le, arith}
+use Rattle.std.proofs.Common.{◌≡◌, Ok, Err, ℕ, ◌≤◌, ◌<◌, ◌≢◌, List, [], ◌∷◌, ◌++◌, length, drop, sym, refl, ap, ◌∙◌, ltb-false, lt-ltb, le-ltb, append-nil, drop_of_length-le, arith}
+use borrow.Author.Tests.{not-false}
 use Rattle.reference.specs.Refusals.{Decision, Place, error_decision, decide, accepted, is_accepted, opening_places, too_many, rack, lent_length}
 use Rattle.reference.proofs.Refusals.{decide_first, decide_skip, pass, at_first, at_next, error_refuses}
 use Rattle.reference.proofs.Promises.{exit_accepted, exit_refused}
 use Rattle.refusals.proofs.Steps.{stops, goes_on, first_stops, past_first, wrong_bytes, right_length, nothing}
 use Rattle.wav_format.specs.Wav as wav
 use Rattle.wav_format.specs.Wav.{most_data}
-use Rattle.wav_checks.specs.Places.{too_large}
-use Rattle.interface.specs.Codes.{hertz}
+use Rattle.wav_format.proofs.Reading.{right_is}
+use Rattle.reference.specs.Codes.{hertz}
 use Rattle.reference.specs.declared.PcmRate.{PcmRate}
 use Rattle.reference.specs.declared.PcmError.{PcmError}
 use Rattle.reference.specs.declared.PcmError.TheVariants.{OutputBytes, Frames}
@@ -15,7 +16,7 @@ use Rattle.dsf.specs.Dsf.{channels, samples, frames, frames_in}
 use Rattle.dsf.specs.Reading.{OpenedPromise, header_places, file_header}
 use Rattle.dsf.specs.declared.DsfHeader.{DsfHeader}
 use Rattle.dsf.proofs.Accepted.{head_channels}
-use Rattle.album.specs.Album.{settings_for, later_places, album_places, album_of, AlbumPromise, head_places, HeaderPromise, FitArgs}
+use Rattle.album.specs.Album.{settings_for, later_places, album_places, album_of, AlbumPromise, no_such_file, head_places, HeaderPromise, FitArgs}
 use Rattle.album.specs.declared.Wanted.{Wanted}
 use Rattle.album.proofs.Bounds.{size_bound}
 use Rattle.album.specs.declared.Album.{Album}
@@ -78,31 +79,28 @@ album_fits head n w e =
 -- ---- the WAV file's header
 
 module _ (rate : PcmRate) (n bytes : ℕ) (out : List ℕ) where
-  pub head_refused : (e : PcmError) → error_decision e ≡ decide (too_large n bytes ∷ []) → HeaderPromise rate n bytes out out (Err e)
+  pub head_refused : (e : PcmError) → error_decision e ≡ decide (no_such_file rate n bytes ∷ []) → HeaderPromise rate n bytes out out (Err e)
   unfolding head_places
   head_refused e d =
-      let no : error_decision e ≡ decide (head_places n bytes (length out)) = first_stops (too_large n bytes) (lent_length 7 (length out) 44 ∷ []) e d in
+      let no : error_decision e ≡ decide (head_places rate n bytes (length out)) = first_stops (no_such_file rate n bytes) (lent_length 7 (length out) 44 ∷ []) e d in
       record { decided = no; written = sym (exit_refused _ _ _ (ap is_accepted (sym no) ∙ error_refuses e)) }
 
-  module _ (d : accepted ≡ decide (too_large n bytes ∷ [])) where
+  module _ (d : accepted ≡ decide (no_such_file rate n bytes ∷ [])) where
     pub head_wrong : length out ≢ 44 → HeaderPromise rate n bytes out out (Err (OutputBytes (length out) 44))
     unfolding head_places is_accepted
     head_wrong r =
-        let no : error_decision (OutputBytes (length out) 44) ≡ decide (head_places n bytes (length out)) = past_first (too_large n bytes) (lent_length 7 (length out) 44 ∷ []) d (wrong_bytes (length out) 44 [] r) in
+        let no : error_decision (OutputBytes (length out) 44) ≡ decide (head_places rate n bytes (length out)) = past_first (no_such_file rate n bytes) (lent_length 7 (length out) 44 ∷ []) d (wrong_bytes (length out) 44 [] r) in
         record { decided = no; written = sym (exit_refused _ _ _ (ap is_accepted (sym no))) }
 
     pub head_written : {out' : List ℕ} → length out ≡ 44 → out' ≡ wav.header (hertz rate) n bytes ++ drop 44 out → HeaderPromise rate n bytes out out' (Ok _)
     unfolding head_places
     head_written r w =
-        let yes : accepted ≡ decide (head_places n bytes (length out)) = past_first (too_large n bytes) (lent_length 7 (length out) 44 ∷ []) d (right_length (length out) 44 [] 7 r nothing) in
+        let yes : accepted ≡ decide (head_places rate n bytes (length out)) = past_first (no_such_file rate n bytes) (lent_length 7 (length out) 44 ∷ []) d (right_length (length out) 44 [] 7 r nothing) in
         let none : drop 44 out ≡ [] = drop_of_length-le out {i = 44} (omega arith) in
         record { decided = yes; written = w ∙ rw (none, append-nil) (sym (exit_accepted _ _ _ (sym yes))) }
 
     pub head_fits : (n ≤ 2) × (bytes ≤ most_data)
-    unfolding too_large
-    head_fits = split (leb n 2) (leb bytes most_data) refl refl (pass _ _ (sym d)).0
-      where
-        split : (a b : Bool) → leb n 2 ≡ a → leb bytes most_data ≡ b → not (a && b) ≡ false → (n ≤ 2) × (bytes ≤ most_data)
-        split true true p q e = (leb-true n 2 p, leb-true bytes most_data q)
-        split true false p q e = absurd (true≢false e)
-        split false b p q e = absurd (true≢false e)
+    unfolding no_such_file
+    head_fits =
+        let right = right_is rate n bytes (not-false _ (pass _ _ (sym d)).0) in
+        (right.few, right.told)

@@ -1,11 +1,11 @@
 -- An album: a DSF file that can be a WAV file, as what is wanted of it says.
-use Rattle.std.specs.Prelude.{◌≡◌, Result, IfOk, ℕ, ◌+◌, ◌-◌, ◌*◌, ◌/◌, ◌≤◌, None, List, [], ◌∷◌, ◌++◌, length, ℤ}
+use Rattle.std.specs.Prelude.{◌≡◌, Result, IfOk, ℕ, ◌+◌, ◌-◌, ◌*◌, ◌/◌, ◌≤◌, None, List, [], ◌∷◌, ◌++◌, not, length, ℤ}
 use Rattle.std.specs.Float.Ieee.{of_int}
 use Rattle.std.specs.Float.{binary64}
 use Rattle.reference.specs.Frames.{frame_bytes}
 use Rattle.reference.specs.Scaling.{db_to_linear}
 use Rattle.reference.specs.Settings.{converter_of}
-use Rattle.reference.specs.Refusals.{Place, decide, decision, opening_places, too_many, rack, lent_length}
+use Rattle.reference.specs.Refusals.{Place, place, decide, decision, opening_places, too_many, rack, lent_length}
 use Rattle.reference.specs.Promises.{by_decision}
 use Rattle.reference.specs.declared.PcmRate.{PcmRate}
 use Rattle.reference.specs.declared.Cutoff.{Cutoff}
@@ -15,9 +15,9 @@ use Rattle.reference.specs.declared.Converter.{Converter}
 use Rattle.reference.specs.declared.PcmError.{PcmError}
 use Rattle.dsf.specs.Dsf.{channels, samples, frames, frames_in}
 use Rattle.dsf.specs.Reading.{header_places}
-use Rattle.interface.specs.Codes.{hertz}
+use Rattle.reference.specs.Codes.{hertz}
 use Rattle.wav_format.specs.Wav as wav
-use Rattle.wav_format.specs.Wav.{frame_size}
+use Rattle.wav_format.specs.Wav.{frame_size, right_data}
 use Rattle.wav_checks.specs.Places.{too_large}
 use Rattle.album.specs.declared.Wanted.{Wanted}
 use Rattle.album.specs.declared.Album.{Album}
@@ -80,12 +80,16 @@ pub record AlbumPromise (head : List ℕ) (n : ℕ) (w : Wanted) (answer : Resul
 
 -- ---- the WAV file's header, of so many bytes of data: 12, then 7
 
-unfoldable pub head_places : ℕ → ℕ → ℕ → List Place
-head_places n bytes room = too_large n bytes ∷ lent_length 7 room 44 ∷ []
+-- no file has these channels and so much data: other than one or two channels, no whole frames, or too many
+unfoldable pub no_such_file : PcmRate → ℕ → ℕ → Place
+no_such_file rate n bytes = place (not (right_data rate n bytes)) 12 []
+
+unfoldable pub head_places : PcmRate → ℕ → ℕ → ℕ → List Place
+head_places rate n bytes room = no_such_file rate n bytes ∷ lent_length 7 room 44 ∷ []
 
 pub record HeaderPromise (rate : PcmRate) (n bytes : ℕ) (out out' : List ℕ) (answer : Result (Unit {0}) PcmError) : Type 0 where
-  pub decided : decision answer ≡ decide (head_places n bytes (length out))
-  pub written : out' ≡ by_decision (decide (head_places n bytes (length out))) (wav.header (hertz rate) n bytes) out
+  pub decided : decision answer ≡ decide (head_places rate n bytes (length out))
+  pub written : out' ≡ by_decision (decide (head_places rate n bytes (length out))) (wav.header (hertz rate) n bytes) out
 
 -- ---- what the code asks for
 

@@ -6,10 +6,11 @@ ghost use Rattle.reference.specs.Refusals.{decision, decide, too_many, rack};
 ghost use Rattle.wav_format.specs.Wav as wav;
 ghost use Rattle.wav_checks.specs.Places.{too_large};
 ghost use Rattle.album.specs.Album as albums;
-ghost use Rattle.album.specs.Album.{settings_for, later_places, AlbumPromise, HeaderPromise};
+ghost use Rattle.album.specs.Album.{settings_for, later_places, no_such_file, AlbumPromise, HeaderPromise};
 
 use dsf::DsfHeader;
 use reference::{Cutoff, Gain, MOST_FRAMES, PcmError, PcmRate, Settings};
+use wav_format::WavFormat;
 
 // What is asked of an album: opening's settings, but for the channels, which are the file's.
 #[derive(Clone, Copy)]
@@ -129,12 +130,23 @@ pub fn open(head: &[u8], length: u64, wanted: Wanted) -> Result<Album, PcmError>
     Ok(numbers(wanted.rate, header))
 }
 
+// Whether there is a file with so many bytes of data: one or two channels, and whole frames, as many as the reader takes.
+#[tactic(auto, using(reference::proofs::Refusals::at_first, reference::proofs::Refusals::at_next, reference::proofs::Refusals::at_end), unfolding(crate::specs::Album::no_such_file))]
+fn such_file(rate: PcmRate, channels: u8, bytes: u64) -> Result<(), PcmError>
+    ensures { decision result ≡ decide (no_such_file rate channels bytes ∷ []) }
+{
+    if !wav_format::right_data(WavFormat { rate, channels }, bytes as usize) {
+        return Err(PcmError::NotWav);
+    }
+    Ok(())
+}
+
 // The header of a WAV file.
 #[tactic(auto, using(crate::proofs::Openings::head_refused, crate::proofs::Openings::head_wrong, crate::proofs::Openings::head_written, crate::proofs::Openings::head_fits))]
 pub fn header(rate: PcmRate, channels: u8, bytes: u64, out: &mut [u8]) -> Result<(), PcmError>
     ensures { HeaderPromise rate channels bytes out.old out.new result }
 {
-    wav_checks::told(channels, bytes as usize)?;
+    such_file(rate, channels, bytes)?;
     if out.len() != 44 {
         return Err(PcmError::OutputBytes(out.len(), 44));
     }

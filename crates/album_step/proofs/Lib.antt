@@ -1,1 +1,2 @@
 pub mod Working
+pub mod Called

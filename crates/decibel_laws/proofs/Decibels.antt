@@ -10,7 +10,8 @@ use lib.IntN.{ℤ, pos, negsuc}
 use lib.Ieee.{add, mul, div, lt, of_int, of_bits}
 use lib.Ieee.Fits.{and_l, and_r}
 use Rattle.numbers.proofs.Lists.{below_or}
-use Rattle.numbers.proofs.Tests.{each_below, each_below_at}
+use Rattle.numbers.specs.Tests.{each_below}
+use Rattle.numbers.proofs.Tests.{each_below_at}
 use Rattle.reference.specs.Scaling.{LN_10, magnitude, exponent, series, squared, db_to_linear}
 use Rattle.decibel_laws.specs.Decibels.{factor, low_power, ten_power, high_power, TrueDecibels, FactorsAreTrue, louder, across, FactorsGrow}
 

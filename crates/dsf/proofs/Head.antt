@@ -14,7 +14,8 @@ use Rattle.reference.specs.Refusals.{decide}
 use Rattle.reference.proofs.Refusals.{at_first, at_next}
 use Rattle.dsf.specs.Dsf.{number_of, number_at, bytes, Field, pairs, orders, layout, frequency, alike, any, all, fits, stated_length, channel_type, channels, bits_per_sample, samples, data_size, data_bytes, needed, frames, places_at, file_places}
 use Rattle.level_lines.specs.Text.{text}
-use Rattle.dsf.specs.Reading.{HeadOf, file_header, header_places}
+use Rattle.dsf.specs.Theorems.{HeaderRight}
+use Rattle.dsf.specs.Reading.{file_header, header_places}
 use Rattle.dsf.proofs.Alike.{left, right, alike_nil, ends_by}
 use Rattle.dsf.proofs.Tests.{too_short}
 
@@ -96,8 +97,7 @@ pub whole_head : (file : List ℕ) → decide (header_places file (length file))
 unfolding header_places file_places
 whole_head file = ⊎_elim (λ l. at_first _ _ (lt-ltb (length file) 92 l) ∙ sym (too_short file (length file) l)) (λ l. at_next _ _ (le-ltb (length file) 92 l)) (below_or (length file) 92)
 
--- what is answered from the first bytes and the length holds of every file that has them
-pub header_right : (file head : List ℕ) (n : ℕ) → HeadOf file head n → (decide (header_places head n) ≡ decide (file_places file)) × (file_header head ≡ file_header file)
+pub header_right : HeaderRight
 unfolding header_places file_places
 header_right file head n h =
     let same = places_same head file (sym h.begins) in (

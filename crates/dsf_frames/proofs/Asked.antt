@@ -26,6 +26,7 @@ use Rattle.dsf.proofs.Alike.{T_is, T_of, left, right, skip}
 use Rattle.dsf.proofs.Numbers.{number_small, each_take, each_drop}
 use Rattle.dsf.proofs.Accepted.{sound_at, head_channels}
 use Rattle.dsf.proofs.Head.{whole_head, header_right}
+use Rattle.dsf_frames.specs.Theorems.{WindowRight}
 use Rattle.dsf_frames.specs.Reading.{lesser, window_start, window_end, window_of, asked_places, window_places, window_data, window_frame, Framed, WindowOf}
 use Rattle.dsf_frames.specs.Columns.{WindowArgs}
 use Rattle.dsf_frames.specs.declared.FrameWindow.{FrameWindow}
@@ -222,8 +223,11 @@ module _ (file head : List ℕ) (n : ℕ) (h : HeadOf file head n) (b : Bytes fi
       (λ t. skip (ltb q (samples head / 8)) _ _ (λ u. omega (arith, ltb→lt q (samples head / 8) u)) ∙ sym (skip (ltb q (samples head / 8)) _ _ (λ u. omega (arith, ltb→lt q (samples head / 8) u))))
       (below_or q (samples head / 8))
 
-  pub window_right : window_frame head f window start ≡ file_frame file f
+  frame_is : window_frame head f window start ≡ file_frame file f
   unfolding file_header
-  window_right =
+  frame_is =
       frame_same (window_data window start) (file_data file) (channels head) (bits_per_sample head) (samples head) f few.0 cell
       ∙ ap (λ (x : DsfHeader). data_frame (file_data file) x.channels x.bits_per_sample x.samples f) same_header
+
+pub window_right : WindowRight
+window_right file head n h b window start w f room e = frame_is file head n h b window start w f room e

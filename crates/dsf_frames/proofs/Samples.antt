@@ -2,18 +2,19 @@
 use mathlib.Core.Path.{◌≡◌, refl, ap, ◌∙◌}
 use mathlib.Core.List.{List}
 use mathlib.Core.Bool.{Bool, true, false, cond}
-use Prim.Native.Nat.{ℕ, ◌+◌, ◌-◌, ◌*◌, ◌/◌, ◌%◌, ◌^◌, ◌≤◌, ◌<◌}
+use Prim.Native.Nat.{ℕ, ◌+◌, ◌-◌, ◌*◌, ◌/◌, ◌%◌, ◌^◌, ◌<◌}
 use native.Mathlib.Nat.{mod-lt, mul_assoc, mul-le-mul_right, add-mul}
 use native.Mathlib.Omega.{arith}
 use lib.Dec.{T, eqb, ltb, eqb→eq, lt→ltb, ltb→lt}
 use lib.ListN.{get_or}
 use Rattle.numbers.specs.Lists.{total}
 use Rattle.numbers.proofs.Lists.{get_d_tabulate}
-use Rattle.reference.specs.Frames.{idle}
-use Rattle.dsf.specs.Dsf.{Bytes, data_place, channels, bits_per_sample, samples, accepts, turned, our_byte, sample_byte, turn_byte, data_frame, file_data, file_byte, file_frame, sample_from_lowest, sample_from_highest, file_sample}
+use Rattle.dsf.specs.Dsf.{Bytes, data_place, channels, bits_per_sample, samples, frames, frames_in, turned, our_byte, sample_byte, turn_byte, data_frame, file_data, file_byte, file_frame, sample_from_lowest, sample_from_highest, file_sample}
 use Rattle.dsf.proofs.Alike.{pick, skip}
 use Rattle.dsf.proofs.Accepted.{sound}
-use Rattle.numbers.proofs.Tests.{each_below, each_below_at}
+use Rattle.numbers.specs.Tests.{each_below}
+use Rattle.numbers.proofs.Tests.{each_below_at}
+use Rattle.dsf_frames.specs.Theorems.{SamplesRight, IdlePast}
 use Rattle.dsf_frames.proofs.Blocks.{quotient, remainder}
 
 test : ℕ → ℕ → Bool
@@ -48,17 +49,15 @@ layout_right file f c p h l =
     let e : f * (4704 * n) + (p * n + c) ≡ (f * 4704 + p) * n + c = omega (arith, mul_assoc f 4704 n, add-mul (f * 4704) p n) in
     get_d_tabulate (turn_byte (file_data file) n (bits_per_sample file) (samples file)) (f * (4704 * n)) (4704 * n) (p * n + c) 0 (omega (arith, mul-le-mul_right n l)) ∙ rw (e, quotient (f * 4704 + p) n c h, remainder (f * 4704 + p) n c h)
 
--- sample t of channel c is a bit of its frame, counted from the highest of a byte
-pub samples_right : (file : List ℕ) → Bytes file → T (accepts file) → (c t : ℕ) → c < channels file → t < samples file
-    → sample_from_highest t (get_or (file_frame file (t / 8 / 4704)) (t / 8 % 4704 * channels file + c) 0) ≡ file_sample file c t
+pub samples_right : SamplesRight
+unfolding frames frames_in
 samples_right file b a c t h l =
     let s = sound file a in
     let p = layout_right file (t / 8 / 4704) c (t / 8 % 4704) h (omega arith) in
     let q : t / 8 / 4704 * 4704 + t / 8 % 4704 ≡ t / 8 = omega arith in
-    ap (sample_from_highest t) (p ∙ ap (file_byte file c) q) ∙ byte_right file b c t (omega (arith, s.whole))
+    (omega (arith, s.whole), ap (sample_from_highest t) (p ∙ ap (file_byte file c) q) ∙ byte_right file b c t (omega (arith, s.whole)))
 
--- past the last sample the bytes of a frame are idle
-pub idle_past : (file : List ℕ) (f c p : ℕ) → c < channels file → p < 4704 → samples file / 8 ≤ f * 4704 + p → get_or (file_frame file f) (p * channels file + c) 0 ≡ idle
+pub idle_past : IdlePast
 unfolding sample_byte
 idle_past file f c p h l m =
     layout_right file f c p h l ∙ skip (ltb (f * 4704 + p) (samples file / 8)) _ _ (λ t. omega (arith, ltb→lt (f * 4704 + p) (samples file / 8) t))

@@ -4,7 +4,8 @@ use mathlib.Core.Bool.{Bool, true, false, cond, ◌&&◌}
 use Prim.Native.Nat.{ℕ, ◌<◌}
 use lib.Dec.{T, eqb, ltb, eqb→eq}
 use Rattle.numbers.specs.Lists.{total}
-use Rattle.numbers.proofs.Tests.{each_below, each_below_at}
+use Rattle.numbers.specs.Tests.{each_below}
+use Rattle.numbers.proofs.Tests.{each_below_at}
 use Rattle.std.specs.Int.{w8, reverse_bits, reverse_bits_onto}
 use Rattle.dsf.specs.Dsf.{turned, our_byte}
 use Rattle.dsf.specs.Orders.{bit_order, ordered}

@@ -15,6 +15,7 @@ use Rattle.dsf.specs.Dsf.{bytes, fixed, layout, frequency, all, fits, stated_len
 use Rattle.dsf.specs.Reading.{HeadOf, header_places}
 use Rattle.dsf.proofs.Alike.{T_of, F_of, left, right, both, or_elim, or_right, ends_by}
 use Rattle.dsf.proofs.Head.{header_right, fits_same, layout_same, frequency_same, samples_same, needed_same, stated_same}
+use Rattle.dsf_upload.specs.Theorems.{Seen}
 use Rattle.dsf_upload.specs.Uploads.{OfEvery, known, known_length, HeadPromise}
 use Rattle.dsf_upload.specs.declared.Upload.{Upload}
 use Rattle.dsf_upload.specs.Deciding.{head_hopeful, hopeful}
@@ -88,8 +89,8 @@ module _ {file head : List ℕ} {n : ℕ} (h : HeadOf file head n) where
       let s : length (take 92 head) ≡ 92 = ap length (sym h.begins) ∙ length-take-le 92 file (omega (arith, h.long)) in
       ⊎_elim (λ k. let t : length (take 92 head) ≡ length head = ap length (take_all 92 head (omega arith)) in absurd (omega arith)) (λ k. k) (below_or (length head) 92)
 
-  pub seen : HeadOf file (take (known head n) head) (known_length head n)
-  seen =
+  seen_of : HeadOf file (take (known head n) head) (known_length head n)
+  seen_of =
       ⊎_elim
       (λ l.
       let k : known head n ≡ n = omega (arith, short l) in
@@ -99,6 +100,9 @@ module _ {file head : List ℕ} {n : ℕ} (h : HeadOf file head n) where
       let k : known head n ≡ 92 = omega (arith, long_head l) in
       rw k (record { begins = h.begins ∙ sym (take-take 92 92 head (omega arith)); long = h.long }))
       (below_or n 92)
+
+pub seen : Seen
+seen file head n h = seen_of h
 
 -- the answer for the bytes that count
 module _ (head : List ℕ) (n k : ℕ) (e : k ≡ known head n) (answer : Upload) where

@@ -12,6 +12,7 @@ use Rattle.numbers.proofs.Lists.{below_or}
 use Rattle.dsf.specs.Dsf.{Bytes, number_of, number_at, alike, any, all, fits, layout, pairs, orders, frequency, stated_length, channels, samples, blocks, data_bytes, needed, accepts}
 use Rattle.dsf_upload.specs.Uploads.{Continued, Hopeless, ShortestHopeless, UploadPromise}
 use Rattle.dsf_upload.specs.Deciding.{head_hopeful, hopeful}
+use Rattle.dsf_upload.specs.Theorems.{Decides, OneAnswer}
 use Rattle.dsf_upload.specs.declared.Upload.{Upload}
 use Rattle.dsf_upload.specs.declared.Upload.TheVariants.{Accepted, Unfinished, GiveUp}
 use Rattle.dsf.proofs.Numbers.{each_append, each_drop, each_take}
@@ -20,7 +21,7 @@ use Rattle.dsf_upload.proofs.Hopeful.{begins, stated_same, longer}
 use Rattle.dsf_upload.proofs.Completed.{continues}
 
 -- ---- in both directions
-pub decides : (p : List ℕ) → Bytes p → (T (hopeful p) → Continued p) × (Continued p → T (hopeful p))
+pub decides : Decides
 decides p b = (continues p b, λ c. begins p c.rest (each_append b c.are_bytes) c.accepted)
 
 pub hopeless : (p : List ℕ) → Bytes p → T (not (hopeful p)) → Hopeless p
@@ -105,13 +106,16 @@ module _ (file : List ℕ) (b : Bytes file) where
       (λ k. ⊎_elim (λ l. absurd (t.hopeless (s.shorter n l))) (λ l. omega arith) (below_or n m))
       (below_or m n)
 
-  pub one_answer : (x y : Upload) → UploadPromise file x → UploadPromise file y → x ≡ y
-  one_answer Accepted Accepted p q = refl
-  one_answer Accepted Unfinished p q = absurd (T_not (accepts file) q.0 p)
-  one_answer Accepted (GiveUp n) p q = absurd (T_not (accepts file) q.0 p)
-  one_answer Unfinished Accepted p q = absurd (T_not (accepts file) p.0 q)
-  one_answer Unfinished Unfinished p q = refl
-  one_answer Unfinished (GiveUp n) p q = not_both p.1 q.1
-  one_answer (GiveUp m) Accepted p q = absurd (T_not (accepts file) p.0 q)
-  one_answer (GiveUp m) Unfinished p q = not_both q.1 p.1
-  one_answer (GiveUp m) (GiveUp n) p q = ap GiveUp (same_turn m n p.1 q.1)
+  one_of_two : (x y : Upload) → UploadPromise file x → UploadPromise file y → x ≡ y
+  one_of_two Accepted Accepted p q = refl
+  one_of_two Accepted Unfinished p q = absurd (T_not (accepts file) q.0 p)
+  one_of_two Accepted (GiveUp n) p q = absurd (T_not (accepts file) q.0 p)
+  one_of_two Unfinished Accepted p q = absurd (T_not (accepts file) p.0 q)
+  one_of_two Unfinished Unfinished p q = refl
+  one_of_two Unfinished (GiveUp n) p q = not_both p.1 q.1
+  one_of_two (GiveUp m) Accepted p q = absurd (T_not (accepts file) p.0 q)
+  one_of_two (GiveUp m) Unfinished p q = not_both q.1 p.1
+  one_of_two (GiveUp m) (GiveUp n) p q = ap GiveUp (same_turn m n p.1 q.1)
+
+pub one_answer : OneAnswer
+one_answer file b x y p q = one_of_two file b x y p q

@@ -1,2 +1,3 @@
 pub mod Uploads
 pub mod Deciding
+pub mod Theorems

@@ -11,7 +11,7 @@ use lib.Seq.{get_or-take, get_or-drop, length-take-le}
 use Rattle.numbers.specs.Lists.{tabulate}
 use Rattle.numbers.proofs.Lists.{part_end, below_or, length_tabulate, get_d_tabulate, is_tabulate}
 use Rattle.reference.specs.Frames.{frame, frame_count}
-use Rattle.dsf.specs.Dsf.{Bytes, number_of, number_at, bytes, pair, alike, blocks, data_bytes, data_place, stated_length, channel_type, channels, bits_per_sample, samples, data_size, needed, frames, turned, our_byte, sample_byte, turn_byte, data_frame, file_data, file_byte, file_frame}
+use Rattle.dsf.specs.Dsf.{Bytes, number_of, number_at, bytes, pair, alike, blocks, data_bytes, data_place, stated_length, channel_type, channels, bits_per_sample, samples, data_size, needed, frames, turned, our_byte, sample_byte, turn_byte, data_frame, file_data, file_byte}
 use Rattle.dsf.specs.Headers.{header}
 use Rattle.dsf.proofs.Alike.{Alike, seg, join, pick, skip, T_is}
 use Rattle.dsf.proofs.Numbers.{padded, number_padded, alike_padded, bytes_number, each_padded, each_drop, field_alike}
@@ -22,6 +22,7 @@ use Rattle.dsf.proofs.Headers as H
 use Rattle.dsf_frames.proofs.Blocks.{quotient, remainder}
 use Rattle.dsf_frames.proofs.Turned.{turned_twice}
 use Rattle.dsf_write.specs.Written.{type_of, data_channel, data_byte, written_channel, written_data, written_byte, written, all_frames, Plain, Writable}
+use Rattle.dsf_write.specs.Theorems.{Rewritten, FrameOfAll}
 use Rattle.dsf_write.proofs.Places.{place_is, channel_below, byte_below}
 
 bytes_padded : (l : List ℕ) → Bytes l → bytes 8 (number_of (take 8 l)) ≡ padded 8 l
@@ -151,8 +152,10 @@ module _ (file : List ℕ) (b : Bytes file) (pl : Plain file) where
         few = rw count pl.few;
       }
 
--- what was read, joined, holds each frame
-pub frame_of_all : (file : List ℕ) (f : ℕ) → f < frames file → frame (channels file) (all_frames file) f ≡ file_frame file f
+pub rewritten : Rewritten
+rewritten file b pl = (read_writable file b pl, written_back file b pl)
+
+pub frame_of_all : FrameOfAll
 unfolding frame all_frames data_frame
 frame_of_all file f l =
     let size = 4704 * channels file in

@@ -22,6 +22,7 @@ use Rattle.dsf.proofs.Headers as H
 use Rattle.dsf_frames.proofs.Blocks.{place_below}
 use Rattle.dsf_frames.proofs.Turned.{turned_twice}
 use Rattle.dsf_write.specs.Written.{type_of, written_channel, written_data, written_byte, written, Writable, Plain}
+use Rattle.dsf_write.specs.Theorems.{WrittenRead}
 use Rattle.dsf_write.proofs.Places.{channel_is, byte_is}
 
 -- ---- 1 to 6 channels
@@ -207,3 +208,6 @@ module _ (n : ℕ) (fr : List ℕ) (w : Writable n fr) where
             let l' : q < blocks m * 4096 = rw is_channel_length at l in
             rw is_channels (placed c q h' l' ∙ skip (ltb q m) _ _ (λ t. omega (arith, is_channel_length, ltb→lt q m t)));
       }
+
+pub written_reads : WrittenRead
+written_reads n fr w = record { accepted = written_accepted n fr w; frames = written_frames n fr w; frame = written_frame n fr w; plain = written_plain n fr w }

@@ -31,7 +31,7 @@ use Rattle.dsf.proofs.Accepted.{head_channels}
 use Rattle.dsf.proofs.Head.{header_right}
 use Rattle.dsf_frames.specs.Reading.{window_places, window_frame}
 use Rattle.dsf_frames.proofs.Asked.{window_right}
-use Rattle.interface.specs.Codes.{hertz}
+use Rattle.reference.specs.Codes.{hertz}
 use Rattle.wav_format.specs.Wav.{header, wav_file, frame_size}
 use Rattle.wav_format.proofs.Reading.{length_header}
 use Rattle.album.specs.Album.{settings_for, later_places, album_places, album_of, album_converter}
@@ -268,7 +268,7 @@ module _ (file : List ℕ) (b : Bytes file) (w : Wanted) (taken : decide (album_
   unfolding run_from album_run there
   whole_run = rw (zero-add f, le-ltb f f (omega arith)) refl
 
-  fits_album : decide (input_places rack conv' (album_run file)) ≡ accepted
+  pub fits_album : decide (input_places rack conv' (album_run file)) ≡ accepted
   unfolding converter_of
   fits_album = rw (← whole_run) (fits_run conv' (some file (length file) w taken) F (file_frame_length file) f 0 f (few file (length file) w taken))
 
@@ -301,7 +301,7 @@ module _ (file : List ℕ) (b : Bytes file) (w : Wanted) (taken : decide (album_
   abbrev size : ℕ
   size = frame_size w.rate n
 
-  bytes_long : (s : Step file w) → length s.out' ≡ s.count * size
+  pub bytes_long : (s : Step file w) → length s.out' ≡ s.count * size
   unfolding s24le samples converter_of
   bytes_long s =
       ap length (good file b w s).bytes ∙ length_tabulate _ _ _ ∙ ap (λ (k : ℕ). 3 * k) (length_tabulate _ _ _)

@@ -1,2 +1,5 @@
 pub mod FileToFile
 pub mod Planned
+pub mod CanBeMet
+pub mod Limits
+pub mod Called

@@ -215,7 +215,7 @@ module _ (file : List ℕ) (w : Wanted) (jobs : ℕ) (few : frames file ≤ 5400
   no_more j [] e = omega arith
   no_more j (p ∷ ps) e = omega (arith, no_more (j + 1) ps e.1)
 
-  part_is : (j : ℕ) → j < jobs → part (frames file) jobs j ≡ record { first = part_first P jobs j; end = part_first P jobs (j + 1) }
+  pub part_is : (j : ℕ) → j < jobs → part (frames file) jobs j ≡ record { first = part_first P jobs j; end = part_first P jobs (j + 1) }
   unfolding part part_at
   part_is j h = rw (le-leb (frames file) 540000 few, le-leb jobs 64 most, lt-ltb j jobs h) refl
 
@@ -247,7 +247,7 @@ module _ (file : List ℕ) (w : Wanted) (taken : decide (album_places file (leng
     pub call_taken : decision c.answer ≡ accepted
     call_taken = c.promise.answered.decided ∙ passes
 
-    pub step_of : Step file w
+    unfoldable pub step_of : Step file w
     step_of = record {
       head = c.head;
       n = c.n;

@@ -5,7 +5,7 @@ use Rattle.reference.specs.Output.{samples, stats, s24le}
 use Rattle.reference.specs.Statistics.{all_joined}
 use Rattle.reference.specs.Promises.{Converted, stats_told}
 use Rattle.reference.specs.Refusals.{decide, decision, accepted}
-use Rattle.interface.specs.Codes.{hertz}
+use Rattle.reference.specs.Codes.{hertz}
 use Rattle.dsf.specs.Dsf.{Bytes, channels, frames}
 use Rattle.dsf.specs.Reading.{HeadOf}
 use Rattle.dsf_frames.specs.Reading.{WindowOf}

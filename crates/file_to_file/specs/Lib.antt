@@ -1,2 +1,3 @@
 pub mod FileToFile
 pub mod Planned
+pub mod Limits

@@ -10,7 +10,7 @@ use Rattle.reference.specs.Refusals.{decide, decision, accepted}
 use Rattle.reference.specs.declared.ConvertStats.{ConvertStats}
 use Rattle.stretches.specs.Joining.{joined_on}
 use Rattle.sheet.specs.Sheet.{sheet}
-use Rattle.interface.specs.Codes.{hertz}
+use Rattle.reference.specs.Codes.{hertz}
 use Rattle.dsf.specs.Dsf.{Bytes, channels, frames}
 use Rattle.dsf.specs.Dsf as dsf
 use Rattle.dsf.specs.Reading.{HeadOf}
@@ -22,7 +22,7 @@ use Rattle.album_plan.specs.Plan.{part, piece}
 use Rattle.album_plan.specs.declared.Piece.{Piece}
 use Rattle.album_gather.specs.Steps.{StepPromise, album_run, step_places, lent_lists}
 use Rattle.album_gather.specs.declared.Lent.{Lent}
-use Rattle.file_to_file.specs.FileToFile.{Step, Cut, Holds}
+use Rattle.file_to_file.specs.FileToFile.{Step, Cut, Holds, Written}
 
 -- ---- a piece
 
@@ -126,3 +126,22 @@ PlanToFile = (file : List ℕ) → Bytes file → (w : Wanted) (jobs : ℕ) (par
 abbrev pub SheetToFile : Type 0
 SheetToFile = (file : List ℕ) → Bytes file → (w : Wanted) (steps : List (Step file w)) → decide (album_places file (length file) w) ≡ accepted → Cut 0 (frames file) steps → (n : ℕ)
     → sheet n (all_joined (map (λ s. stats_told s.answer) steps)) ≡ sheet n (stats (album_converter w file) (album_run file))
+
+-- ---- there are such calls, and such a file
+
+-- the file that the definition gives meets every cut: no piece contradicts another, and by `FileToFile` they leave no hole. Proved in
+-- proofs/CanBeMet, `cut_meets`
+abbrev pub CutMeets : Type 0
+CutMeets = (file : List ℕ) → Bytes file → (w : Wanted) (steps : List (Step file w)) → decide (album_places file (length file) w) ≡ accepted → Cut 0 (frames file) steps
+    → Written steps (wav_file w.rate (channels file) (s24le (samples (album_converter w file) (album_run file))))
+
+-- calls for all parts, and the file that holds what they wrote
+pub record PlanMet (file : List ℕ) (w : Wanted) (jobs : ℕ) : Type 0 where
+  pub parts : List (List (PieceCall file w))
+  pub called : Parts jobs 0 parts
+  pub out : List ℕ
+  pub written : PlanWritten parts out
+
+-- for every accepted album and 1 to 64 jobs. Proved in proofs/CanBeMet, `plan_met`
+abbrev pub PlanCanBeMet : Type 0
+PlanCanBeMet = (file : List ℕ) → Bytes file → (w : Wanted) (jobs : ℕ) → decide (album_places file (length file) w) ≡ accepted → 0 < jobs → jobs ≤ 64 → PlanMet file w jobs

@@ -12,7 +12,7 @@ use Rattle.numbers.specs.Lists.{total}
 use Rattle.numbers.proofs.Integers.{abs_add, abs_neg, add_mul}
 use Rattle.numbers.proofs.Lists.{below_or, total_same, total_join}
 use Rattle.reference.specs.Stages.{tap, M, fir}
-use Rattle.reference.proofs.Sizes.{absolute_sum}
+use Rattle.reference.specs.Sizes.{absolute_sum}
 use Rattle.filters.specs.Filters.{ones, Filter}
 use Rattle.filters.specs.Lanes.{arms}
 use Rattle.filters.proofs.Pairs.{fir_is}

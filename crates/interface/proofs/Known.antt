@@ -36,11 +36,6 @@ filled_to d f made n m least most e held =
     let same : n ≡ m = omega arith in
     filled d f made m e (rw same at held)
 
--- a flag's choice
-pub then_is : {A : Type 0} (b : Bool) (a : A) → then_some b a ≡ cond b (Some a) None
-then_is true a = refl
-then_is false a = refl
-
 -- a mark that is no flag
 pub unknown_mark : (l : List ℕ) (c n : ℕ) → c < n → known_flag (get_or l c 0) ≡ false → flags l n ≡ false
 unfolding flags

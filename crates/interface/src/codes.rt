@@ -1,6 +1,6 @@
 // The interface's numbers read as settings, each as `None` where it is unknown. Numbers, flags and lists, one by one,
 // are those of the C calls; here they become types.
-ghost use Rattle.std.specs.Prelude.{◌≡◌, ◌&&◌};
+ghost use Rattle.std.specs.Prelude.{◌≡◌, Some, None, cond, ◌&&◌};
 ghost use Rattle.reference.specs.Stages as stages;
 ghost use Rattle.interface.specs.Codes as codes;
 ghost use Rattle.interface.specs.Codes.{if_known};
@@ -65,6 +65,13 @@ fn listed(taps: &[i32]) -> Filter
     }
 }
 
+// The filter of taps that are given. Where none is given the list is not read: C may pass any pointer.
+fn given(own: bool, taps: &[i32]) -> Option<Filter>
+    ensures { result ≡ cond own (Some (spelled.listed taps.now)) None }
+{
+    if own { Some(listed(taps)) } else { None }
+}
+
 // Settings as numbers and lists: the gain as decibels and factor, and the taps of a filter, which is given if the flag
 // `own` says so.
 #[derive(Clone, Copy)]
@@ -88,7 +95,7 @@ impl SettingNumbers<'_> {
             cutoff: cutoff_of(self.cutoff)?,
             channels: self.channels,
             gain: gain_of(self.gain)?,
-            filter: flag_of(self.own)?.then_some(listed(self.taps)),
+            filter: given(flag_of(self.own)?, self.taps),
         })
     }
 }

@@ -1,1 +1,3 @@
+pub mod Known
+pub mod Coming
 pub mod Moving

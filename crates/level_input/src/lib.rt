@@ -1,7 +1,9 @@
 // Reading from a reader, which may give its bytes in pieces of any size; and the buffer of three frames moved on.
 #![tactic(auto)]
 
-ghost use Rattle.std.specs.Prelude.{◌≡◌, ◌+◌, ◌*◌, ◌<◌, ◌≤◌, length, IfOk, IfSome};
+ghost use Rattle.std.specs.Prelude.{◌≡◌, ◌+◌, ◌*◌, ◌<◌, ◌≤◌, length, take, drop, IfOk, IfSome};
+ghost use Rattle.std.specs.Io.KnownBytes.{Consumes, IsAtEnd, ReadConsumes};
+ghost use Rattle.level_input.specs.Lines.{LineCame};
 ghost use Rattle.level_input.specs.Moved.{moved_on};
 
 use std::io;
@@ -10,14 +12,18 @@ use std::io::Read;
 // One read into the slice from place n on: how many bytes came, at least one, or none where the input has ended. An error is that of the read.
 pub fn read_some<R: Read>(from: &mut R, bytes: &mut [u8], n: usize) -> io::Result<usize>
     requires { n < length bytes.old }
-    ensures { IfOk result (λ more. n + more ≤ length bytes.old) }
+    ensures fits { IfOk result (λ more. n + more ≤ length bytes.old) }
+    ensures bytes { ReadConsumes (R.remaining from.old) (R.remaining from.new) result (drop n bytes.new) }
+    ensures kept { take n bytes.new ≡ take n bytes.old }
 {
     from.read(&mut bytes[n..])
 }
 
 // Reads until the slice is full, the input ends or a read fails: how many bytes came. Fewer than asked for mean that the input has ended.
 pub fn fill<R: Read>(from: &mut R, bytes: &mut [u8]) -> io::Result<usize>
-    ensures { IfOk result (λ n. n ≤ length bytes.old) }
+    ensures fits { IfOk result (λ n. n ≤ length bytes.old) }
+    ensures bytes { IfOk result (λ n. Consumes (R.remaining from.old) (R.remaining from.new) (take n bytes.new)) }
+    ensures end { IfOk result (λ n. n < length bytes.old → IsAtEnd (R.remaining from.new)) }
 {
     let mut n = 0;
     // By as many bytes as a read gives: no step is that of a `for`.
@@ -33,7 +39,8 @@ pub fn fill<R: Read>(from: &mut R, bytes: &mut [u8]) -> io::Result<usize>
 
 // Reads a line byte by byte, and no byte past its newline or past the slice: how many bytes stand before the newline, where it came.
 pub fn read_line<R: Read>(from: &mut R, line: &mut [u8]) -> io::Result<Option<usize>>
-    ensures { IfOk result (λ came. IfSome came (λ n. n ≤ length line.old)) }
+    ensures fits { IfOk result (λ came. IfSome came (λ n. n ≤ length line.old)) }
+    ensures line { IfOk result (LineCame line.new (R.remaining from.old) (R.remaining from.new)) }
 {
     for n in 0..line.len() {
         let got = fill(from, &mut line[n..n + 1])?;

@@ -2,15 +2,24 @@
 use mathlib.Core.Path.{◌≡◌, refl, sym, ap, ap₂, subst, ◌∙◌}
 use mathlib.Core.List.{List, [], ◌∷◌, ◌++◌}
 use mathlib.Core.Bool.{Bool}
-use Prim.Native.Nat.{ℕ, ◌+◌, ◌-◌, ◌*◌, ◌≤◌}
+use Prim.Native.Nat.{ℕ, suc, ◌+◌, ◌-◌, ◌*◌, ◌≤◌, ◌<◌}
+use native.Mathlib.Nat.{suc-mul}
 use native.Mathlib.Omega.{arith}
+use borrow.Rule.Slice.PartMut.{put_mid, mid_of, mid_len, same_len_mid}
 use lib.Dec.{eqb, ltb}
 use lib.ListN.{length, take, drop, length-append, length-drop}
 use lib.Seq.{length-take-le, take-take, take-add, take_at, drop_at, drop-drop, take-append-le, drop-append-le}
+use Rattle.std.specs.Prelude.{Option}
+use Rattle.std.specs.Io.KnownBytes.{Consumes, Appends, IsAtEnd}
+use Rattle.std.proofs.lemmas.Slice.{take-put_mid}
 use Rattle.reference.specs.Frames.{Run, run}
+use Rattle.level_lines.specs.Text.{joined}
+use Rattle.level_input.proofs.Known.{consumes_more, appends_none, appends_more}
 use Rattle.level_input.specs.Moved.{moved_on}
 use Rattle.level_stream.specs.Buffers.{part, at_hand}
 use Rattle.level_stream.specs.Turns.{OneLong, Place, place, handed, Went, Reached}
+use Rattle.level_stream.specs.Passed.{here, come, told, Passed, PassedTo}
+use Rattle.level_stream.proofs.Printing.{joined_more}
 
 -- ---- parts of the buffer
 
@@ -66,6 +75,28 @@ module _ (size : ℕ) where
     middle_same : part size (2 * size) filled ≡ part size (2 * size) l
     middle_same = middle filled (omega (arith, room)) ∙ ap (drop size) same ∙ sym (middle l (omega (arith, long)))
 
+-- the first frame, read to its place in the middle
+module _ (size left : ℕ) (xs ys : List ℕ) (room : 3 * size ≤ length xs) (long : length ys ≡ length (mid_of size (2 * size - size) xs)) where
+  abbrev all : List ℕ
+  all = put_mid size (2 * size - size) xs ys
+
+  one : length ys ≡ size
+  one = long ∙ mid_len size (2 * size) xs (omega (arith, room)) ∙ omega arith
+
+  first_is : part size (2 * size) (take (3 * size) all) ≡ ys
+  first_is =
+      let same : length all ≡ length xs = same_len_mid size (2 * size - size) xs ys long in
+      let three : length (take (3 * size) all) ≡ 3 * size = length-take-le (3 * size) all (omega (arith, room, same)) in
+      middle size (take (3 * size) all) (omega (arith, three))
+      ∙ ap (drop size) (take-take (2 * size) (3 * size) all (omega arith) ∙ take-put_mid size (2 * size - size) xs ys (2 * size) (omega (arith, one)) (omega (arith, room)))
+      ∙ drop_at (take size xs) ys size (length-take-le size xs (omega (arith, room)))
+
+  pub first_read : (rem rem' : Option (List ℕ)) → Consumes rem rem' (take left ys) → Consumes rem rem' (take left (part size (2 * size) (take (3 * size) all)))
+  first_read rem rem' r = subst (λ z. Consumes rem rem' (take left z)) (sym first_is) r
+
+  pub first_end : (rem' : Option (List ℕ)) → (left < length ys → IsAtEnd rem') → left < size → IsAtEnd rem'
+  first_end rem' end l = end (omega (arith, l, one))
+
 -- ---- a turn: the frame after is read, and the step has the frame at hand
 
 hand_long : (size number : ℕ) (there : Bool) (l : List ℕ) → length l ≡ 3 * size → OneLong size (at_hand number there size l)
@@ -103,6 +134,27 @@ went {S} {does} {s} {s'} {r} {size} {frames} {left} {came} {three} {next} filled
   done = subst (λ p. does s frames p s') (is ∙ handed_is size frames left came three filled next e long room same) d;
 }
 
+-- what has come of the frame after, where it lies once the buffer has moved on
+fresh_is : (size : ℕ) (l fresh tail filled next : List ℕ) → filled ≡ take (2 * size) l ++ (fresh ++ tail) → length fresh ≡ size → next ≡ moved_on size filled → length l ≡ 3 * size
+    → length filled ≡ 3 * size → part size (2 * size) next ≡ fresh
+fresh_is size l fresh tail filled next so one e long room =
+    let front : length (take (2 * size) l) ≡ 2 * size = length-take-le (2 * size) l (omega (arith, long)) in
+    let after : drop (2 * size) filled ≡ fresh ++ tail = ap (drop (2 * size)) so ∙ drop_at (take (2 * size) l) (fresh ++ tail) (2 * size) front in
+    ap (part size (2 * size)) e
+    ∙ moved_middle size filled room
+    ∙ ap (take (length filled - 2 * size)) after
+    ∙ take_at fresh tail (length filled - 2 * size) (omega (arith, room, one))
+
+pub passed : {S : Type 0} {tells : S → ℕ → Run → List ℕ} {s : S} {r : Run} {size frames left came : ℕ} {three next : List ℕ} (rem rem' held held' : Option (List ℕ)) (fresh tail filled : List ℕ)
+    → filled ≡ take (2 * size) three ++ (fresh ++ tail) → length fresh ≡ size → Consumes rem rem' (take came fresh) → (came < size → IsAtEnd rem') → Appends held held' (tells s frames r)
+    → r ≡ at_hand frames (eqb came size) size filled → next ≡ moved_on size filled → length three ≡ 3 * size → length filled ≡ 3 * size → take (2 * size) filled ≡ take (2 * size) three
+    → Passed tells size s (place frames left three) (place (frames + 1) came next) rem rem' held held'
+passed {S} {tells} {s} {r} {size} {frames} {left} {came} {three} {next} rem rem' held held' fresh tail filled so one read end wrote is e long room same = record {
+  read = subst (λ z. Consumes rem rem' (take came z)) (sym (fresh_is size three fresh tail filled next so one e long room)) read;
+  end = end;
+  wrote = subst (λ p. Appends held held' (tells s frames p)) (is ∙ handed_is size frames left came three filled next e long room same) wrote;
+}
+
 -- the first frames of a slice are kept where the rest is written
 pub kept_front : (k : ℕ) (l rest : List ℕ) → k ≤ length l → take k (take k l ++ rest) ≡ take k l
 kept_front k l rest h = take_at (take k l) rest k (length-take-le k l h)
@@ -117,6 +169,45 @@ pub reached_more : {S : Type 0} {does : S → ℕ → Run → S → Type 0} {siz
     → Reached does size start s p → Went does size s p s' next → Reached does size start s' next
 reached_more {S} {does} {size} {start} {s} {s'} {p} {next} l w =
     record { turns = record { before = s; after = s'; from = p; to = next; went = w } ∷ l.turns; lead = (refl, refl, l.lead) }
+
+-- what they have read and passed on
+pub none_passed : {S : Type 0} {does : S → ℕ → Run → S → Type 0} {tells : S → ℕ → Run → List ℕ} {size left : ℕ} {s : S} {three : List ℕ} (rem rem' held : Option (List ℕ))
+    → left ≤ size → length three ≡ 3 * size → Consumes rem rem' (take left (part size (2 * size) three)) → (left < size → IsAtEnd rem')
+    → PassedTo does tells size s s (place 0 left three) rem rem' held held
+unfolding come told joined begun
+none_passed {S} {does} {tells} {size} {left} {s} {three} rem rem' held few room read end = record {
+  reached = begun few room;
+  few = few;
+  long = length-take-le left (part size (2 * size) three) (omega (arith, few, middle_long size three room)) ∙ omega arith;
+  read = read;
+  end = end;
+  wrote = appends_none held;
+}
+
+pub passed_more : {S : Type 0} {does : S → ℕ → Run → S → Type 0} {tells : S → ℕ → Run → List ℕ} {size : ℕ} {start s s' : S} {p next : Place} (rem rem' rem'' held held' held'' : Option (List ℕ))
+    → PassedTo does tells size start s p rem rem' held held' → Went does size s p s' next → Passed tells size s p next rem' rem'' held' held''
+    → PassedTo does tells size start s' next rem rem'' held held''
+unfolding come told reached_more
+passed_more {S} {does} {tells} {size} {start} {s} {s'} {p} {next} rem rem' rem'' held held' held'' so w t = record {
+  reached = reached_more so.reached w;
+  few = w.came;
+  long =
+      length-append (come size so.reached.turns p) (here size next)
+      ∙ ap₂ ◌+◌ (so.long ∙ ap (λ n. p.frames * size + n) w.whole)
+      (length-take-le next.left (part size (2 * size) next.three) (omega (arith, w.came, middle_long size next.three w.room)))
+      ∙ ap (λ n. n + next.left) (sym (suc-mul p.frames size) ∙ let one_more : suc p.frames ≡ next.frames = omega (arith, w.frames) in ap (λ k. k * size) one_more);
+  read = consumes_more rem rem' rem'' (come size so.reached.turns p) (here size next) so.read t.read;
+  end = t.end;
+  wrote =
+      subst
+      (Appends held held'')
+      (sym (joined_more (told tells size so.reached.turns) (tells s p.frames (handed size p next))))
+      (appends_more held held' held'' (joined (told tells size so.reached.turns)) (tells s p.frames (handed size p next)) so.wrote t.wrote);
+}
+
+pub passed_as : {S : Type 0} {tells : S → ℕ → Run → List ℕ} {n size : ℕ} {s : S} {p next : Place} (rem rem' held held' : Option (List ℕ)) → n ≡ size
+    → Passed tells n s p next rem rem' held held' → Passed tells size s p next rem rem' held held'
+passed_as {S} {tells} {n} {size} {s} {p} {next} rem rem' held held' e w = subst (λ k. Passed tells k s p next rem rem' held held') e w
 
 pub went_as : {S : Type 0} {does : S → ℕ → Run → S → Type 0} {n size : ℕ} {s s' : S} {p next : Place} → n ≡ size → Went does n s p s' next → Went does size s p s' next
 went_as {S} {does} {n} {size} {s} {s'} {p} {next} e w = subst (λ k. Went does k s p s' next) e w

@@ -25,12 +25,13 @@ use Rattle.level_settings.specs.declared.LineSettings.{LineSettings}
 use Rattle.levels.specs.Levels.{read_settings, whole_input, FrameOf, InProgress, piece_lines}
 use Rattle.levels.proofs.Whole.{lines_same, states_same, clips_same}
 use Rattle.level_stream.specs.Report.{ending, left_over, all_clips, lines_of, text_by, report_text}
-use Rattle.level_stream.specs.Buffers.{part, Moment, told_frame, Turned, First, Turn, LeadTo, texts, Led, ToldWhole, AllTold}
+use Rattle.level_stream.specs.Buffers.{part, Moment, told_frame, Turned, First, Turn, LeadTo, texts, bytes, Led, ToldWhole, AllTold}
 
 -- the bytes that have come by a moment, where they lie in the buffer, and what is told of any input that begins with them; where the frame
 -- at hand is not whole, that is the input
 record Come (conv : Converter) (turns : List (Turn conv)) (m : Moment) : Type 0 where
   input : List ℕ
+  is : input ≡ bytes turns m
   long : length input ≡ m.frames * frame_length conv.channels + m.left
   came : m.left ≤ frame_length conv.channels
   room : length m.three ≡ 3 * frame_length conv.channels
@@ -55,7 +56,7 @@ module _ (ch : ℕ) where
       ∙ take-append-le size (drop (k * size) xs) ys (omega (arith, length-drop (k * size) xs))
 
 begins : (conv : Converter) → conv.channels ≤ 6 → (m : Moment) → First conv m → Come conv [] m
-unfolding texts tabulate total
+unfolding texts bytes tabulate total
 begins conv few m s =
     let size = frame_length conv.channels in
     let hand = part size (2 * size) m.three in
@@ -63,6 +64,7 @@ begins conv few m s =
     let at : m.frames * size ≡ 0 = ap (λ k. k * size) s.frames ∙ zero-mul size in
     record {
       input = take m.left hand;
+      is = refl;
       long = n ∙ omega (arith, at);
       came = s.came;
       room = s.room;
@@ -211,8 +213,10 @@ module _ (conv : Converter) (some : 0 < conv.channels) (few : conv.channels ≤ 
         rw one_told (subst (InProgress conv (whole_input ch all) (suc f)) (sym t.turned.carried) (states_same conv all f piece frame_of t.from.states before_it few))
 
   goes_on : Come conv (t ∷ ts) t.to
+  unfolding bytes
   goes_on = record {
     input = so.input ++ fresh;
+    is = ap (λ z. z ++ fresh) so.is;
     long = length-append so.input fresh ∙ ap₂ ◌+◌ (in_frames ∙ ap (λ n. n * long) (sym one_told)) fresh_long;
     came = t.turned.came;
     room = t.turned.room;
@@ -256,6 +260,7 @@ module _ (conv : Converter) (some : 0 < conv.channels) (turns : List (Turn conv)
   unfolding text_by
   ended = record {
     input = so.input;
+    come = so.is;
     frames = frames_are;
     clipped = clips_are;
     left = left_is;
@@ -267,7 +272,7 @@ pub told_whole : (conv : Converter) → 0 < conv.channels → conv.channels ≤ 
 told_whole conv some six turns m l few = ended conv some turns m few (come conv some six turns m l)
 
 -- one turn more
-pub led_more : {conv : Converter} {m next : Moment} {text text' : List ℕ} {n : ℕ} → Led conv m → Turned conv m text next text' n → Led conv next
+unfoldable pub led_more : {conv : Converter} {m next : Moment} {text text' : List ℕ} {n : ℕ} → Led conv m → Turned conv m text next text' n → Led conv next
 led_more {conv} {m} {next} {text} {text'} {n} l t = record { turns = record { from = m; to = next; text = text; text' = text'; n = n; turned = t } ∷ l.turns; led = (refl, l.led) }
 
 pub all_told : (conv : Converter) (size : ℕ) (m : Moment) → decide (held_places conv) ≡ accepted → size ≡ frame_length conv.channels → Led conv m → m.left < size → AllTold conv m

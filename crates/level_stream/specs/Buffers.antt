@@ -1,5 +1,6 @@
 -- The buffer of three frames (the one before, the one at hand, the one after), a turn of the report, and turns one after the other.
-use Rattle.std.specs.Prelude.{◌≡◌, Bool, List, [], ◌∷◌, ◌++◌, ℕ, ◌+◌, ◌-◌, ◌*◌, ◌≤◌, eqb, ltb, length, take, drop, replicate}
+use Rattle.std.specs.Prelude.{◌≡◌, Bool, List, [], ◌∷◌, ◌++◌, ℕ, ◌+◌, ◌-◌, ◌*◌, ◌<◌, ◌≤◌, Option, eqb, ltb, length, take, drop, replicate}
+use Rattle.std.specs.Io.KnownBytes.{Consumes, Appends, IsAtEnd}
 use Rattle.reference.specs.Frames.{Run, run, frame_length, frame_count}
 use Rattle.reference.specs.Output.{frame_clips}
 use Rattle.reference.specs.declared.Converter.{Converter}
@@ -90,6 +91,11 @@ unfoldable pub texts : {conv : Converter} → List (Turn conv) → List (List �
 texts [] = []
 texts (t ∷ ts) = texts ts ++ (take t.n t.text' ∷ [])
 
+-- the bytes that they have read, with what has come of the frame at hand at the moment
+unfoldable pub bytes : {conv : Converter} → List (Turn conv) → Moment → List ℕ
+bytes {conv} [] m = take m.left (part (frame_length conv.channels) (2 * frame_length conv.channels) m.three)
+bytes {conv} (t ∷ ts) m = bytes ts t.from ++ take m.left (part (frame_length conv.channels) (2 * frame_length conv.channels) m.three)
+
 pub record Led (conv : Converter) (m : Moment) : Type 0 where
   pub turns : List (Turn conv)
   pub led : LeadTo turns m
@@ -98,6 +104,7 @@ pub record Led (conv : Converter) (m : Moment) : Type 0 where
 -- left-over bytes; and the texts passed on, with the end of these numbers, are its text
 pub record ToldWhole (conv : Converter) (turns : List (Turn conv)) (m : Moment) : Type 0 where
   pub input : List ℕ
+  pub come : input ≡ bytes turns m
   pub frames : m.frames ≡ frame_count conv.channels input
   pub clipped : m.clipped ≡ all_clips conv input
   pub left : m.left ≡ left_over conv input
@@ -113,3 +120,16 @@ pub record AllTold (conv : Converter) (m : Moment) : Type 0 where
 pub record Everything (conv : Converter) (frames clipped : ℕ) (states : List Progress) (left : ℕ) : Type 0 where
   pub three : List ℕ
   pub told : AllTold conv (moment frames clipped states left three)
+
+-- what `turns` promises of the bytes that it has read and the text that it has passed on: with the end they are all of
+-- the reader's, and their text; it stops before the end only after so many frames
+pub record TurnsTold (conv : Converter) (frames clipped left : ℕ) (from from' held held' : Option (List ℕ)) : Type 0 where
+  pub input : List ℕ
+  pub text : List ℕ
+  pub few : left ≤ frame_length conv.channels
+  pub many : left ≡ frame_length conv.channels → frames ≡ 100000000000000
+  pub long : length input ≡ frames * frame_length conv.channels + left
+  pub read : Consumes from from' input
+  pub end : left < frame_length conv.channels → IsAtEnd from'
+  pub wrote : Appends held held' text
+  pub whole : left < frame_length conv.channels → text ++ ending left frames clipped ≡ text_by conv input (lines_of conv input)

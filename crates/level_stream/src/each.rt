@@ -1,8 +1,10 @@
 // Frame by frame from a reader, one frame ahead: a step has each frame with the frames before and after it.
-ghost use Rattle.std.specs.Prelude.{◌≡◌, ℕ, ◌+◌, ◌*◌, ◌<◌, ◌≤◌, length, IfOk};
+ghost use Rattle.std.specs.Prelude.{◌≡◌, ℕ, ◌+◌, ◌*◌, ◌<◌, ◌≤◌, List, length, IfOk};
+ghost use Rattle.std.specs.Io.KnownBytes.{Appends};
 ghost use Rattle.reference.specs.Frames.{Run as Piece, run_of};
 ghost use Rattle.level_stream.specs.Buffers as hand;
 ghost use Rattle.level_stream.specs.Turns.{OneLong, place, Went, Ended};
+ghost use Rattle.level_stream.specs.Passed.{Passed, PassedOn};
 
 use level_input::{fill, move_on};
 use reference::Run;
@@ -24,11 +26,15 @@ pub trait Step {
     // what a frame under its number makes of the step
     ghost does: { Self → ℕ → Piece → Self → Type 0 };
 
+    // what is told of a frame under its number
+    ghost tells: { Self → ℕ → Piece → List ℕ };
+
     // The frame of a number, which counts from 0, with its neighbours; what is told of it at once goes to a writer.
     fn frame<'a, W: Write>(&mut self, number: u64, run: Run<'a>, to: &mut W) -> io::Result<()>
         requires one_long { OneLong (length run.frames.now) (run_of run) }
         requires ready { (number < 100000000000000) × ready self.old (length run.frames.now) number }
         ensures does { IfOk result (λ _. does self.old number (run_of run.entry) self.new) }
+        ensures tells { IfOk result (λ _. Appends (W.contents to.old) (W.contents to.new) (tells self.old number (run_of run.entry))) }
         ensures ready { IfOk result (λ _. ready self.new (length run.entry.frames.now) (number + 1)) };
 }
 
@@ -68,6 +74,7 @@ impl<'a> Window<'a> {
         requires whole { (self.old.came.left ≡ self.old.size) × (self.old.came.frames < 100000000000000) }
         requires ready { S.ready step.old self.old.size self.old.came.frames }
         ensures went { IfOk result (λ _. Went S.does self.old.size step.old (place self.old.came.frames self.old.came.left self.old.three.now) step.new (place self.new.came.frames self.new.came.left self.new.three.now)) }
+        ensures passed { IfOk result (λ _. Passed S.tells self.old.size step.old (place self.old.came.frames self.old.came.left self.old.three.now) (place self.new.came.frames self.new.came.left self.new.three.now) (R.remaining from.old) (R.remaining from.new) (W.contents to.old) (W.contents to.new)) }
         ensures ready { IfOk result (λ _. S.ready step.new self.new.size self.new.came.frames) }
         ensures size { self.new.size ≡ self.old.size }
     {
@@ -96,6 +103,7 @@ pub fn each_frame<R: Read, W: Write, S: Step>(
 ) -> io::Result<Came>
     requires { (size ≤ 9408) × S.ready step.old size 0 }
     ensures ended { IfOk result (λ came. Ended S.does size step.old step.new came.frames came.left) }
+    ensures passed { IfOk result (λ came. PassedOn S.does S.tells size step.old step.new came.frames came.left (R.remaining from.old) (R.remaining from.new) (W.contents to.old) (W.contents to.new)) }
     ensures whole { IfOk result (λ came. came.left ≡ size → came.frames ≡ 100000000000000) }
     ensures ready { IfOk result (λ came. S.ready step.new size came.frames) }
 {

@@ -1,16 +1,13 @@
--- A test that holds at every number below n, for antt to compute, and what it says at each.
+-- What a test that holds at every number below n says at each.
 use mathlib.Core.Path.{◌≡◌}
 use mathlib.Core.Logic.{⊎_elim}
-use mathlib.Core.Bool.{Bool, true, ◌&&◌}
+use mathlib.Core.Bool.{Bool}
 use Prim.Native.Nat.{ℕ, zero, suc, ◌<◌}
 use native.Mathlib.Omega.{arith}
 use lib.Dec.{T}
 use lib.Ieee.Fits.{and_l, and_r}
+use Rattle.numbers.specs.Tests.{each_below}
 use Rattle.numbers.proofs.Lists.{below_or}
-
-unfoldable pub each_below : (ℕ → Bool) → ℕ → Bool
-each_below f zero = true
-each_below f (suc n) = f n && each_below f n
 
 pub each_below_at : (f : ℕ → Bool) (n k : ℕ) → T (each_below f n) → k < n → T (f k)
 unfolding each_below

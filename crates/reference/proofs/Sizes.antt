@@ -11,15 +11,12 @@ use Rattle.numbers.specs.Sums.{apart}
 use Rattle.numbers.specs.Lists.{total}
 use Rattle.numbers.proofs.Integers.{abs_add}
 use Rattle.numbers.proofs.Sums.{sum_size}
+use Rattle.reference.specs.Sizes.{absolute_sum}
 use Rattle.reference.specs.Taps.{S1, S1_WIDE, HB, F40, F30, F80}
 use Rattle.reference.specs.Stages.{tap, M, fir, bit, sign, x, u, v, w, between, y_narrow, y_wide}
 use Rattle.reference.specs.declared.PcmRate.{PcmRate}
 use Rattle.reference.specs.declared.PcmRate.TheVariants.{Hz88200, Hz176400, Hz352800}
 use Rattle.reference.proofs.Rounding.{R_size}
-
--- the sizes of the taps added up, over |t| ≤ M: the centre once, the rest twice
-unfoldable pub absolute_sum : List ℤ → ℕ
-absolute_sum h = total (λ k. nat_abs (tap h (apart k (M h)))) 0 (M h + M h + 1)
 
 pub fir_size : (h : List ℤ) (s : ℕ → ℤ) (c B : ℕ) → ((k : ℕ) → nat_abs (s k) ≤ B) → nat_abs (fir h s c) ≤ absolute_sum h * B
 unfolding fir absolute_sum

@@ -20,7 +20,8 @@ use Rattle.reference.specs.declared.PcmRate.TheVariants.{Hz88200, Hz176400, Hz35
 use Rattle.reference.specs.declared.Cutoff.{Cutoff}
 use Rattle.reference.specs.declared.Cutoff.TheVariants.{Standard, Low, Wide}
 use Rattle.reference.proofs.Refusals.{pass, and_left, and_right}
-use Rattle.reference.proofs.Sizes.{F30_sum, absolute_sum, y_narrow_size, y_wide_size}
+use Rattle.reference.specs.Sizes.{absolute_sum}
+use Rattle.reference.proofs.Sizes.{F30_sum, y_narrow_size, y_wide_size}
 use Rattle.filters.specs.Filters.{Filter}
 use Rattle.filters.proofs.Totals.{absolute_sum_is, taps_sum, filter_by_sums}
 use Rattle.filters.proofs.Tables.{filter_F30}

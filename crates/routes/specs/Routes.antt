@@ -8,7 +8,7 @@ use Rattle.reference.specs.declared.PcmRate.TheVariants.{Hz88200, Hz176400, Hz35
 use Rattle.reference.specs.declared.Cutoff.{Cutoff}
 use Rattle.reference.specs.declared.Cutoff.TheVariants.{Standard, Low, Wide}
 use Rattle.reference.specs.declared.Converter.{Converter}
-use Rattle.reference.proofs.Sizes.{absolute_sum}
+use Rattle.reference.specs.Sizes.{absolute_sum}
 use Rattle.tables.specs.Tables.{ByteTables}
 use Rattle.filters.specs.Filters.{even_taps, odd_taps, Filter}
 

@@ -4,7 +4,7 @@ use mathlib.Core.List.{[], ◌∷◌}
 use mathlib.Core.Bool.{true, false}
 use lib.IntN.{pos, negsuc}
 use Rattle.numbers.specs.Lists.{total, tabulate}
-use Rattle.numbers.proofs.Tests.{each_below}
+use Rattle.numbers.specs.Tests.{each_below}
 use Rattle.schedule.specs.Turns.{Board, board, within, in_range, after_turn, finish, finish_in, lateness_in, next, by_due, simulated, greatest, greatest_lateness}
 
 abbrev three : Board

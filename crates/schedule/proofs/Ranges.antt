@@ -9,7 +9,8 @@ use denote.Floats.{passes, is_true}
 use lib.Dec.{leb, eqb}
 use lib.ListN.{length, get_or}
 use Rattle.std.specs.List.{list_all, zip}
-use Rattle.numbers.proofs.Tests.{each_below, each_below_at}
+use Rattle.numbers.specs.Tests.{each_below}
+use Rattle.numbers.proofs.Tests.{each_below_at}
 use Rattle.schedule.specs.Turns.{Board, board, within, in_range}
 use Rattle.schedule.specs.Promise.{fitting}
 

@@ -2,7 +2,7 @@
 use Rattle.std.specs.Prelude.{◌≡◌, List, [], ◌∷◌, Bool, true, cond, ◌&&◌, ◌||◌, ◌⊎◌, ℕ, zero, suc, ◌-◌, ◌<◌, ◌≤◌, leb, ltb, eqb, ℤ, pos, ◌-ℤ◌, ◌≤ℤ◌, length, get_or}
 use Rattle.std.specs.Int.Signed.{lt_z}
 use Rattle.numbers.specs.Lists.{total}
-use Rattle.numbers.proofs.Tests.{each_below}
+use Rattle.numbers.specs.Tests.{each_below}
 
 -- ---- a board
 

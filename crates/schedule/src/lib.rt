@@ -2,7 +2,7 @@
 #![tactic(auto)]
 
 ghost use Rattle.std.specs.Prelude.{◌≡◌, true, ◌&&◌, ◌+◌, ◌*◌, ◌-◌, ◌/◌, ◌<◌, ◌≤◌, pos, ◌-ℤ◌, length, get_or};
-ghost use Rattle.numbers.proofs.Tests.{each_below};
+ghost use Rattle.numbers.specs.Tests.{each_below};
 ghost use Rattle.schedule.specs.Turns as turns;
 ghost use Rattle.schedule.specs.Turns.{board, finish_in, simulated, greatest};
 ghost use Rattle.schedule.specs.Promise as promise;

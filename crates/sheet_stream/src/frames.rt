@@ -1,8 +1,11 @@
 // The sheet of frames, each converted with the frames before and after it as neighbours: their statistics are joined
 // one after the other.
-ghost use Rattle.std.specs.Prelude.{◌≡◌, ◌≤◌, length};
+ghost use Rattle.std.specs.Prelude.{◌≡◌, [], ◌*◌, ◌<◌, ◌≤◌, length, IfOk, IfSome};
+ghost use Rattle.std.specs.Io.KnownBytes.{Appends};
+ghost use Rattle.reference.specs.Frames.{frame_length};
 ghost use Rattle.reference.specs.Refusals.{accepted, decide, held_places};
 ghost use Rattle.sheet_stream.specs.Frames.{Joins};
+ghost use Rattle.sheet_stream.specs.Printed.{sheet_text, SheetPrinted};
 
 use level_stream::{FewChannels, Step, each_frame, refused, write_first};
 use reference::{ConvertStats, Converter, Run};
@@ -20,6 +23,8 @@ impl Step for Sheet {
     ghost ready = { λ s size number. Unit {0} };
 
     ghost does = { λ s number r t. Joins s.of.conv r s.stats t.of.conv t.stats };
+
+    ghost tells = { λ s number r. [] };
 
     // Its statistics are joined with those so far, and nothing is told of it alone.
     fn frame<'a, W: Write>(&mut self, number: u64, run: Run<'a>, to: &mut W) -> io::Result<()> {
@@ -43,6 +48,7 @@ fn put_sheet<W: Write>(
     to: &mut W,
 ) -> io::Result<()>
     requires { (channels ≤ 2) × (length text.old ≡ 129) }
+    ensures { IfOk result (λ _. Appends (W.contents to.old) (W.contents to.new) (sheet_text channels stats)) }
 {
     let n = 43 * (channels as usize + 1);
     match sheet::level_sheet(channels, stats, &mut text[..n]) {
@@ -54,6 +60,7 @@ fn put_sheet<W: Write>(
 // The sheet of the frames that a reader gives, one or two channels.
 pub fn sheet_frames<R: Read, W: Write>(conv: Converter, from: &mut R, to: &mut W) -> io::Result<()>
     requires { (decide (held_places conv) ≡ accepted) × (conv.channels ≤ 2) }
+    ensures { IfOk result (λ _. IfSome (R.remaining from.old) (λ input. length input < 100000000000000 * frame_length conv.channels → SheetPrinted conv input (W.contents to.old) (W.contents to.new))) }
 {
     let of = FewChannels { conv };
     let mut sheet = Sheet {

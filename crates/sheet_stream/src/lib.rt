@@ -1,6 +1,10 @@
 // The level sheet over readers and a writer: it reads the line and the frames, and writes the sheet of the whole input.
 #![tactic(auto)]
 
+ghost use Rattle.std.specs.Prelude.{◌*◌, ◌<◌, length, IfOk, IfSome};
+ghost use Rattle.reference.specs.Frames.{frame_length};
+ghost use Rattle.sheet_stream.specs.Printed.{SheetReported};
+
 use std::io;
 use std::io::{Read, Write};
 
@@ -12,7 +16,9 @@ pub fn sheet<L: Read, F: Read, W: Write>(
     line_from: &mut L,
     frames_from: &mut F,
     to: &mut W,
-) -> io::Result<()> {
+) -> io::Result<()>
+    ensures { IfOk result (λ _. IfSome (L.remaining line_from.old) (λ first. IfSome (F.remaining frames_from.old) (λ rest. length rest < 100000000000000 * frame_length 1 → SheetReported first rest (W.contents to.old) (W.contents to.new)))) }
+{
     match level_stream::start(line_from, to)? {
         Some(conv) => frames::sheet_frames(conv, frames_from, to),
         None => Ok(()),

@@ -15,7 +15,8 @@ use Rattle.numbers.proofs.Lists.{below_or, held_some}
 use Rattle.reference.specs.Rounding.{R}
 use Rattle.reference.specs.Stages.{M, fir}
 use Rattle.reference.proofs.Rounding.{R_size}
-use Rattle.reference.proofs.Sizes.{absolute_sum, fir_size}
+use Rattle.reference.specs.Sizes.{absolute_sum}
+use Rattle.reference.proofs.Sizes.{fir_size}
 use Rattle.filters.specs.Filters.{same_rate, Small, Fit, Filled}
 use Rattle.filters.proofs.Signals.{past}
 use Rattle.routes.specs.Routes.{LowPass}

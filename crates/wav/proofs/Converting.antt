@@ -1,5 +1,5 @@
 -- What the converting writer leaves, from its places and from what `convert` leaves behind the header.
-use mathlib.Core.Path.{◌≡◌, refl, sym, ap, ◌∙◌}
+use mathlib.Core.Path.{◌≡◌, sym, ap, ◌∙◌}
 use Rattle.std.specs.Prelude.{Err}
 use mathlib.Core.List.{List, [], ◌++◌}
 use mathlib.Core.Bool.{Bool, false}
@@ -9,7 +9,7 @@ use lib.ListN.{length, take, drop, length-drop, length-append}
 use lib.Seq.{length-take-le}
 use borrow.Rule.Slice.PartMut.{put_mid}
 use Rattle.numbers.proofs.Lists.{length_tabulate}
-use Rattle.interface.specs.Codes.{hertz}
+use Rattle.reference.specs.Codes.{hertz}
 use Rattle.reference.specs.Frames.{Run}
 use Rattle.reference.specs.Output.{all_samples, samples, stats, per_frame_clips, s24le}
 use Rattle.reference.specs.Refusals.{Decision, accepted, error_decision, decide, is_accepted, if_present, rack, convert_places}

@@ -1,23 +1,21 @@
 -- A file made from a run is read back, and the writer's promise leaves nothing free.
 use mathlib.Core.Path.{◌≡◌, sym, ap, subst, ◌∙◌}
 use mathlib.Core.List.{List}
-use Rattle.std.specs.Prelude.{Result, Ok}
 use mathlib.Core.Bool.{Bool}
 use Prim.Native.Nat.{ℕ, ◌*◌}
 use native.Mathlib.Omega.{arith}
 use lib.ListN.{length}
 use Rattle.reference.specs.Frames.{Run, frame_count}
 use Rattle.reference.specs.Output.{samples_per_frame, channel_samples, all_samples, samples, s24le}
-use Rattle.reference.specs.Refusals.{rack, accepted, decision, decide}
+use Rattle.reference.specs.Refusals.{rack, accepted, decide}
 use Rattle.reference.specs.Promises.{Converted}
 use Rattle.reference.specs.declared.Converter.{Converter}
 use Rattle.reference.proofs.Refusals.{some_channel, few_frames}
 use Rattle.reference.proofs.Promises.{exit_accepted, answers_exact}
 use Rattle.wav_format.specs.Wav.{wav_file, frame_size, Right}
 use Rattle.wav_format.specs.Promises.{ReadPromise, file_samples}
-use Rattle.wav_format.specs.declared.WavFormat.{WavFormat}
-use Rattle.reference.specs.declared.PcmError.{PcmError}
-use Rattle.wav_format.proofs.Theorems.{format, read_back, samples_back}
+use Rattle.wav_format.proofs.Theorems.{read_back, samples_back}
+use Rattle.wav.specs.Theorems.{ConvertedRead}
 use Rattle.wav_checks.specs.Places.{data_size, wav_places}
 use Rattle.wav.specs.Promises.{WavPromise}
 use Rattle.wav_checks.proofs.Accepted.{opens_of, fits_of, two_channels, data_told}
@@ -43,9 +41,8 @@ run_right conv r lent out counts ok =
       told = rw n (data_told conv r out lent counts ok);
     }
 
--- written, then read: rate, channels, and `convert`'s bytes
-pub converted_read : (conv : Converter) (r : Run) (lent : Bool) (out counts out' counts' : List ℕ) (done : Converted) → WavPromise conv r lent out counts out' counts' done
-    → decision done ≡ accepted → (a : Result WavFormat PcmError) → ReadPromise out' a → (a ≡ Ok (format conv.rate conv.channels)) × (file_samples out' ≡ s24le (samples conv r))
+-- written, then read
+pub converted_read : ConvertedRead
 converted_read conv r lent out counts out' counts' done w v a p =
     let ok : decide (wav_places conv r out lent counts) ≡ accepted = sym w.answered.decided ∙ v in
     let h = run_right conv r lent out counts ok in

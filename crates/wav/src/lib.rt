@@ -2,7 +2,7 @@
 #![tactic(auto)]
 
 ghost use Rattle.std.specs.Prelude.{◌≡◌, true, false, [], ◌++◌, ◌-◌, length, drop, is_some, unwrap_or, option_copied, OnOk, OnErr};
-ghost use Rattle.interface.specs.Codes.{hertz};
+ghost use Rattle.reference.specs.Codes.{hertz};
 ghost use Rattle.reference.specs.Frames.{run, run_of};
 ghost use Rattle.reference.specs.Refusals.{decision, decide};
 ghost use Rattle.scarletbook_pcm.specs.Calls.{listed, left};

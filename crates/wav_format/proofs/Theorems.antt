@@ -1,29 +1,26 @@
 -- Files written and read: the reader takes exactly the files of the definition, what is written is read back, what is read is written back; and a promise
 -- leaves nothing free.
 use mathlib.Core.Path.{◌≡◌, refl, sym, ap, subst, ◌∙◌}
-use mathlib.Core.List.{List, []}
+use mathlib.Core.List.{List}
 use mathlib.Core.Bool.{true}
 use Prim.Native.Nat.{ℕ, ◌+◌}
 use lib.ListN.{length, drop}
-use Rattle.reference.specs.Refusals.{accepted, refused, decide}
+use Rattle.reference.specs.Refusals.{accepted, decide}
 use Rattle.reference.specs.declared.PcmRate.{PcmRate}
 use Rattle.reference.specs.declared.PcmError.{PcmError}
 use Rattle.reference.proofs.Promises.{exit_accepted, decision_exact}
+use Rattle.wav_format.specs.Theorems.{format, TakesExactly, WrittenRead, WrittenBack, TakenWith, TakenWithIs}
 use Rattle.wav_format.specs.Wav.{wav_file, Right, Taken, right_data}
-use Rattle.wav_format.specs.Places.{read_places, write_places}
+use Rattle.wav_format.specs.Places.{write_places}
 use Rattle.wav_format.specs.Promises.{ReadPromise, file_samples, WritePromise}
 use Rattle.wav_format.specs.declared.WavFormat.{WavFormat}
 use Rattle.std.specs.Prelude.{Result, Ok, Err}
 use Rattle.wav_format.proofs.Reading.{right_of, right_is, takes_taken, taken_takes, of_file, data_is, length_file, read_accepts, accepts_read, read_refuses, tells}
 use Rattle.wav_format.proofs.Writing.{samples_there, accepted_right, writes}
 
-abbrev pub format : PcmRate → ℕ → WavFormat
-format rate channels = record { rate = rate; channels = channels }
-
 -- ---- which files are taken
 
--- exactly those of the definition; every other is refused 12
-pub takes_exactly : (file : List ℕ) → (decide (read_places file) ≡ accepted → Taken file) × (Taken file → decide (read_places file) ≡ accepted) × ((Taken file → ⊥) → decide (read_places file) ≡ refused 12 [])
+pub takes_exactly : TakesExactly
 takes_exactly file =
     (λ e. takes_taken file (accepts_read file e), λ t. read_accepts file (taken_takes file t), λ n. read_refuses file (λ e. n (takes_taken file e)))
 
@@ -44,8 +41,7 @@ module _ (rate : PcmRate) (channels : ℕ) (l : List ℕ) (right : Right rate ch
   samples_back = sym (samples_there (wav_file rate channels l) (taken_takes _ the_file)) ∙ data_is rate channels l
 
 -- by the second entry
-pub written_read : (rate : PcmRate) (channels : ℕ) (l out out' : List ℕ) → WritePromise rate channels l out out' (Ok tt)
-    → (a : Result WavFormat PcmError) → ReadPromise out' a → (a ≡ Ok (format rate channels)) × (file_samples out' ≡ l)
+pub written_read : WrittenRead
 written_read rate channels l out out' w a p =
     let ok : decide (write_places rate channels l (length out)) ≡ accepted = sym w.decided in
     let r = right_is rate channels (length l) (accepted_right rate channels l out ok) in
@@ -67,22 +63,16 @@ answered_is file f p =
     subst (λ (x : WavFormat). (file ≡ wav_file x.rate x.channels (file_samples file)) × Right x.rate x.channels (length (file_samples file))) (sym g)
     (t.is ∙ ap (wav_file t.rate t.channels) s, subst (λ (l : List ℕ). Right t.rate t.channels (length l)) s t.right)
 
-pub written_back : (file : List ℕ) (f : WavFormat) → ReadPromise file (Ok f) → (out out' : List ℕ) (v : Result (Unit {0}) PcmError) → length out ≡ length file
-    → WritePromise f.rate f.channels (file_samples file) out out' v → (v ≡ (Ok tt)) × (out' ≡ file)
+pub written_back : WrittenBack
 written_back file f p out out' v n w =
     let a = answered_is file f p in
     let m : length out ≡ 44 + length (file_samples file) = n ∙ ap length a.0 ∙ length_file f.rate f.channels (file_samples file) in
     let q = writes f.rate f.channels (file_samples file) out (right_of _ _ _ a.1) file m a.0 in
     (decision_exact v (Ok tt) (w.decided ∙ sym q.decided), w.written ∙ sym q.written)
 
--- ---- 12 of the second entry: exactly where the reader takes no file with this rate, these channels and these bytes
+-- ---- 12 of the second entry
 
-pub record TakenWith (rate : PcmRate) (channels : ℕ) (l : List ℕ) : Type 0 where
-  pub file : List ℕ
-  pub read : ReadPromise file (Ok (format rate channels))
-  pub samples : file_samples file ≡ l
-
-pub taken_with : (rate : PcmRate) (channels : ℕ) (l : List ℕ) → (TakenWith rate channels l → right_data rate channels (length l) ≡ true) × (right_data rate channels (length l) ≡ true → TakenWith rate channels l)
+pub taken_with : TakenWithIs
 taken_with rate channels l = (to, from)
   where
     to : TakenWith rate channels l → right_data rate channels (length l) ≡ true

@@ -33,7 +33,7 @@ fn frame_size(rate: PcmRate, channels: usize) -> usize
 
 // Whether the reader takes so many bytes of data in this format.
 #[tactic(auto, unfolding(crate::specs::Wav::right_data))]
-fn right_data(format: WavFormat, n: usize) -> bool
+pub fn right_data(format: WavFormat, n: usize) -> bool
     ensures { result ≡ right_data format.rate format.channels n }
 {
     if format.channels < 1 || format.channels > 2 {

@@ -7,4 +7,4 @@ pub returns : goal.returns
 returns c =
     let file = c.args.file.now in
     let own : HeadOf file file (length file) = record { begins = refl; long = refl } in
-    c.give_up_header.ensures file (record { each = λ i. (c.type_inv.file i).fits }) (seen own)
+    c.give_up_header.ensures file (record { each = λ i. (c.type_inv.file i).fits }) (seen file file (length file) own)
