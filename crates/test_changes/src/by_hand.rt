@@ -82,9 +82,8 @@ fn bytes_right<F: Fn(Converter, &[u8], &mut [u8], &mut [u64]) -> Converted>(
     Ok(answered(done, row, Length::WholeFrames, kept))
 }
 
-fn tell<R: Print + AllocGlobal>(rt: &R, rows: &[Row], noise: &[u8]) -> io::Result<()> {
+fn tell_samples<R: Print + AllocGlobal>(rt: &R, rows: &[Row], noise: &[u8]) -> io::Result<()> {
     let alloc = rt.alloc();
-    test_support::print_right(rt, "records changed", rows, |row| Ok(change_right(row)))?;
     test_support::print_right(rt, "records in convert_run", rows, |row| {
         samples_right(alloc, row, noise, Length::WholeFrames, |conv, frame, out| {
             scarletbook_pcm::convert_run_parts(conv, false, frame, frame, false, frame, out)
@@ -94,7 +93,11 @@ fn tell<R: Print + AllocGlobal>(rt: &R, rows: &[Row], noise: &[u8]) -> io::Resul
         samples_right(alloc, row, noise, Length::OneFrame, |conv, frame, out| {
             scarletbook_pcm::convert_frame_parts(conv, false, frame, frame, false, frame, out)
         })
-    })?;
+    })
+}
+
+fn tell_bytes<R: Print + AllocGlobal>(rt: &R, rows: &[Row], noise: &[u8]) -> io::Result<()> {
+    let alloc = rt.alloc();
     test_support::print_right(rt, "records in convert", rows, |row| {
         bytes_right(alloc, row, noise, 0, |conv, frame, out, counts| {
             scarletbook_pcm::convert_parts(
@@ -134,5 +137,8 @@ pub fn all<R: Files + Print + AllocGlobal>(rt: &R) -> io::Result<()> {
     let records = test_support::numbers(rt, "records")?;
     let mut noise = [0u8; 9408];
     test_files::noise(70, 0, &mut noise);
-    tell(rt, records.as_chunks::<27>().0, &noise)
+    let rows = records.as_chunks::<27>().0;
+    test_support::print_right(rt, "records changed", rows, |row| Ok(change_right(row)))?;
+    tell_samples(rt, rows, &noise)?;
+    tell_bytes(rt, rows, &noise)
 }
