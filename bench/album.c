@@ -48,22 +48,17 @@ static double now(void) {
 /* The stretch, piece by piece, each with the frames next to it. */
 static void *convert(void *argument) {
     struct album *a = argument;
-    double gain[2], decibels[1];
-    uint64_t numbers[3], clipped[6], data[2];
-    int64_t lowest[6], highest[6];
-    uint8_t empty[6];
-    if (puigneht_gain(0.0, gain, 2, decibels, 1) != PUIGNEHT_ACCEPTED) exit(1);
-    if (puigneht_open(a->rate, a->cutoff, a->channels, gain, 2, a->taps > 0, own, a->taps, numbers, 3, data, 2, decibels, 1) != PUIGNEHT_ACCEPTED) exit(1);
+    puigneht_settings settings = {a->rate, a->cutoff, a->channels, 0, a->taps ? own : NULL, a->taps};
+    puigneht_converter c;
+    puigneht_stats stats;
+    if (puigneht_open(&c, &settings, NULL)) exit(1);
     double start = now();
     for (size_t at = 0; at < a->frames;) {
-        size_t n = a->piece && a->piece < a->frames - at ? a->piece : a->frames - at;
-        uint8_t before = at > 0, after = at + n < a->frames;
-        uint8_t answer = puigneht_convert(
-            a->rate, a->cutoff, a->channels, gain, 2, a->taps > 0, own, a->taps, numbers, 3, before, before ? a->in + (at - 1) * a->size : NULL,
-            before ? a->size : 0, a->in + at * a->size, n * a->size, after, after ? a->in + (at + n) * a->size : NULL, after ? a->size : 0, 0,
-            a->out + at * a->out_size, n * a->out_size, NULL, 0, clipped, 6, lowest, 6, highest, 6, empty, 6, data, 2, decibels, 1);
-        if (answer != PUIGNEHT_ACCEPTED) exit(1);
-        for (int c = 0; c < 6; c++) a->clips += clipped[c];
+        puigneht_run run = puigneht_cut(&c, a->in, a->frames * a->size, at, a->piece ? a->piece : a->frames);
+        size_t n = puigneht_frames_of(&c, &run);
+        puigneht_packed out = puigneht_into(a->out + at * a->out_size, n * a->out_size);
+        if (puigneht_convert(&c, &run, &out, &stats, NULL)) exit(1);
+        for (int k = 0; k < PUIGNEHT_MOST_CHANNELS; k++) a->clips += stats.clipped[k];
         at += n;
     }
     a->seconds = now() - start;
@@ -87,7 +82,7 @@ static size_t on_painted_stack(struct album *a, unsigned char *stack) {
 static struct album stretch(int route, uint8_t channels, size_t frames, size_t piece, const uint8_t *in, uint8_t *out) {
     size_t samples = (size_t)rates[route % 3] / FRAMES_A_SECOND;
     return (struct album){.rate = rates[route % 3], .cutoff = (uint8_t)(route / 3), .channels = channels, .frames = frames, .piece = piece,
-                          .size = (size_t)PUIGNEHT_FRAME_BYTES * channels, .out_size = samples * channels * 3, .in = in, .out = out};
+                          .size = (size_t)PUIGNEHT_CHANNEL_BYTES * channels, .out_size = samples * channels * 3, .in = in, .out = out};
 }
 
 /* ns a sample of runs of that many frames with no neighbours, over some 1,000 frames; the best of the rounds. */
@@ -139,10 +134,10 @@ int main(int argc, char **argv) {
     size_t frames = (argc > 1 ? strtoul(argv[1], NULL, 10) : 20) * FRAMES_A_SECOND;
     size_t deepest = 0;
     unsigned char *stack = aligned_alloc(4096, STACK);
-    uint8_t *in = malloc(frames * 6 * PUIGNEHT_FRAME_BYTES), *out = malloc(frames * 6 * 4704 * 3);
+    uint8_t *in = malloc(frames * 6 * PUIGNEHT_CHANNEL_BYTES), *out = malloc(frames * 6 * 4704 * 3);
     if (!stack || !in || !out) return 1;
     uint32_t x = 1;
-    for (size_t k = 0; k < frames * 6 * PUIGNEHT_FRAME_BYTES; k++) in[k] = (uint8_t)((x = x * 1664525u + 1013904223u) >> 24);
+    for (size_t k = 0; k < frames * 6 * PUIGNEHT_CHANNEL_BYTES; k++) in[k] = (uint8_t)((x = x * 1664525u + 1013904223u) >> 24);
     printf("| Route | Channels | One run | 1 frame a piece | 8 | 75 | 1,000 |\n|---|---|---|---|---|---|---|\n");
     for (int route = 0; route < 9; route++) {
         if (route == 6) continue; /* wide at 88,200 */

@@ -47,7 +47,7 @@ static void put(uint8_t *at, uint64_t n, int size) {
 /* A file of random samples, in whole frames, padded with zero bytes. */
 static struct file random_file(uint8_t channels, uint64_t frames, uint8_t bits) {
     static const uint8_t types[] = {0, 1, 2, 3, 4, 6, 7};
-    uint64_t live = frames * PUIGNEHT_FRAME_BYTES, groups = (live + BLOCK - 1) / BLOCK, data = groups * BLOCK * channels;
+    uint64_t live = frames * PUIGNEHT_CHANNEL_BYTES, groups = (live + BLOCK - 1) / BLOCK, data = groups * BLOCK * channels;
     struct file f = {channels, frames, HEADER + data, room(HEADER + data)};
     uint32_t x = 1;
     memcpy(f.bytes, "DSD \x1c\0\0\0\0\0\0", 12);
@@ -70,53 +70,48 @@ static struct file random_file(uint8_t channels, uint64_t frames, uint8_t bits) 
 }
 
 static size_t frame_size(const struct file *f) {
-    return (size_t)PUIGNEHT_FRAME_BYTES * f->channels;
+    return (size_t)PUIGNEHT_CHANNEL_BYTES * f->channels;
 }
 
 /* Seconds for all frames of a file. */
 static double reading(const struct file *f, uint8_t *out) {
-    uint64_t data[2];
     size_t size = frame_size(f);
     double start = now();
-    for (uint64_t k = 0; k < f->frames; k++) must(puigneht_dsf_frame(f->bytes, f->length, k, out + k * size, size, data, 2));
+    for (uint64_t k = 0; k < f->frames; k++) must(puigneht_dsf_frame(f->bytes, f->length, k, out + k * size, size, NULL));
     return now() - start;
 }
 
 /* Seconds for the file of the frames that were read; it is the file that they were read from. */
 static double writing(const struct file *f, const uint8_t *frames, uint8_t *again) {
-    uint64_t data[2];
     double start = now();
-    must(puigneht_dsf_write(f->channels, frames, f->frames * frame_size(f), again, f->length, data, 2));
+    must(puigneht_dsf_write(f->channels, frames, f->frames * frame_size(f), again, f->length, NULL));
     double seconds = now() - start;
     if (memcmp(again, f->bytes, f->length)) exit(1);
     return seconds;
 }
 
 static double converting(const uint8_t *frames, size_t n, int32_t *out, size_t items) {
-    double gain[2], decibels[1];
-    uint64_t numbers[3], clipped[6], data[2];
-    int64_t lowest[6], highest[6];
-    uint8_t empty[6];
-    must(puigneht_gain(0.0, gain, 2, decibels, 1));
-    must(puigneht_open(88200, PUIGNEHT_STANDARD, 2, gain, 2, 0, NULL, 0, numbers, 3, data, 2, decibels, 1));
+    puigneht_settings settings = puigneht_default_settings();
+    puigneht_converter c;
+    puigneht_stats stats;
+    must(puigneht_open(&c, &settings, NULL));
+    puigneht_run run = puigneht_cut(&c, frames, n, 0, FRAMES);
     double start = now();
-    must(puigneht_convert_run(88200, PUIGNEHT_STANDARD, 2, gain, 2, 0, NULL, 0, numbers, 3, 0, NULL, 0, frames, n, 0, NULL, 0, out, items, clipped, 6, lowest, 6, highest, 6,
-                              empty, 6, data, 2, decibels, 1));
+    must(puigneht_convert_run(&c, &run, out, items, &stats, NULL));
     return now() - start;
 }
 
 /* Seconds for frame k of a file, of ten calls. */
 static double one_frame(const struct file *f, uint64_t k, uint8_t *out) {
-    uint64_t data[2];
     double start = now();
-    for (int turn = 0; turn < 10; turn++) must(puigneht_dsf_frame(f->bytes, f->length, k, out, frame_size(f), data, 2));
+    for (int turn = 0; turn < 10; turn++) must(puigneht_dsf_frame(f->bytes, f->length, k, out, frame_size(f), NULL));
     return (now() - start) / 10;
 }
 
 int main(int argc, char **argv) {
     int rounds = argc > 1 ? atoi(argv[1]) : 200;
     struct file low[7], high[7], long_file = random_file(2, LONG, 1);
-    uint8_t *out = room((size_t)FRAMES * 6 * PUIGNEHT_FRAME_BYTES), *again;
+    uint8_t *out = room((size_t)FRAMES * 6 * PUIGNEHT_CHANNEL_BYTES), *again;
     int32_t *samples = room(FRAMES * 2352 * sizeof *samples);
     double low_best[7], high_best[7], write_best[7], convert_best = 1e9, place_best[PLACES];
     for (uint8_t c = 1; c <= 6; c++) {
@@ -139,7 +134,7 @@ int main(int argc, char **argv) {
            low_best[2] / convert_best);
     printf("| Channels | Lowest bit first, ns a byte | Highest first | Written | Written / read |\n|---|---|---|---|---|\n");
     for (int c = 1; c <= 6; c++) {
-        double bytes = 1e-9 * FRAMES * c * PUIGNEHT_FRAME_BYTES;
+        double bytes = 1e-9 * FRAMES * c * PUIGNEHT_CHANNEL_BYTES;
         printf("| %d | %.3f | %.3f | %.3f | %.2f |\n", c, low_best[c] / bytes, high_best[c] / bytes, write_best[c] / bytes, write_best[c] / low_best[c]);
     }
     printf("\n| Frame |");

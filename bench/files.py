@@ -1,4 +1,5 @@
-"""Times of ffmpeg and of the command, in turns, on one album. A row has the least of all rounds. For bench/files."""
+"""Times of ffmpeg and of the command, in turns, on one album. A row has the least of all rounds, and a mark where half of
+the rounds took a twentieth longer or more. For bench/files."""
 import os
 import subprocess
 import sys
@@ -9,7 +10,7 @@ album, out = f"{folder}/album.dsf", f"{folder}/out.wav"
 
 
 def ffmpeg(rate):
-    return ["ffmpeg", "-v", "error", "-nostdin", "-y", "-i", album, "-ar", str(rate), "-c:a", "pcm_s24le", out]
+    return ["ffmpeg", "-v", "error", "-nostdin", "-y", "-threads", "1", "-i", album, "-ar", str(rate), "-c:a", "pcm_s24le", out]
 
 
 def ours(rate, jobs):
@@ -30,7 +31,7 @@ version = subprocess.run(["ffmpeg", "-version"], capture_output=True, text=True)
 print(f"60 s in stereo, least of {rounds} rounds in turns, ffmpeg {version}\n")
 print("| Rate | Program | CPU, s | of it the system's | Wall, s | Times real time | CPU / ffmpeg's | Wall: one job / this |")
 print("|---|---|---|---|---|---|---|---|")
-for rate in (88200, 176400):
+for rate in (88200, 176400, 352800):
     programs = [("ffmpeg", ffmpeg(rate)), ("ours, -j 1", ours(rate, 1)), ("ours, -j 2", ours(rate, 2))]
     taken = {name: [] for name, _ in programs}
     for _ in range(rounds):
@@ -40,4 +41,6 @@ for rate in (88200, 176400):
     for name, _ in programs:
         wall, cpu, system = least[name]
         faster = f"{least['ours, -j 1'][0] / wall:.2f}" if name.startswith("ours") else "-"
-        print(f"| {rate} | {name} | {cpu:.3f} | {system:.3f} | {wall:.3f} | {60 / wall:.0f} | {cpu / least['ffmpeg'][1]:.3f} | {faster} |")
+        cpus = sorted(row[1] for row in taken[name])
+        mark = " (spread)" if cpus[len(cpus) // 2] > 1.05 * cpu else ""
+        print(f"| {rate} | {name}{mark} | {cpu:.3f} | {system:.3f} | {wall:.3f} | {60 / wall:.0f} | {cpu / least['ffmpeg'][1]:.3f} | {faster} |")

@@ -21,8 +21,8 @@ static double now(void) {
 }
 
 static void write_file(uint32_t rate, uint8_t channels, const uint8_t *in, size_t n, uint8_t *out) {
-    uint64_t data[2];
-    if (puigneht_wav_write(rate, channels, in, n, out, n + PUIGNEHT_WAV_HEADER, data, 2) != PUIGNEHT_ACCEPTED) exit(1);
+    puigneht_wav like = {rate, channels, 0, 0};
+    if (puigneht_wav_write(&like, in, n, out, n + PUIGNEHT_WAV_HEADER, NULL)) exit(1);
 }
 
 int main(void) {

@@ -6,15 +6,13 @@ many of each it wrote. The files are laid out from Sony's document by command/fi
 from document 01's formulas over whole numbers by compare/filters.py's `Channel`, tap by tap, the factor by Python's floats; the WAV file is
 written by Python's `wave`, the sheet by compare/sheets.py's formatting, sentences by Python's. Nothing of it is the library's.
 
-`albums`: the number of cases, then each: eighteen numbers of eight bytes, lowest first (rate, cutoff, decibels above -120, bytes of the
-file that are stored, or 0 for those of the case before, the file's length; the answer of opening, two numbers of its
-sentence; channels, samples, frames, bytes of data, bytes of a frame, bytes filled up, pieces; lengths of the WAV file, the
-sheet and the sentence), then the file, the WAV file, the sheet and the sentence. `parts` and `pieces`: the number of rows, then rows of 5 and of 11
-numbers: frames, jobs, part, its first piece and the one after its last; rate, channels, samples, piece, and the seven numbers
-of a piece.
+A case is a line of hexadecimal numbers. `albums`: rate, cutoff, decibels above -120, the file's length; the answer of
+opening, two numbers of its sentence; channels, samples, frames, bytes of data, bytes of a frame, bytes filled up, pieces;
+then where the stored bytes of the file, the WAV file, the sheet and the sentence stand in `album_bytes`, each with its
+length. `parts`: frames, jobs, part, its first piece and the one after its last. `pieces`: rate, channels, samples, piece,
+and the seven numbers of a piece.
 """
 import io
-import os
 import random
 import sys
 import wave
@@ -68,18 +66,13 @@ def wav_file(rate, channels, items):
     return out.getvalue()
 
 
-def eight(numbers):
-    return b"".join(n.to_bytes(8, "little") for n in numbers)
-
-
 def frames_of(samples):
     return -(-(samples // 8) // FRAME)
 
 
 def case(rate, cutoff, db, file, length, answer=0, said=(0, 0), numbers=(0,) * 7, wav=b"", sheet="", sentence=""):
-    parts = (file, wav, sheet.encode(), sentence.encode())
-    head = [RATES[rate], cutoff, db + 120, len(file), length, answer, *said, *numbers, len(wav), len(parts[2]), len(parts[3])]
-    return eight(head) + b"".join(parts)
+    """The numbers of a line without the places, and what is stored; of a file that the case before stored, nothing anew."""
+    return [RATES[rate], cutoff, db + 120, length, answer, *said, *numbers], (file, wav, sheet.encode(), sentence.encode())
 
 
 # ---- albums that are accepted
@@ -107,7 +100,7 @@ def album(t, channels, bits, count, kinds, ways, metadata=0):
         numbers = (channels, samples, frames, frames * size, size, frames * FRAME - count, -(-frames // PIECE))
         wav = wav_file(rate, channels, items)
         assert len(wav) == 44 + frames * size
-        yield case(rate, cutoff, db, b"" if k else file, len(file), numbers=numbers, wav=wav, sheet=sheets.sheet(channels, stats))
+        yield case(rate, cutoff, db, None if k else file, len(file), numbers=numbers, wav=wav, sheet=sheets.sheet(channels, stats))
 
 
 def albums(t):
@@ -201,16 +194,34 @@ def parts():
                 yield [frames, jobs, j] + (cut[j:j + 2] if there else [0, 0])
 
 
+def placed(cases):
+    """The lines of some cases, and all that is stored."""
+    rows, stored, file = [], b"", (0, 0)
+    for numbers, parts in cases:
+        places = []
+        for part in parts:
+            if part is not None:
+                file = file if places else (len(stored), len(part))
+                places.append((len(stored), len(part)))
+                stored += part
+            else:
+                places.append(file)
+        rows.append(numbers + [n for place in places for n in place])
+    return rows, stored
+
+
 def write(name, rows):
     rows = list(rows)
-    with open(f"{FOLDER}/{name}", "wb") as out:
-        out.write(eight([len(rows)]) + b"".join(r if isinstance(r, bytes) else eight(r) for r in rows))
-    print(f"{name}: {len(rows)}, {os.path.getsize(f'{FOLDER}/{name}')} bytes")
+    with open(f"{FOLDER}/{name}", "w", encoding="ascii") as out:
+        out.writelines(" ".join(f"{n:x}" for n in row) + "\n" for row in rows)
+    print(f"{name}: {len(rows)}")
 
 
 if __name__ == "__main__":
     tables = filters.tables(sys.argv[1])
-    accepted = list(albums(tables))
-    write("albums", accepted + list(refusals()))
+    rows, stored = placed([*albums(tables), *refusals()])
+    write("albums", rows)
+    with open(f"{FOLDER}/album_bytes", "wb") as out:
+        out.write(stored)
     write("parts", parts())
     write("pieces", pieces())

@@ -1,5 +1,6 @@
 #!/usr/bin/env bash
-# Writes crates/test_conversions/data: what the original's `Converter::convert` gives.
+# Writes conversions, refused_settings and refused_lengths of crates/test_conversions/data: what the original's
+# `Converter::convert` gives.
 # Usage: compare/answers.sh SRC [DATA]
 # SRC is the original's repository; DATA the folder that is written to.
 set -eu

@@ -1,5 +1,5 @@
 #!/usr/bin/env python3
-"""Settings changed while a converter is open, for crates/test_changes/data: lists of changes, and records made by hand.
+"""Settings changed while a converter is open, for crates/test_conversions/data: lists of changes, and records made by hand.
 
 Usage: compare/changes.py [FOLDER]
 
@@ -210,7 +210,7 @@ def counted(numbers):
 
 
 def main():
-    folder = sys.argv[1] if len(sys.argv) > 1 else "crates/test_changes/data"
+    folder = sys.argv[1] if len(sys.argv) > 1 else "crates/test_conversions/data"
     r = random.Random(7)
     lists = [changes(r, i) for i in range(150)]
     records = [record(r, i) for i in range(312)]

@@ -1,7 +1,7 @@
 #!/usr/bin/env python3
-"""Writes crates/decibels/stdout: whole decibels from -120 to 24 and their factors to six digits.
+"""Writes command/stored/gains: whole decibels from -120 to 24 and their factors to six digits.
 
-Usage: compare/decibels.py > crates/decibels/stdout
+Usage: compare/decibels.py > command/stored/gains
 
 The factor of d decibels is 10^(d / 20). It is worked out over whole numbers, with no float: n / 10^k is the factor to k
 decimals where its twentieth power lies between those of (n - 1/2) / 10^k and (n + 1/2) / 10^k. None is a tie.

@@ -1,5 +1,5 @@
 #!/usr/bin/env bash
-# Writes crates/test_gain/data: what the original's `db_to_linear` and `quantise` give.
+# Writes factors and scalings of crates/test_conversions/data: what the original's `db_to_linear` and `quantise` give.
 # Usage: compare/factors.sh SRC [DATA]
 # SRC is the original's repository; DATA the folder that is written to. The functions are taken from its kernel.rs as they stand, and compiled with compare/factors.rs.
 set -eu
@@ -15,5 +15,5 @@ item() { sed -n "/^\(pub(crate) \)\?fn $1(/,/^}/p" "$kernel"; }
     cat "$here/factors.rs"
 } > "$dir/factors.rs"
 rustc --edition 2024 -O -o "$dir/factors" "$dir/factors.rs"
-cd "${2:-$here/../crates/test_gain/data}"
+cd "${2:-$here/../crates/test_conversions/data}"
 "$dir/factors"

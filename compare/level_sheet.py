@@ -1,5 +1,6 @@
 #!/usr/bin/env python3
-"""Writes crates/level_sheet/stdin and stdout: an input of the program `level_sheet`, and its sheet by document 01's formulas.
+"""Writes command/stored/frames and frames.sheet: a line RATE CUTOFF CHANNELS DB with raw frames, which command/stored.py lays out as an
+album, and its sheet by document 01's formulas.
 
 Usage: compare/level_sheet.py TABLES
 TABLES is the original's tables.rs. Everything is worked out here from the bytes with Python's whole numbers, tap by tap; the gain
@@ -115,9 +116,9 @@ def main():
     for k in range(2 * FRAME - 100, 2 * FRAME + 140):
         right[k] = 0xFF
     rows = [list(unclamped(taps, 88200, "F40", 3, [], channel, [])) for channel in (left, right)]
-    with open("crates/level_sheet/stdin", "wb") as file:
+    with open("command/stored/frames", "wb") as file:
         file.write(b"88200 standard 2 3\n" + bytes(b for pair in zip(left, right) for b in pair))
-    with open("crates/level_sheet/stdout", "w", newline="") as file:
+    with open("command/stored/frames.sheet", "w", newline="") as file:
         file.write(sheet(rows))
     print(sheet(rows), end="")
 

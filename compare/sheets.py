@@ -1,14 +1,15 @@
 #!/usr/bin/env python3
-"""Level sheets for crates/test_sheet/data: statistics, and the sheet or the refusal that they have by document 02.
+"""Level sheets for crates/test_album/data: statistics, and the sheet or the refusal that they have by document 02.
 
-The sheets are laid out here by Python's own formatting, and the joined statistics by Python's own numbers. A line of `cases` has
-29 numbers: channels, length of the output, six clip counts, six lowest, six highest, six marks, then the refusal's number and data
-(0 for none). `sheets` has the sheets of the accepted lines, one after the other. A line of `joins` has 72: the statistics of two
-stretches, and those of both. Run in the repository's folder; it says how many it wrote.
+The sheets are laid out here by Python's own formatting, and the joined statistics by Python's own numbers. A line of
+`statistics` has 31 numbers: channels, length of the output, six clip counts, six lowest, six highest, six marks, then the
+refusal's number and data (0 for none), and where its sheet stands in `sheets`, with its length, which is 0 if it is
+refused. A line of `joins` has 72: the statistics of two stretches, and those of both. Run in the repository's folder; it
+says how many it wrote.
 """
 import random
 
-FOLDER = "crates/test_sheet/data"
+FOLDER = "crates/test_album/data"
 WIDTHS = (4, 14, 12)
 TOP = 2**64 - 1
 
@@ -105,9 +106,9 @@ def main():
 
     def case(channels, length, s):
         told, text = answer(channels, length, s)
-        cases.append(row([channels, length] + flat(s) + list(told)))
-        if text is not None:
-            texts.append(text)
+        text = text or ""
+        cases.append(row([channels, length] + flat(s) + list(told) + [sum(map(len, texts)), len(text)]))
+        texts.append(text)
 
     for channels in range(1, 7):
         case(channels, 43 * (channels + 1), none())
@@ -122,7 +123,7 @@ def main():
         wide = none()
         wide["clipped"] = [TOP] * 6
         case(channels, length, wide)
-    write("cases", "".join(cases))
+    write("statistics", "".join(cases))
     write("sheets", "".join(texts))
 
     joins = []
@@ -136,7 +137,7 @@ def main():
             b["highest"] = [2**63 - 1] * 6
         joins.append(row(flat(a) + flat(b) + flat(joined(a, b))))
     write("joins", "".join(joins))
-    print(f"cases {len(cases)} sheets {len(texts)} bytes {sum(map(len, texts))} joins {len(joins)}")
+    print(f"statistics {len(cases)} sheets {len(texts)} bytes {sum(map(len, texts))} joins {len(joins)}")
 
 
 if __name__ == "__main__":

@@ -1,5 +1,6 @@
 #!/usr/bin/env python3
-"""Boards for crates/test_turns/data: what the program `turns` is given, a byte '=', and what it is to print.
+"""Boards for crates/test_reports/data: a line with the turn length and a line FRAMES DUE for each album, a byte '=', and what is to be printed.
+The texts of `others` are no boards: command/stored.py makes words of them, which the command refuses as usage.
 
 The answers are worked out here, turn by turn, and not by the library. Of the small boards every order of the turns is
 tried, and none has a smaller greatest lateness. Run in the repository's folder; it says how many files it wrote and how
@@ -10,7 +11,7 @@ import os
 import random
 import sys
 
-FOLDER = "crates/test_turns/data"
+FOLDER = "crates/test_reports/data"
 
 
 def simulate(albums, turn):
@@ -131,12 +132,12 @@ def main():
             if latest(albums, finish) < best:
                 sys.exit(f"a better order for {albums}, {turn}")
         cases.append((lines(albums, turn), answer(albums, turn)))
-    os.makedirs(FOLDER, exist_ok=True)
     for name in os.listdir(FOLDER):
-        os.remove(os.path.join(FOLDER, name))
+        if name.startswith("board"):
+            os.remove(os.path.join(FOLDER, name))
     for k, (text, printed) in enumerate(cases, 1):
         assert "=" not in text and len(text) <= 1024
-        with open(os.path.join(FOLDER, f"{k:03}"), "w", newline="") as file:
+        with open(os.path.join(FOLDER, f"board{k:03}"), "w", newline="") as file:
             file.write(text + "=" + printed)
     print(f"boards {len(cases)} orders {tried}")
 

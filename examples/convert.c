@@ -6,7 +6,8 @@
  *     target/convert RATE CUTOFF CHANNELS DB IN OUT         (target/convert 88200 standard 2 0 album.dsd album.s24)
  *
  * RATE is 88200, 176400 or 352800, CUTOFF standard, low or wide, CHANNELS 1 to 6, DB -120 to 24. IN is checked before
- * OUT is touched. The samples go to a new file beside OUT that takes its name at the end, so OUT is never half written. */
+ * OUT is touched. The samples go to a new file beside OUT that takes its name at the end, so OUT is never half written.
+ */
 #define _POSIX_C_SOURCE 200809L
 #include <errno.h>
 #include <fcntl.h>
@@ -21,19 +22,7 @@
 
 enum { FRAMES = 16 };
 
-struct settings {
-    uint32_t rate;
-    uint8_t cutoff, channels;
-    double gain[2];
-    uint64_t numbers[3];
-    size_t frame_in, frame_out; /* bytes of a frame, and of its packed samples */
-};
-
 static const char *const cutoffs[] = {"standard", "low", "wide"};
-
-/* The refusal's data, as the calls tell them. */
-static uint64_t data[2];
-static double decibels[1];
 
 /* The file beside OUT while it is written, else empty. */
 static char temporary[4096];
@@ -57,26 +46,9 @@ static void interrupted(int number) {
 }
 
 /* Nothing if the call was accepted, else its refusal as a sentence. */
-static void expect(uint8_t answer) {
-    unsigned long long a = data[0], b = data[1];
-    switch (answer) {
-    case PUIGNEHT_ACCEPTED: return;
-    case PUIGNEHT_CHANNELS: stop("%llu channels: there may be 1 to 6", a);
-    case PUIGNEHT_UNSUPPORTED: stop("the cutoff %s is not available at %llu Hz", cutoffs[b], a);
-    case PUIGNEHT_GAIN: stop("a gain of %.17g dB: it may be -120 to 24, with the factor of these decibels", decibels[0]);
-    case PUIGNEHT_INPUT_LENGTH: stop("%llu bytes are not %s", a, b ? "one frame" : "whole frames");
-    case PUIGNEHT_FRAMES: stop("%llu frames in one call: there may be 540000", a);
-    case PUIGNEHT_OUTPUT_LENGTH: stop("room for %llu samples, where %llu are to be written", a, b);
-    case PUIGNEHT_OUTPUT_BYTES: stop("room for %llu bytes, where %llu are to be written", a, b);
-    case PUIGNEHT_FRAME_COUNTS: stop("room for the counts of %llu frames, where there are %llu", a, b);
-    case PUIGNEHT_BEFORE: stop("the %llu bytes before are not one frame", a);
-    case PUIGNEHT_AFTER: stop("the %llu bytes after are not one frame", a);
-    case PUIGNEHT_STORED: stop("the numbers given with the converter are not those of its settings");
-    case PUIGNEHT_TAPS: stop("a filter may have 1 to %d taps", PUIGNEHT_MOST_TAPS);
-    case PUIGNEHT_TAP_SUMS: stop("a filter's centre and twice its other taps are to sum to 16777216, and their sizes to at most 40000000");
-    case PUIGNEHT_DESK: stop("too many frames for the listening desk: there may be %d", PUIGNEHT_DESK_FRAMES);
-    default: stop("the library answers %u: it did not understand an argument", answer);
-    }
+static void expect(uint8_t answer, const puigneht_refusal *refusal) {
+    char text[PUIGNEHT_DESCRIPTION_ROOM];
+    if (answer != PUIGNEHT_ACCEPTED) stop("%s", puigneht_describe(refusal, text, sizeof text));
 }
 
 /* A whole number of decimal digits, or -1. */
@@ -85,35 +57,37 @@ static long whole(const char *text) {
     return strtol(text, NULL, 10);
 }
 
-static struct settings understood(char **argv) {
-    struct settings s = {0};
+static puigneht_converter understood(char **argv) {
+    puigneht_settings s = puigneht_default_settings();
+    puigneht_converter c;
+    puigneht_refusal refusal;
     long rate = whole(argv[1]), channels = whole(argv[3]);
-    if (rate != 88200 && rate != 176400 && rate != 352800) stop("RATE is 88200, 176400 or 352800, and not '%s'", argv[1]);
+    if (rate != 88200 && rate != 176400 && rate != 352800)
+        stop("RATE is 88200, 176400 or 352800, and not '%s'", argv[1]);
     while (s.cutoff < 3 && strcmp(argv[2], cutoffs[s.cutoff])) s.cutoff++;
     if (s.cutoff == 3) stop("CUTOFF is standard, low or wide, and not '%s'", argv[2]);
-    if (channels < 0 || channels > UINT8_MAX) stop("CHANNELS is a whole number from 1 to 6, and not '%s'", argv[3]);
+    if (channels < 0) stop("CHANNELS is a whole number from 1 to 6, and not '%s'", argv[3]);
     char *end;
-    double db = strtod(argv[4], &end);
+    s.decibels = strtod(argv[4], &end);
     if (end == argv[4] || *end) stop("DB is a number from -120 to 24, and not '%s'", argv[4]);
     s.rate = (uint32_t)rate;
-    s.channels = (uint8_t)channels;
-    expect(puigneht_gain(db, s.gain, 2, decibels, 1));
-    expect(puigneht_open(s.rate, s.cutoff, s.channels, s.gain, 2, 0, NULL, 0, s.numbers, 3, data, 2, decibels, 1));
-    s.frame_in = (size_t)s.numbers[2];
-    s.frame_out = (size_t)s.numbers[0] * s.channels * 3;
-    return s;
+    s.channels = (uint32_t)channels;
+    expect(puigneht_open(&c, &s, &refusal), &refusal);
+    return c;
 }
 
 /* Opens IN and gives its number of frames; a file that is not whole frames is refused. */
-static FILE *open_input(const char *path, const struct settings *s, struct stat *is, uint64_t *frames) {
+static FILE *open_input(const char *path, const puigneht_converter *c, struct stat *is, uint64_t *frames) {
+    const uint64_t size = c->numbers.frame_bytes;
     int opened = open(path, O_RDONLY | O_NONBLOCK); /* so that a pipe is refused and not waited for */
     FILE *in = opened < 0 ? NULL : fdopen(opened, "rb");
     if (!in || fstat(opened, is)) stop("cannot open %s: %s", path, strerror(errno));
     if (!S_ISREG(is->st_mode)) stop("%s is not a regular file", path);
-    if ((uint64_t)is->st_size % s->frame_in)
-        stop("%s has %llu bytes, which are not whole frames: a frame of %u channels has %zu bytes, and %llu are left over", path,
-             (unsigned long long)is->st_size, s->channels, s->frame_in, (unsigned long long)is->st_size % s->frame_in);
-    *frames = (uint64_t)is->st_size / s->frame_in;
+    if ((uint64_t)is->st_size % size)
+        stop("%s has %llu bytes, which are not whole frames: a frame of %u channels has %u bytes, and %u are left over",
+             path, (unsigned long long)is->st_size, (unsigned)c->numbers.channels, (unsigned)size,
+             (unsigned)((uint64_t)is->st_size % size));
+    *frames = (uint64_t)is->st_size / size;
     return in;
 }
 
@@ -122,7 +96,8 @@ static FILE *open_output(const char *path, const struct stat *in) {
     struct stat is;
     mode_t mask = umask(0), mode = 0666 & ~mask;
     umask(mask);
-    if (!stat(path, &is) && is.st_dev == in->st_dev && is.st_ino == in->st_ino) stop("%s is IN: OUT must be another file", path);
+    if (!stat(path, &is) && is.st_dev == in->st_dev && is.st_ino == in->st_ino)
+        stop("%s is IN: OUT must be another file", path);
     if (!lstat(path, &is)) {
         if (!S_ISREG(is.st_mode)) stop("%s is there and is not a regular file", path);
         if (access(path, W_OK)) stop("cannot write %s: %s", path, strerror(errno));
@@ -143,33 +118,35 @@ static void read_whole(FILE *in, const char *path, uint8_t *bytes, size_t count)
     stop("cannot read %s: %s", path, ferror(in) ? strerror(errno) : "it ends before the length that it had");
 }
 
-/* Piece by piece; gives the clipped samples of all channels. The buffer holds the frame before the piece, the piece,
- * and the frame after it. */
-static uint64_t convert(const struct settings *s, FILE *in, const char *in_path, uint64_t frames, FILE *to, const char *out_path) {
-    size_t size = s->frame_in;
-    uint8_t *buffer = malloc((FRAMES + 2) * size), *out = malloc(FRAMES * s->frame_out);
+/* Piece by piece; gives the clipped samples of all channels. The buffer holds the frame before the piece, where there
+ * is one, the piece, and the frame after it, where there is one: puigneht_cut chooses among them. */
+static uint64_t convert(const puigneht_converter *c, FILE *in, const char *in_path, uint64_t frames, FILE *to,
+                        const char *out_path) {
+    const size_t size = (size_t)c->numbers.frame_bytes;
+    uint8_t *buffer = malloc((FRAMES + 2) * size), *out = malloc(puigneht_bytes_of(c, FRAMES));
     if (!buffer || !out) stop("no memory for %d frames", FRAMES);
-    uint64_t clips = 0, done = 0;
-    size_t there = 0; /* frames of the piece that were read as the frame after the piece before it */
-    while (done < frames) {
-        size_t n = frames - done < FRAMES ? (size_t)(frames - done) : FRAMES;
-        uint8_t has_before = done > 0, has_after = done + n < frames;
-        read_whole(in, in_path, buffer + (1 + there) * size, (n + has_after - there) * size);
-        uint64_t clipped[6];
-        int64_t lowest[6], highest[6];
-        uint8_t empty[6];
-        expect(puigneht_convert(s->rate, s->cutoff, s->channels, s->gain, 2, 0, NULL, 0, s->numbers, 3, has_before, buffer, size, buffer + size,
-                                n * size, has_after, buffer + (1 + n) * size, size, 0, out, n * s->frame_out, NULL, 0, clipped, 6, lowest, 6, highest,
-                                6, empty, 6, data, 2, decibels, 1));
-        for (int c = 0; c < 6; c++) clips += clipped[c];
-        if (fwrite(out, s->frame_out, n, to) != n) stop("cannot write %s: %s", out_path, strerror(errno));
-        /* The last frame of this piece is the next one's frame before, and its frame after the next one's first. */
-        memmove(buffer, buffer + n * size, 2 * size);
-        there = 1;
+    puigneht_stats all = puigneht_no_stats(), stats;
+    size_t held = 0; /* frames in the buffer */
+    for (uint64_t done = 0; done < frames;) {
+        size_t n = frames - done < FRAMES ? (size_t)(frames - done) : FRAMES, before = done > 0;
+        size_t wanted = before + n + (done + n < frames);
+        read_whole(in, in_path, buffer + held * size, (wanted - held) * size);
+        puigneht_run run = puigneht_cut(c, buffer, wanted * size, before, n);
+        puigneht_packed packed = puigneht_into(out, puigneht_bytes_of(c, n));
+        puigneht_refusal refusal;
+        expect(puigneht_convert(c, &run, &packed, &stats, &refusal), &refusal);
+        if (puigneht_join_stats(&all, &stats)) stop("statistics that are none");
+        if (fwrite(out, 1, packed.bytes_len, to) != packed.bytes_len)
+            stop("cannot write %s: %s", out_path, strerror(errno));
+        /* The piece's last frame is the next one's frame before, and the frame after it the next one's first. */
         done += n;
+        held = done < frames ? 2 : 0;
+        memmove(buffer, buffer + (wanted - held) * size, held * size);
     }
     free(buffer);
     free(out);
+    uint64_t clips = 0;
+    for (int k = 0; k < PUIGNEHT_MOST_CHANNELS; k++) clips += all.clipped[k];
     return clips;
 }
 
@@ -180,12 +157,12 @@ int main(int argc, char **argv) {
     int ends[] = {SIGINT, SIGTERM, SIGHUP};
     for (int k = 0; k < 3; k++)
         if (signal(ends[k], SIG_IGN) != SIG_IGN) signal(ends[k], interrupted);
-    struct settings s = understood(argv);
+    puigneht_converter c = understood(argv);
     struct stat is;
     uint64_t frames;
-    FILE *in = open_input(in_path, &s, &is, &frames);
+    FILE *in = open_input(in_path, &c, &is, &frames);
     FILE *to = open_output(out_path, &is);
-    uint64_t clips = convert(&s, in, in_path, frames, to, out_path);
+    uint64_t clips = convert(&c, in, in_path, frames, to, out_path);
     if (fflush(to) || fsync(fileno(to)) || fclose(to)) stop("cannot write %s: %s", out_path, strerror(errno));
     if (rename(temporary, out_path)) stop("cannot name the output %s: %s", out_path, strerror(errno));
     *temporary = 0;

@@ -16,29 +16,32 @@ static uint8_t *all(size_t *n) {
     return bytes;
 }
 
-static void tell(uint8_t verdict, const uint64_t *numbers) {
+static void tell(uint8_t verdict, const puigneht_dsf *dsf) {
     fwrite(&verdict, 1, 1, stdout);
-    fwrite(numbers, 8, 5, stdout);
+    fwrite(dsf, sizeof *dsf, 1, stdout);
 }
 
 static void headers(void) {
     uint8_t record[100];
     while (fread(record, 1, 100, stdin) == 100) {
-        uint64_t length, numbers[5] = {0}, data[2];
+        puigneht_dsf dsf = {0};
+        uint64_t length;
         memcpy(&length, record + 92, 8);
-        tell(puigneht_dsf_read_header(record, 92, length, numbers, 5, data, 2), numbers);
+        uint8_t verdict = puigneht_dsf_read_header(record, 92, length, &dsf, NULL);
+        tell(verdict, &dsf);
     }
 }
 
 static void read_file(void) {
     size_t n;
     uint8_t *file = all(&n);
-    uint64_t numbers[5] = {0}, data[2];
-    tell(puigneht_dsf_read(file, n, numbers, 5, data, 2), numbers);
-    size_t size = PUIGNEHT_FRAME_BYTES * (size_t)numbers[1];
+    puigneht_dsf dsf = {0};
+    uint8_t verdict = puigneht_dsf_read(file, n, &dsf, NULL);
+    tell(verdict, &dsf);
+    size_t size = PUIGNEHT_CHANNEL_BYTES * (size_t)dsf.channels;
     uint8_t *out = malloc(size ? size : 1);
-    for (uint64_t f = 0; f < numbers[4]; f++) {
-        if (puigneht_dsf_frame(file, n, f, out, size, data, 2) != PUIGNEHT_ACCEPTED) exit(1);
+    for (uint64_t f = 0; f < dsf.frames; f++) {
+        if (puigneht_dsf_frame(file, n, f, out, size, NULL) != PUIGNEHT_ACCEPTED) exit(1);
         fwrite(out, 1, size, stdout);
     }
 }
@@ -46,12 +49,12 @@ static void read_file(void) {
 static void write_file(uint8_t channels) {
     size_t n;
     uint8_t *frames = all(&n);
-    uint64_t length[1] = {0}, data[2];
-    if (puigneht_dsf_length(channels, n, length, 1, data, 2) != PUIGNEHT_ACCEPTED) exit(1);
-    uint8_t *file = malloc(length[0]);
-    uint8_t verdict = puigneht_dsf_write(channels, frames, n, file, length[0], data, 2);
+    uint64_t length = 0;
+    if (puigneht_dsf_length(channels, n, &length, NULL) != PUIGNEHT_ACCEPTED) exit(1);
+    uint8_t *file = malloc(length);
+    uint8_t verdict = puigneht_dsf_write(channels, frames, n, file, length, NULL);
     fwrite(&verdict, 1, 1, stdout);
-    fwrite(file, 1, length[0], stdout);
+    fwrite(file, 1, length, stdout);
 }
 
 int main(int argc, char **argv) {

@@ -1,4 +1,4 @@
-"""Writes the cases of crates/test_upload (data/heads, data/uploads) and what the program must print.
+"""Writes cases of crates/test_files: data/heads and data/uploads, as reading.py does.
 
 Request 12 of document 02 is answered by looking for a file: `continued` makes, for each channel type and bit order, the accepted file with the
 fewest samples and the least length that begins with the bytes at hand, and has layout.verdict judge it. A beginning is hopeless where there is
@@ -8,7 +8,7 @@ import itertools
 import sys
 
 from layout import CHANNELS, fields_of, header, needed, verdict
-from reading import HIGH, numbers, stored, told
+from reading import HIGH, stored, words
 
 ACCEPTED, UNFINISHED, GIVE_UP = 0, 1, 2
 
@@ -120,22 +120,15 @@ def sizes():
 def case(k, at, value, length):
     head = HEADS[k][:at] + value + HEADS[k][at + len(value):]
     kind, n = answer(head, length)
-    return bytes([k, at, len(value), kind]) + value.ljust(8, b"\0") + numbers(length, n)
-
-
-WHOLE = 65536  # uploads up to this length are also given whole
+    return k, at, len(value), int.from_bytes(value, "little"), length, kind, n
 
 
 def main(to):
-    with open(to + "/data/heads", "wb") as file:
-        file.write(b"".join(HEADS))
+    stored(to, "heads", [words(head) for head in HEADS], len(HEADS))
     found = {}
     for one in itertools.chain(bytes_in_turn(), truncated(), stated(), counts(), pairs(), sizes()):
         found.setdefault(one, case(*one))
-    stored(to, "uploads", found.values())
-    with open(to + "/stdout", "w", encoding="ascii") as out:
-        out.write(told("headers", [c[3] for c in found.values()]))
-        out.write(told("files", [c[3] for one, c in found.items() if one[3] <= WHOLE]))
+    stored(to, "uploads", list(found.values()), sum(case[5] == ACCEPTED for case in found.values()))
 
 
 if __name__ == "__main__":

@@ -1,7 +1,8 @@
-"""Writes the cases of crates/test_dsf (data/files, data/headers, data/windows) and what the program must print.
+"""Writes cases of crates/test_files: data/files, data/frames, data/headers, data/windows.
 
-Numbers are eight bytes, lowest first. Each list starts with its number of cases. The bytes of a file behind its header, and those of a window,
-are `noise` of a seed, which the program makes again; every accepted file is also written anew from the samples read."""
+A case is a line of hexadecimal numbers. A header's 92 bytes are twelve of them, of eight bytes, lowest first. The
+bytes of a file behind its header, and those of a window, are `noise` of a seed, which the program makes again; every
+accepted file is also written anew from the samples read."""
 
 import itertools
 import struct
@@ -15,22 +16,15 @@ HIGH = 2**64 - 1
 BYTES = (0, 1, 4095, 4096, 4097, 4703, 4704, 4705, 8191, 8192, 8193, 9407, 9408, 9409, 20000)
 
 
-def numbers(*ns):
-    return struct.pack("<%dQ" % len(ns), *ns)
+def words(head):
+    return struct.unpack("<12Q", head[:92].ljust(96, b"\0"))
 
 
-def case(head, *ns):
-    return head[:92].ljust(92, b"\0") + numbers(*ns)
-
-
-def told(name, refusals):
-    """The line that a program prints of calls whose answers all are the stored ones."""
-    return "%s %d equal %d accepted %d\n" % (name, len(refusals), len(refusals), refusals.count(0))
-
-
-def stored(to, name, cases):
-    with open("%s/data/%s" % (to, name), "wb") as out:
-        out.write(numbers(len(cases)) + b"".join(cases))
+def stored(to, name, cases, accepted):
+    """The cases, and how many of them there are; the program is to find as many right."""
+    with open("%s/data/%s" % (to, name), "w", encoding="ascii") as out:
+        out.writelines(" ".join("%x" % n for n in case) + "\n" for case in cases)
+    print(name, len(cases), "accepted", accepted)
 
 
 def padding_of(file, h):
@@ -60,19 +54,18 @@ def asked(head, length):
         yield from ((frames - 1, right - 1), (frames - 1, right + 1), (0, 0))
 
 
-def file_case(head, length, seed):
+def file_case(k, head, length, seed):
     file = (head + noise(seed, max(0, length - 92)))[:length]
     refused, numbers_of = opened(file, length)
     samples = None if refused else read(file)
     if samples:
         check_written_anew(file, samples)
-    asks, answers = [], []
+    asks = []
     for f, size in asked(head, length):
         answer = frame_verdict(file, length, f, size)
         out = frame(samples, f) if answer[0] == 0 else bytes([JUNK]) * size
-        asks.append(numbers(f, size, *answer, digest(out)))
-        answers.append(answer[0])
-    return case(head, length, seed, len(asks), refused, *numbers_of) + b"".join(asks), refused, answers
+        asks.append((k, f, size, *answer, digest(out)))
+    return (*words(head), length, seed, refused, *numbers_of), asks
 
 
 def right_files():
@@ -121,15 +114,16 @@ def wrong_files():
 
 
 def files(to):
-    cases, refusals, answers = zip(*(file_case(*one) for one in itertools.chain(right_files(), wrong_files())))
-    stored(to, "files", cases)
-    return told("files", refusals) + told("frames", sum(answers, []))
+    cases, asks = zip(*(file_case(k, *one) for k, one in enumerate(itertools.chain(right_files(), wrong_files()))))
+    stored(to, "files", cases, sum(case[14] == 0 for case in cases))
+    frames = sum(asks, [])
+    stored(to, "frames", frames, sum(case[3] == 0 for case in frames))
 
 
 def header_case(head, given, length):
     """`given` bytes of a head are lent; past its 92 bytes stand other ones."""
     refused, numbers_of = opened(head[:given], length) if given < 92 else opened(head, length)
-    return case(head, given, length, refused, *numbers_of), refused
+    return *words(head), given, length, refused, *numbers_of
 
 
 def changed(head, at, value):
@@ -165,9 +159,7 @@ def headers(to):
     for at in range(92):
         out += [header_case(changed(good, at, good[at] ^ flip), 92, total) for flip in (1, 128)]
     out += [header_case(head, 92, length) for head, length in itertools.chain(pairs(), big_headers())]
-    cases, refusals = zip(*out)
-    stored(to, "headers", cases)
-    return told("headers", refusals)
+    stored(to, "headers", out, sum(case[14] == 0 for case in out))
 
 
 def window_case(head, given, length, f, start, seed, size, room):
@@ -176,7 +168,7 @@ def window_case(head, given, length, f, start, seed, size, room):
     out = window_frame(head, noise(seed, size), start, f) if answer[0] == 0 else bytes([JUNK]) * room
     h = fields_of(head)
     exact = window_of(h["channels"], h["count"], f) if h["channels"] <= 6 and f < frames_of(h["count"]) else (0, 0)
-    return case(head, given, length, f, start, seed, size, room, *answer, digest(out), *exact), answer[0]
+    return *words(head), given, length, f, start, seed, size, room, *answer, digest(out), *exact
 
 
 def windows_of(head, f, seed):
@@ -210,14 +202,13 @@ def windows(to):
     for k, (kind, bits) in enumerate(itertools.product(CHANNELS, (1, 8))):
         for count, f in ((8 * 9409, (0, 1, 2)[k % 3]), (HIGH - 7, (2**61 // FRAME, 2**48, 2**61 // FRAME - 1)[k % 3])):
             out += [window_case(*one) for one in windows_of(header(kind, bits, count, 10 * k), f, next(seeds))]
-    cases, refusals = zip(*out)
-    stored(to, "windows", cases)
-    return told("windows", refusals)
+    stored(to, "windows", out, sum(case[19] == 0 for case in out))
 
 
 def main(to):
-    with open(to + "/stdout", "w", encoding="ascii") as out:
-        out.write(files(to) + headers(to) + windows(to))
+    files(to)
+    headers(to)
+    windows(to)
 
 
 if __name__ == "__main__":

@@ -1,4 +1,4 @@
-"""Writes the cases of crates/test_dsf_write (data/written, data/lengths) and what the program must print.
+"""Writes cases of crates/test_files: data/written and data/lengths, as reading.py does.
 
 The file of some frames is made by layout.write from the frames' samples: request 9 of document 02 asks for it lowest bit first, padded with zero
 bytes, with no metadata and the channel types 1, 2, 3, 4, 6, 7."""
@@ -7,7 +7,7 @@ import itertools
 import sys
 
 from layout import FRAME, digest, noise, write
-from reading import HIGH, JUNK, numbers, stored, told
+from reading import HIGH, JUNK, stored
 
 TYPES = {1: 1, 2: 2, 3: 3, 4: 4, 5: 6, 6: 7}  # by channels
 MOST = 540000
@@ -43,7 +43,7 @@ def written_case(channels, size, seed, room):
     if answer[0] == 0:
         out = written(channels, noise(seed, size))
         assert len(out) == room
-    return numbers(channels, size, seed, room, *answer, digest(out)), answer[0], size // (FRAME * channels) if answer[0] == 0 else 0
+    return channels, size, seed, room, *answer, digest(out)
 
 
 def written_cases():
@@ -71,17 +71,14 @@ def lengths():
 
 def length_case(channels, size):
     answer, length = length_verdict(channels, size)
-    return numbers(channels, size, *answer, length), answer[0]
+    return channels, size, *answer, length
 
 
 def main(to):
-    cases, refusals, frames = zip(*(written_case(*one) for one in written_cases()))
-    stored(to, "written", cases)
-    found, verdicts = zip(*(length_case(*one) for one in lengths()))
-    stored(to, "lengths", found)
-    with open(to + "/stdout", "w", encoding="ascii") as out:
-        out.write(told("files", refusals) + told("frames read back", [0] * sum(frames)))
-        out.write(told("lengths", verdicts) + told("frames converted out of a file", [0] * 4))
+    cases = [written_case(*one) for one in written_cases()]
+    stored(to, "written", cases, sum(case[4] == 0 for case in cases))
+    found = [length_case(*one) for one in lengths()]
+    stored(to, "lengths", found, sum(case[2] == 0 for case in found))
 
 
 if __name__ == "__main__":

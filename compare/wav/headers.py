@@ -1,9 +1,8 @@
 #!/usr/bin/env python3
-"""Writes crates/test_wav/data/headers and crates/test_conversions/data/headers: the headers that Python's `wave` makes.
+"""Writes data/wav_headers of crates/test_files and crates/test_conversions: the headers that Python's `wave` makes.
 
 For each rate, one and two channels, and 0, 1, 2 and 3 frames, `wave` writes a file of 24-bit samples into memory. Its data must be the
-bytes given to it, those of test_support's sequence; its first 44 bytes are kept, a line a header, each byte
-a number of sixteen digits.
+bytes given to it, those of test_support's sequence; its first 44 bytes are kept, one header after the other.
 """
 import io
 import pathlib
@@ -39,12 +38,9 @@ def main():
                 made = file(rate, channels, data)
                 assert len(made) == 44 + len(data) and made[44:] == data
                 headers.append(made[:44])
-    text = "".join(" ".join(f"{b:016x}" for b in h) + "\n" for h in headers)
     crates = pathlib.Path(__file__).resolve().parents[2] / "crates"
-    for name in ("test_wav", "test_conversions"):
-        data = crates / name / "data"
-        data.mkdir(exist_ok=True)
-        (data / "headers").write_text(text)
+    for name in ("test_files", "test_conversions"):
+        (crates / name / "data" / "wav_headers").write_bytes(b"".join(headers))
 
 
 main()

@@ -31,12 +31,7 @@ fn clips() -> Result<(), Box<dyn Error>> {
     let count = frames.len() / conv.frame_length;
     let mut out = vec![0; count * conv.samples_per_frame * 2 * 3];
     let mut counts = vec![0; count];
-    let run = Run {
-        before: None,
-        frames: &frames,
-        after: None,
-    };
-    let clipped = conv.convert(run, &mut out, Some(&mut counts))?.clipped;
+    let clipped = conv.convert(Run::alone(&frames), &mut out, Some(&mut counts))?.clipped;
     for (k, n) in counts.iter().enumerate().filter(|(_, &n)| n > 0) {
         println!("frame {k}: {n}");
     }

@@ -1,6 +1,6 @@
 //! Overs by the studio rule.
 
-use crate::raw;
+use crate::calls;
 
 /// An end of full scale, 8,388,607 or -8,388,608, or none.
 #[derive(Clone, Copy, Debug, Default, PartialEq, Eq)]
@@ -36,20 +36,8 @@ pub fn overs(samples: &[i32], channels: usize, channel: usize, before: Progress)
         End::High => 1,
         End::Low => 2,
     };
-    let mut told = [0; 3];
-    // SAFETY: each pointer and length is that of a live list, and the two are apart.
-    let answer = unsafe {
-        raw::puigneht_overs(
-            samples.as_ptr(),
-            samples.len(),
-            channels,
-            channel,
-            end,
-            before.length,
-            told.as_mut_ptr(),
-            told.len(),
-        )
-    };
+    let mut told = [0, end, before.length];
+    let answer = calls::puigneht_overs_call(samples, channels, channel, &mut told);
     assert_eq!(answer, 0, "a call with a known end is accepted");
     let [count, end, length] = told;
     let end = match end {

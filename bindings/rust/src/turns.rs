@@ -1,6 +1,6 @@
 //! Turns on one board.
 
-use crate::{raw, Error};
+use crate::{calls, refusal::Call, Refusal};
 
 /// An album on a board.
 #[derive(Clone, Copy, Debug, PartialEq, Eq)]
@@ -22,28 +22,12 @@ pub struct Turns {
 
 /// Simulates turns of `turn` frames, 1 to 540,000, on a board with 1 to 8 albums. Each turn goes to the unfinished album
 /// that is due first, on a tie to the first in the list. No order has a smaller greatest lateness.
-pub fn turns(albums: &[Album], turn: u64) -> Result<Vec<Turns>, Error> {
+pub fn turns(albums: &[Album], turn: u64) -> Result<Vec<Turns>, Refusal> {
     let frames: Vec<u64> = albums.iter().map(|a| a.frames).collect();
     let dues: Vec<u64> = albums.iter().map(|a| a.due).collect();
     let mut finishes = vec![0; albums.len()];
     let mut late = vec![0; albums.len()];
-    // SAFETY: each pointer and length is that of a live list, and the lists are apart.
-    let answer = unsafe {
-        raw::puigneht_turns(
-            frames.as_ptr(),
-            frames.len(),
-            dues.as_ptr(),
-            dues.len(),
-            turn,
-            finishes.as_mut_ptr(),
-            finishes.len(),
-            late.as_mut_ptr(),
-            late.len(),
-        )
-    };
-    let told = finishes
-        .into_iter()
-        .zip(late)
-        .map(|(finish, late)| Turns { finish, late });
-    crate::Told::default().result(answer, told.collect())
+    let answer = calls::puigneht_turns_call(&frames, &dues, turn, &mut finishes, &mut late);
+    let told = finishes.into_iter().zip(late).map(|(finish, late)| Turns { finish, late });
+    Refusal::of(Call::Turns, albums.len()).result(answer, told.collect())
 }

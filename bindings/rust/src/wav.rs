@@ -1,6 +1,6 @@
 //! WAV files of 24-bit samples: the plain 44-byte header, then the sample bytes.
 
-use crate::{rate, raw, Converter, Error, PcmRate, Run, Stats, Told};
+use crate::{calls, refusal::Call, Converter, PcmRate, Refusal, Run, Stats};
 
 /// Bytes before the sample bytes.
 pub const HEADER: usize = 44;
@@ -18,45 +18,22 @@ pub struct Wav<'a> {
 }
 
 /// A run as a file: [`Converter::convert`] with the header in front.
-pub fn convert(
-    converter: &Converter<'_>,
-    run: Run<'_>,
-    out: &mut [u8],
-    counts: Option<&mut [u64]>,
-) -> Result<Stats, Error> {
-    converter.bytes(raw::puigneht_wav_convert, run, out, counts)
+pub fn convert(converter: &Converter<'_>, run: Run<'_>, out: &mut [u8], counts: Option<&mut [u64]>) -> Result<Stats, Refusal> {
+    converter.bytes(Call::WavConvert, calls::puigneht_wav_convert_call, run, out, counts)
 }
 
 /// Reads a whole file.
-pub fn read(file: &[u8]) -> Result<Wav<'_>, Error> {
+pub fn read(file: &[u8]) -> Result<Wav<'_>, Refusal> {
     let mut told = [0; 4];
-    // SAFETY: each pointer and length is that of a live slice, and `told` is apart from the file.
-    let answer = unsafe { raw::puigneht_wav_read(file.as_ptr(), file.len(), told.as_mut_ptr(), 4) };
+    let answer = calls::puigneht_wav_read_call(file, &mut told);
     let [hertz, channels, begin, length] = told;
-    let (begin, length) = (begin as usize, length as usize);
-    Told::default().result(answer, ())?;
-    Ok(Wav {
-        rate: rate(hertz),
-        channels: channels as u8,
-        samples: &file[begin..begin + length],
-    })
+    let samples = &file[begin as usize..][..length as usize];
+    Refusal::of(Call::WavRead, file.len()).result(answer, Wav { rate: PcmRate::of(hertz), channels: channels as u8, samples })
 }
 
 /// A file from sample bytes.
-pub fn write(rate: PcmRate, channels: u8, bytes: &[u8], out: &mut [u8]) -> Result<(), Error> {
-    let mut told = Told::default();
-    // SAFETY: each pointer and length is that of a live slice, and no written slice overlaps another.
-    let answer = unsafe {
-        raw::puigneht_wav_write(
-            rate.hertz(),
-            channels,
-            bytes.as_ptr(),
-            bytes.len(),
-            out.as_mut_ptr(),
-            out.len(),
-            told.data.as_mut_ptr(),
-            2,
-        )
-    };
-    told.result(answer, ())
+pub fn write(rate: PcmRate, channels: u8, bytes: &[u8], out: &mut [u8]) -> Result<(), Refusal> {
+    let mut r = Refusal::of(Call::WavWrite, bytes.len()).with(rate as u64, 0, channels);
+    let answer = calls::puigneht_wav_write_call(rate as u64, channels, bytes, out, &mut r.data);
+    r.result(answer, ())
 }

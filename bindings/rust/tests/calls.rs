@@ -1,5 +1,7 @@
+mod common;
+use common::{refused, refused_channels, refused_gain, unsupported};
 use puigneht::{
-    gain, pack_s24le, Converter, Cutoff, Error, Gain, PcmRate, Run, Settings, FRAME_BYTES,
+    gain, pack_s24le, Converter, Cutoff, Refusal, Gain, PcmRate, Run, Settings, FRAME_BYTES,
 };
 
 const RATES: [PcmRate; 3] = [PcmRate::Hz88200, PcmRate::Hz176400, PcmRate::Hz352800];
@@ -52,16 +54,16 @@ fn gains() {
         })
     );
     assert!((gain(20.0).unwrap().linear - 10.0).abs() < 1e-9);
-    assert_eq!(gain(24.5), Err(Error::Gain(24.5)));
-    assert_eq!(gain(f64::NEG_INFINITY), Err(Error::Gain(f64::NEG_INFINITY)));
+    assert_eq!(gain(24.5), Err(refused_gain(24.5)));
+    assert_eq!(gain(f64::NEG_INFINITY), Err(refused_gain(f64::NEG_INFINITY)));
 }
 
 // Quiet, signalling and negative NaNs come back with their bits, from each call.
 #[test]
 fn nans_keep_their_bits() {
-    let bits = |e: Error| match e {
-        Error::Gain(db) => db.to_bits(),
-        other => panic!("{other:?}"),
+    let bits = |e: Refusal| {
+        assert_eq!((e.number, e.data), (3, [0; 2]));
+        e.decibels.to_bits()
     };
     let frames = noise(FRAME_BYTES);
     for nan in [
@@ -122,7 +124,7 @@ fn openings() {
             }
             .open();
             if rate == PcmRate::Hz88200 && cutoff == Cutoff::Wide {
-                assert_eq!(opened, Err(Error::Unsupported(rate, cutoff)));
+                assert_eq!(opened, Err(unsupported(rate, cutoff)));
             } else {
                 assert_eq!(opened.unwrap().samples_per_frame, samples_per_frame);
             }
@@ -146,14 +148,14 @@ fn openings() {
     for channels in [0, 7, 255] {
         assert_eq!(
             Settings { channels, ..mono() }.open(),
-            Err(Error::Channels(channels))
+            Err(refused_channels(channels))
         );
     }
     let gain = Gain {
         db: 1.0,
         linear: 1.0,
     };
-    assert_eq!(Settings { gain, ..mono() }.open(), Err(Error::Gain(1.0)));
+    assert_eq!(Settings { gain, ..mono() }.open(), Err(refused_gain(1.0)));
 }
 
 // A refused call tells its lengths and writes nothing.
@@ -166,33 +168,33 @@ fn refusals() {
     let mut counts = [9; 3];
     assert_eq!(
         conv.convert_run(alone(&three[1..]), &mut out),
-        Err(Error::InputLength(14111, 0))
+        Err(refused(4, 14111, 0))
     );
     assert_eq!(
         conv.convert_frame(alone(&three), &mut out),
-        Err(Error::InputLength(14112, 1))
+        Err(refused(4, 14112, 1))
     );
     let cut = Run {
         before: Some(&three[..5]),
         ..alone(&three)
     };
-    assert_eq!(conv.convert_run(cut, &mut out), Err(Error::Before(5)));
+    assert_eq!(conv.convert_run(cut, &mut out), Err(refused(13, 5, 0)));
     let cut = Run {
         after: Some(&[]),
         ..alone(&three)
     };
-    assert_eq!(conv.convert_run(cut, &mut out), Err(Error::After(0)));
+    assert_eq!(conv.convert_run(cut, &mut out), Err(refused(14, 0, 0)));
     assert_eq!(
         conv.convert_run(alone(&three), &mut out[1..]),
-        Err(Error::OutputLength(3527, 3528))
+        Err(refused(6, 3527, 3528))
     );
     assert_eq!(
         conv.convert(alone(&three), &mut bytes[1..], None),
-        Err(Error::OutputBytes(10583, 10584))
+        Err(refused(7, 10583, 10584))
     );
     assert_eq!(
         conv.convert(alone(&three), &mut bytes, Some(&mut counts[1..])),
-        Err(Error::FrameCounts(2, 3))
+        Err(refused(8, 2, 3))
     );
     assert!(out.iter().all(|&s| s == -1) && bytes.iter().all(|&b| b == 7) && counts == [9; 3]);
 }
@@ -202,7 +204,7 @@ fn refusals() {
 fn sentences() {
     let conv = mono().open().unwrap();
     let frame = noise(FRAME_BYTES);
-    let said = |e: Result<puigneht::Stats, Error>| e.unwrap_err().to_string();
+    let said = |e: Result<puigneht::Stats, Refusal>| e.unwrap_err().to_string();
     assert_eq!(
         Settings {
             channels: 7,
@@ -211,7 +213,7 @@ fn sentences() {
         .open()
         .unwrap_err()
         .to_string(),
-        "7 channels: there may be 1 to 6"
+        "refused 1: 7 channels: there may be 1 to 6"
     );
     assert_eq!(
         Settings {
@@ -221,19 +223,19 @@ fn sentences() {
         .open()
         .unwrap_err()
         .to_string(),
-        "the cutoff wide is not available at 88200 Hz"
+        "refused 2: wide is for 176400 and 352800"
     );
     assert_eq!(
         gain(24.5).unwrap_err().to_string(),
-        "a gain of 24.5 dB: it may be -120 to 24, with the factor of these decibels"
+        "refused 3: the gain is not -120 to 24 decibels, but 24.5"
     );
     assert_eq!(
         said(conv.convert_run(alone(&frame[1..]), &mut [0; 1176])),
-        "4703 bytes are not whole frames: a frame has 4704 bytes of each channel"
+        "refused 4: 4,703 bytes are not whole frames: a frame of 1 channel has 4,704 bytes"
     );
     assert_eq!(
         said(conv.convert_frame(alone(&[]), &mut [0; 1176])),
-        "0 bytes are not one frame: a frame has 4704 bytes of each channel"
+        "refused 4: 0 bytes are not one frame: a frame of 1 channel has 4,704 bytes"
     );
     let before = Run {
         before: Some(&frame[1..]),
@@ -241,7 +243,7 @@ fn sentences() {
     };
     assert_eq!(
         said(conv.convert_run(before, &mut [0; 1176])),
-        "the 4703 bytes before are not one frame: a frame has 4704 bytes of each channel"
+        "refused 13: the 4,703 bytes before the run are not one frame: a frame of 1 channel has 4,704 bytes"
     );
     let after = Run {
         after: Some(&[]),
@@ -249,23 +251,23 @@ fn sentences() {
     };
     assert_eq!(
         said(conv.convert(after, &mut [0; 3528], None)),
-        "the 0 bytes after are not one frame: a frame has 4704 bytes of each channel"
+        "refused 14: the 0 bytes after the run are not one frame: a frame of 1 channel has 4,704 bytes"
     );
     assert_eq!(
-        Error::Frames(540_001).to_string(),
-        "540001 frames in one call, where there may be 540000, or frame 540001 of a file, which has fewer"
+        refused(5, 540_001, 0).to_string(),
+        "refused 5: 540,001 frames: at most 540,000 (two hours) are converted"
     );
     assert_eq!(
         said(conv.convert_run(alone(&frame), &mut [0; 1175])),
-        "room for 1175 samples, where 1176 are to be written"
+        "refused 6: room for 1,175 samples, where 1,176 are to be written"
     );
     assert_eq!(
         said(conv.convert(alone(&frame), &mut [0; 3527], None)),
-        "room for 3527 bytes, where 3528 are to be written"
+        "refused 7: room for 3,527 bytes, where 3,528 are to be written"
     );
     assert_eq!(
         said(conv.convert(alone(&frame), &mut [0; 3528], Some(&mut []))),
-        "room for the counts of 0 frames, where there are 1"
+        "refused 8: room for the counts of 0 frames, where there are 1"
     );
 }
 
@@ -297,14 +299,14 @@ fn desk() {
     };
     assert_eq!(
         conv.convert_desk(alone(&nine[1..]), &mut out, None),
-        Err(Error::InputLength(9 * FRAME_BYTES - 1, 0))
+        Err(refused(4, 9 * FRAME_BYTES - 1, 0))
     );
-    assert_eq!(conv.convert_desk(wrong, &mut out, None), Err(Error::Desk));
-    assert_eq!(conv.convert(wrong, &mut out, None), Err(Error::Before(0)));
+    assert_eq!(conv.convert_desk(wrong, &mut out, None), Err(refused(16, 0, 0)));
+    assert_eq!(conv.convert(wrong, &mut out, None), Err(refused(13, 0, 0)));
     assert!(out.iter().all(|&b| b == 7));
     assert_eq!(
-        Error::Desk.to_string(),
-        "too many frames for the listening desk: there may be 8"
+        conv.convert_desk(wrong, &mut out, None).unwrap_err().to_string(),
+        "refused 16: 9 frames: at most 8 at the listening desk"
     );
 }
 
@@ -314,7 +316,7 @@ fn too_many_frames() {
     let frames = vec![0; 540_001 * FRAME_BYTES];
     assert_eq!(
         mono().open().unwrap().convert_run(alone(&frames), &mut []),
-        Err(Error::Frames(540_001))
+        Err(refused(5, 540_001, 0))
     );
 }
 
@@ -411,17 +413,17 @@ fn own_filters() {
     assert_ne!(convert(Some(&longest)), convert(None));
     let none: [i32; 0] = [];
     for (taps, error) in [
-        (&none[..], Error::Taps),
-        (&[1 << 24; 118][..], Error::Taps),
-        (&[1][..], Error::TapSums),
-        (&[16_777_216, 1][..], Error::TapSums),
-        (&[i32::MIN; 117][..], Error::TapSums),
-        (&[i32::MAX; 117][..], Error::TapSums),
+        (&none[..], refused(17, 0, 0)),
+        (&[1 << 24; 118][..], refused(17, 0, 0)),
+        (&[1][..], refused(18, 0, 0)),
+        (&[16_777_216, 1][..], refused(18, 0, 0)),
+        (&[i32::MIN; 117][..], refused(18, 0, 0)),
+        (&[i32::MAX; 117][..], refused(18, 0, 0)),
     ] {
         let wrong = Settings { taps: Some(taps), ..mono() };
         assert_eq!(wrong.open(), Err(error));
         assert_eq!(Settings { cutoff: Cutoff::Low, ..wrong }.open(), Err(error));
-        assert_eq!(Settings { channels: 7, ..wrong }.open(), Err(Error::Channels(7)));
+        assert_eq!(Settings { channels: 7, ..wrong }.open(), Err(refused_channels(7)));
         let mut out = [7; 1176];
         assert_eq!(by_hand(wrong).convert_run(alone(&frame), &mut out), Err(error));
         assert_eq!(out, [7; 1176]);

@@ -1,6 +1,8 @@
 // Settings changed while a converter is open: the numbers held, what a conversion gives then, and refused changes.
+mod common;
+use common::{refused, refused_channels, refused_gain, unsupported};
 use puigneht::{
-    gain, wav, Converter, Cutoff, Error, Gain, PcmRate, Run, Settings, Stats, FRAME_BYTES,
+    gain, wav, Converter, Cutoff, Refusal, Gain, PcmRate, Run, Settings, Stats, FRAME_BYTES,
 };
 
 const RATES: [PcmRate; 3] = [PcmRate::Hz88200, PcmRate::Hz176400, PcmRate::Hz352800];
@@ -55,7 +57,7 @@ fn as_opened() {
                 ..stereo()
             })
             .open() else {
-                assert_eq!(told, Err(Error::Unsupported(rate, cutoff)));
+                assert_eq!(told, Err(unsupported(rate, cutoff)));
                 continue;
             };
             assert_eq!((told, held), (Ok(()), fresh));
@@ -83,24 +85,24 @@ fn refused_changes() {
         low,
         Cutoff::Wide,
         unity,
-        Error::Unsupported(low, Cutoff::Wide),
+        unsupported(low, Cutoff::Wide),
     );
     let loud = Gain {
         db: 25.0,
         linear: 17.78,
     };
-    refused(high, Cutoff::Wide, loud, Error::Gain(25.0));
+    refused(high, Cutoff::Wide, loud, refused_gain(25.0));
     let another = Gain {
         db: 6.0,
         linear: gain(5.0).unwrap().linear,
     };
-    refused(high, Cutoff::Low, another, Error::Gain(6.0));
+    refused(high, Cutoff::Low, another, refused_gain(6.0));
     // both wrong: the route is tried first
     refused(
         low,
         Cutoff::Wide,
         loud,
-        Error::Unsupported(low, Cutoff::Wide),
+        unsupported(low, Cutoff::Wide),
     );
     assert_eq!(conv.change(high, Cutoff::Wide, unity), Ok(()));
     assert_eq!(
@@ -110,7 +112,7 @@ fn refused_changes() {
 }
 
 // The answer of each call with a converter, whose lists it must keep.
-fn refusals(conv: Converter<'_>) -> Vec<Error> {
+fn refusals(conv: Converter<'_>) -> Vec<Refusal> {
     let frame = frame();
     let run = alone(&frame);
     let (mut samples, mut bytes, mut counts) = ([7; 2352], [7; 7056 + wav::HEADER], [7; 1]);
@@ -197,41 +199,41 @@ fn wrong_numbers() {
         },
     ];
     for conv in wrong {
-        assert_eq!(refusals(conv), [Error::Stored; 6]);
+        assert_eq!(refusals(conv), [refused(15, 0, 0); 6]);
         let by = |settings| refusals(Converter { settings, ..conv });
         let s = conv.settings;
         let loud = Gain {
             db: 25.0,
             linear: 1.0,
         };
-        assert_eq!(by(Settings { channels: 7, ..s }), [Error::Channels(7); 6]);
+        assert_eq!(by(Settings { channels: 7, ..s }), [refused_channels(7); 6]);
         let (low, wide) = (PcmRate::Hz88200, Cutoff::Wide);
-        let unsupported = Settings {
+        let other = Settings {
             rate: low,
             cutoff: wide,
             ..s
         };
-        assert_eq!(by(unsupported), [Error::Unsupported(low, wide); 6]);
-        assert_eq!(by(Settings { gain: loud, ..s }), [Error::Gain(25.0); 6]);
+        assert_eq!(by(other), [unsupported(low, wide); 6]);
+        assert_eq!(by(Settings { gain: loud, ..s }), [refused_gain(25.0); 6]);
         assert_eq!(
             by(Settings {
                 taps: Some(&[]),
                 ..s
             }),
-            [Error::Taps; 6]
+            [refused(17, 0, 0); 6]
         );
         assert_eq!(
             by(Settings {
                 taps: Some(&[1]),
                 ..s
             }),
-            [Error::TapSums; 6]
+            [refused(18, 0, 0); 6]
         );
     }
-    let stats: Result<Stats, Error> = right.convert_run(alone(&frame()), &mut [0; 2352]);
+    let stats: Result<Stats, Refusal> = right.convert_run(alone(&frame()), &mut [0; 2352]);
     assert!(stats.is_ok());
     assert_eq!(
-        Error::Stored.to_string(),
-        "the converter's numbers are not those of its settings"
+        refused(15, 0, 0).to_string(),
+        "refused 15: the converter's numbers are not those of its settings"
     );
 }

@@ -1,10 +1,12 @@
 //! DSF files through the library, against files that these tests lay out by themselves.
 
+mod common;
+use common::{refused, refused_channels};
 use puigneht::dsf::{
     file_length, frame, give_up, give_up_header, read, read_header, window, window_frame, write, Header,
     Upload, HEADER_BYTES,
 };
-use puigneht::{Error, FRAME_BYTES};
+use puigneht::FRAME_BYTES;
 
 // A byte of a channel's samples, the earliest in the highest bit.
 fn byte(channel: usize, at: usize) -> u8 {
@@ -92,7 +94,7 @@ fn frames_of_files() {
                 }
                 assert_eq!(
                     frame(&file, frames as u64, &mut out),
-                    Err(Error::Frames(frames))
+                    Err(refused(5, frames, 0))
                 );
             }
         }
@@ -117,16 +119,16 @@ fn frames_of_windows() {
         out.fill(3);
         assert_eq!(
             window_frame(head, length, f, short, stretch.start, &mut out),
-            Err(Error::DsfLength)
+            Err(refused(11, 0, 0))
         );
         assert_eq!(
             window_frame(head, length, f, part, stretch.start + 1, &mut out),
-            Err(Error::DsfLength)
+            Err(refused(11, 0, 0))
         );
         assert!(out.iter().all(|&x| x == 3));
     }
     assert_eq!(window(2, header.samples, header.frames), 0..0);
-    assert_eq!(read_header(&head[..91], length), Err(Error::NotDsf));
+    assert_eq!(read_header(&head[..91], length), Err(refused(9, 0, 0)));
 }
 
 #[test]
@@ -137,21 +139,21 @@ fn refusals_in_turn() {
     let size = out.len();
     assert_eq!(
         frame(&file, 1, &mut out),
-        Err(Error::OutputBytes(size, 2 * FRAME_BYTES))
+        Err(refused(7, size, 2 * FRAME_BYTES))
     );
-    assert_eq!(frame(&file, 2, &mut out), Err(Error::Frames(2)));
+    assert_eq!(frame(&file, 2, &mut out), Err(refused(5, 2, 0)));
     file.pop();
-    assert_eq!(frame(&file, 2, &mut out), Err(Error::DsfLength));
+    assert_eq!(frame(&file, 2, &mut out), Err(refused(11, 0, 0)));
     file[56] = 1;
-    assert_eq!(frame(&file, 2, &mut out), Err(Error::DsfFormat));
+    assert_eq!(frame(&file, 2, &mut out), Err(refused(10, 0, 0)));
     file[0] = 0;
-    assert_eq!(frame(&file, 2, &mut out), Err(Error::NotDsf));
-    assert_eq!(read(&file), Err(Error::NotDsf));
+    assert_eq!(frame(&file, 2, &mut out), Err(refused(9, 0, 0)));
+    assert_eq!(read(&file), Err(refused(9, 0, 0)));
     assert!(out.iter().all(|&x| x == 3));
     // A sample count that no file can hold is no fault.
     let mut huge = good;
     field(&mut huge, 64, 8, u64::MAX - 7);
-    assert_eq!(read(&huge), Err(Error::DsfLength));
+    assert_eq!(read(&huge), Err(refused(11, 0, 0)));
 }
 
 // Written files are those of Sony's layout, byte for byte, and are read back.
@@ -188,14 +190,14 @@ fn files_written() {
 #[test]
 fn writing_refused_in_turn() {
     let mut out = [3; 10];
-    assert_eq!(write(7, &[0; 5], &mut out), Err(Error::Channels(7)));
-    assert_eq!(write(1, &[0; 5], &mut out), Err(Error::InputLength(5, 0)));
-    assert_eq!(write(1, &[], &mut out), Err(Error::OutputBytes(10, 92)));
-    assert_eq!(file_length(0, 0), Err(Error::Channels(0)));
-    assert_eq!(file_length(1, 5), Err(Error::InputLength(5, 0)));
+    assert_eq!(write(7, &[0; 5], &mut out), Err(refused_channels(7)));
+    assert_eq!(write(1, &[0; 5], &mut out), Err(refused(4, 5, 0)));
+    assert_eq!(write(1, &[], &mut out), Err(refused(7, 10, 92)));
+    assert_eq!(file_length(0, 0), Err(refused_channels(0)));
+    assert_eq!(file_length(1, 5), Err(refused(4, 5, 0)));
     assert_eq!(
         file_length(1, 540001 * FRAME_BYTES),
-        Err(Error::Frames(540001))
+        Err(refused(5, 540001, 0))
     );
     assert_eq!(out, [3; 10]);
 }
@@ -228,6 +230,51 @@ fn uploads_given_up() {
             // Any other count needs a data chunk of another size, and a longer file perhaps.
             65..=71 => assert!(matches!(told, Upload::GiveUp(n) if n > at as u64)),
             _ => assert_eq!(told, Upload::GiveUp(at as u64 + 1)),
+        }
+    }
+}
+
+// Each of 9, 10 and 11 says which field is wrong, by each call that reads a file.
+#[test]
+fn what_is_wrong_is_said() {
+    let whole = file(2, 2, 1, 3 * FRAME_BYTES, 0);
+    let n = whole.len() as u64;
+    let wrong = |at: usize, size: usize, value: u64| {
+        let mut bad = whole.clone();
+        field(&mut bad, at, size, value);
+        bad
+    };
+    for (bad, place, sentence) in [
+        (
+            wrong(40, 4, 2),
+            40,
+            "refused 9: not a DSF file as Sony's document lays it out: the format version (byte 40) is 2, and not 1",
+        ),
+        (
+            wrong(56, 4, 5644800),
+            56,
+            "refused 10: 5,644,800 one-bit samples a second: only 2,822,400 (DSD64) are converted",
+        ),
+        (
+            wrong(12, 8, n + 1),
+            12,
+            "refused 11: the file says 32,861 bytes and has 32,860: an incomplete upload?",
+        ),
+        (
+            wrong(84, 8, 12),
+            84,
+            "refused 11: the data chunk says 12 bytes, and the file's samples need 32,780: a damaged file?",
+        ),
+    ] {
+        let mut out = vec![0; 2 * FRAME_BYTES];
+        for refusal in [
+            read(&bad).unwrap_err(),
+            read_header(&bad[..HEADER_BYTES], n).unwrap_err(),
+            frame(&bad, 0, &mut out).unwrap_err(),
+            window_frame(&bad[..HEADER_BYTES], n, 0, &bad[HEADER_BYTES..], 0, &mut out).unwrap_err(),
+        ] {
+            assert_eq!(refusal.to_string(), sentence);
+            assert_eq!(refusal.field[0], place);
         }
     }
 }

@@ -1,5 +1,7 @@
 //! The level sheet and joined statistics, against lines written by hand.
-use puigneht::{join_stats, level_sheet, Error, Stats};
+mod common;
+use common::{refused, refused_channels};
+use puigneht::{join_stats, level_sheet, Stats};
 
 fn none() -> Stats {
     Stats {
@@ -27,19 +29,19 @@ fn lines() {
 #[test]
 fn refusals() {
     let mut stats = none();
-    assert_eq!(level_sheet(0, &stats), Err(Error::Channels(0)));
-    assert_eq!(level_sheet(7, &stats), Err(Error::Channels(7)));
+    assert_eq!(level_sheet(0, &stats), Err(refused_channels(0)));
+    assert_eq!(level_sheet(7, &stats), Err(refused_channels(7)));
     stats.clipped = [u64::MAX; 6];
-    assert_eq!(level_sheet(1, &stats), Err(Error::Sheet));
+    assert_eq!(level_sheet(1, &stats), Err(refused(20, 0, 0)));
     stats.clipped = [50_000_000_000_000; 6];
     assert!(level_sheet(1, &stats).is_ok());
-    assert_eq!(level_sheet(2, &stats), Err(Error::Sheet));
+    assert_eq!(level_sheet(2, &stats), Err(refused(20, 0, 0)));
     stats.clipped = [0; 6];
     stats.empty[0] = false;
     stats.lowest[0] = -100_000_000_000;
-    assert_eq!(level_sheet(1, &stats), Err(Error::Sheet));
+    assert_eq!(level_sheet(1, &stats), Err(refused(20, 0, 0)));
     stats.lowest[0] = 1_000_000_000_000;
-    assert_eq!(level_sheet(1, &stats), Err(Error::Sheet));
+    assert_eq!(level_sheet(1, &stats), Err(refused(20, 0, 0)));
 }
 
 #[test]

@@ -1,4 +1,6 @@
-use puigneht::{turns, Album, Error, Turns};
+mod common;
+use common::refused;
+use puigneht::{turns, Album, Turns};
 
 fn albums(of: &[(u64, u64)]) -> Vec<Album> {
     of.iter()
@@ -86,7 +88,7 @@ fn limits() {
 #[test]
 fn out_of_range() {
     let refused = |of: &[(u64, u64)], turn| {
-        assert_eq!(turns(&albums(of), turn), Err(Error::Schedule));
+        assert_eq!(turns(&albums(of), turn), Err(refused(19, 0, 0)));
     };
     refused(&[], 1);
     refused(&[(1, 0); 9], 1);

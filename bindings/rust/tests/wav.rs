@@ -1,6 +1,8 @@
 // WAV files through C: beside `convert`, back again, refused, and data over the limits in mappings that are never touched.
+mod common;
+use common::refused;
 use puigneht::wav::{convert, read, write, Wav, HEADER, MOST_DATA};
-use puigneht::{gain, Converter, Cutoff, Error, PcmRate, Run, Settings, FRAME_BYTES};
+use puigneht::{gain, Converter, Cutoff, PcmRate, Run, Settings, FRAME_BYTES};
 
 const RATES: [(PcmRate, u32, usize); 3] = [
     (PcmRate::Hz88200, 88200, 1176),
@@ -88,9 +90,9 @@ fn files() {
                 let mut back = vec![0; HEADER + n];
                 assert_eq!(write(rate, channels, &plain, &mut back), Ok(()));
                 assert_eq!(back, file);
-                assert_eq!(read(&file[..file.len() - 1]), Err(Error::NotWav));
+                assert_eq!(read(&file[..file.len() - 1]), Err(refused(12, 0, 0)));
                 file.push(0);
-                assert_eq!(read(&file), Err(Error::NotWav));
+                assert_eq!(read(&file), Err(refused(12, 0, 0)));
             }
         }
     }
@@ -110,7 +112,7 @@ fn refusals() {
     };
     assert_eq!(
         convert(&conv, wrong, &mut out[..n], Some(&mut [])),
-        Err(Error::Before(3 * FRAME_BYTES - 1))
+        Err(refused(13, 3 * FRAME_BYTES - 1, 0))
     );
     let wrong = Run {
         before: None,
@@ -118,90 +120,66 @@ fn refusals() {
     };
     assert_eq!(
         convert(&conv, wrong, &mut out[..n], Some(&mut [])),
-        Err(Error::After(0))
+        Err(refused(14, 0, 0))
     );
     assert_eq!(
         convert(&conv, alone(&frame), &mut out[..n], Some(&mut [])),
-        Err(Error::OutputBytes(n, HEADER + n))
+        Err(refused(7, n, HEADER + n))
     );
     assert_eq!(
         convert(&conv, alone(&frame), &mut out, Some(&mut [])),
-        Err(Error::FrameCounts(0, 1))
+        Err(refused(8, 0, 1))
     );
     assert_eq!(
         convert(&conv, alone(&frame), &mut out, None),
-        Err(Error::NotWav)
+        Err(refused(12, 0, 0))
     );
     assert!(out.iter().all(|&b| b == 7));
     let rate = PcmRate::Hz88200;
-    assert_eq!(write(rate, 0, &[], &mut out[..44]), Err(Error::NotWav));
-    assert_eq!(write(rate, 3, &[], &mut out[..44]), Err(Error::NotWav));
-    assert_eq!(write(rate, 1, &[0; 3527], &mut []), Err(Error::NotWav));
+    assert_eq!(write(rate, 0, &[], &mut out[..44]), Err(refused(12, 0, 0)));
+    assert_eq!(write(rate, 3, &[], &mut out[..44]), Err(refused(12, 0, 0)));
+    assert_eq!(write(rate, 1, &[0; 3527], &mut []), Err(refused(12, 0, 0)));
     assert_eq!(
         read(&[]).unwrap_err().to_string(),
-        "not a WAV file of 24-bit samples at one of the three rates, of one or two channels and whole frames"
+        "refused 12: not a WAV file of the plain header, 24 bits, one or two channels, one of the three rates and whole frames"
     );
     assert_eq!(
         write(rate, 1, &[], &mut out[..45]),
-        Err(Error::OutputBytes(45, 44))
+        Err(refused(7, 45, 44))
     );
     assert!(out.iter().all(|&b| b == 7));
 }
 
 mod raw {
     extern "C" {
-        pub fn puigneht_wav_write(
-            rate: u32,
+        pub fn puigneht_wav_write_call(
+            rate: u64,
             channels: u8,
             bytes: *const u8,
             bytes_len: usize,
             out: *mut u8,
             out_len: usize,
-            data: *mut u64,
-            data_len: usize,
+            data: &mut [u64; 2],
         ) -> u8;
-        pub fn puigneht_wav_read(
-            file: *const u8,
-            file_len: usize,
-            told: *mut u64,
-            told_len: usize,
-        ) -> u8;
-        pub fn puigneht_wav_convert(
-            rate: u32,
-            cutoff: u8,
-            channels: u8,
-            gain: *const f64,
-            gain_len: usize,
-            own: u8,
-            taps: *const i32,
-            taps_len: usize,
-            numbers: *const u64,
-            numbers_len: usize,
-            has_before: u8,
+        pub fn puigneht_wav_read_call(file: *const u8, file_len: usize, told: &mut [u64; 4]) -> u8;
+        pub fn puigneht_wav_convert_call(
+            numbers: &[u64; 8],
+            gain: &[f64; 2],
+            taps: &[i32; 117],
+            presence: u8,
             before: *const u8,
             before_len: usize,
             frames: *const u8,
             frames_len: usize,
-            has_after: u8,
             after: *const u8,
             after_len: usize,
-            lent: u8,
             out: *mut u8,
             out_len: usize,
             counts: *mut u64,
             counts_len: usize,
-            clipped: *mut u64,
-            clipped_len: usize,
-            lowest: *mut i64,
-            lowest_len: usize,
-            highest: *mut i64,
-            highest_len: usize,
-            empty: *mut u8,
-            empty_len: usize,
-            data: *mut u64,
-            data_len: usize,
-            decibels: *mut f64,
-            decibels_len: usize,
+            stats: &mut [u64; 24],
+            data: &mut [u64; 2],
+            decibels: &mut [f64; 1],
         ) -> u8;
         pub fn mmap(
             addr: *mut u8,
@@ -237,22 +215,13 @@ impl Drop for Untouched {
 // Sample bytes of more than 540,000 frames, and of more than the size field can tell.
 #[test]
 fn data_over_the_limits() {
-    let write = |rate: u32, channels: u8, n: usize, room: usize| {
+    let write = |rate: u64, channels: u8, n: usize, room: usize| {
         let bytes = Untouched::new(n);
         let out = Untouched::new(room);
         let mut data = [5; 2];
         // SAFETY: the mappings have these lengths; a call that is refused does not look into them.
         let answer = unsafe {
-            raw::puigneht_wav_write(
-                rate,
-                channels,
-                bytes.0,
-                n,
-                out.0,
-                room,
-                data.as_mut_ptr(),
-                2,
-            )
+            raw::puigneht_wav_write_call(rate, channels, bytes.0, n, out.0, room, &mut data)
         };
         (answer, data)
     };
@@ -289,7 +258,7 @@ fn long_files() {
     assert_eq!(unsafe { mprotect(file.0, 4096, 1) }, 0);
     let mut told = [5; 4];
     // SAFETY: the mapping has this length; past its first page nothing is read.
-    let answer = unsafe { raw::puigneht_wav_read(file.0, n, told.as_mut_ptr(), 4) };
+    let answer = unsafe { raw::puigneht_wav_read_call(file.0, n, &mut told) };
     assert_eq!((answer, told), (12, [5; 4]));
 }
 
@@ -299,60 +268,26 @@ fn a_long_run() {
     let frames = 160_000;
     let data = frames * 2 * 4704 * 3;
     assert!(data > MOST_DATA);
-    let (gain, numbers) = ([0.0, 1.0], [4704, 155, 9408]);
+    let numbers = [352800, 0, 2, 0, 0, 4704, 155, 9408];
     let run = Untouched::new(frames * 2 * FRAME_BYTES);
     let out = Untouched::new(HEADER + data);
     let counts = Untouched::new(8 * frames);
     let call = |lent: u8, room: usize, items: usize| {
-        let mut clipped = [5; 6];
-        let (mut lowest, mut highest, mut empty) = ([5; 6], [5; 6], [5; 6]);
-        let mut told = [5; 2];
-        let mut decibels = [5.0];
+        let (mut stats, mut told, mut decibels) = ([5; 24], [5; 2], [5.0]);
+        let none = std::ptr::null();
+        let counts = counts.0 as *mut u64;
         // SAFETY: the mappings have these lengths; a call that is refused does not look into them.
         let answer = unsafe {
-            raw::puigneht_wav_convert(
-                352800,
-                0,
-                2,
-                gain.as_ptr(),
-                2,
-                0,
-                std::ptr::null(),
-                0,
-                numbers.as_ptr(),
-                3,
-                0,
-                std::ptr::null(),
-                0,
-                run.0,
-                run.1,
-                0,
-                std::ptr::null(),
-                0,
-                lent,
-                out.0,
-                room,
-                counts.0 as *mut u64,
-                items,
-                clipped.as_mut_ptr(),
-                6,
-                lowest.as_mut_ptr(),
-                6,
-                highest.as_mut_ptr(),
-                6,
-                empty.as_mut_ptr(),
-                6,
-                told.as_mut_ptr(),
-                2,
-                decibels.as_mut_ptr(),
-                1,
+            raw::puigneht_wav_convert_call(
+                &numbers, &[0.0, 1.0], &[0; 117], lent, none, 0, run.0, run.1, none, 0, out.0, room, counts, items, &mut stats, &mut told, &mut decibels,
             )
         };
+        assert_eq!(stats, [5; 24]);
         (answer, told)
     };
     let whole = HEADER + data;
-    assert_eq!(call(1, data, 1), (7, [data as u64, whole as u64]));
-    assert_eq!(call(1, whole, 1), (8, [1, frames as u64]));
-    assert_eq!(call(1, whole, frames), (12, [0, 0]));
+    assert_eq!(call(4, data, 1), (7, [data as u64, whole as u64]));
+    assert_eq!(call(4, whole, 1), (8, [1, frames as u64]));
+    assert_eq!(call(4, whole, frames), (12, [0, 0]));
     assert_eq!(call(0, whole, 0), (12, [0, 0]));
 }

@@ -357,7 +357,7 @@ fn packing(r: &mut Random, t: &mut Tally) {
 
 // Arguments that are not understood, and null for an empty list: the interface's own, with no counterpart in the original.
 fn interface(t: &mut Tally) {
-    for which in 0..14 {
+    for which in 0..port::UNCLEAR {
         t.calls += 1;
         if !port::unclear(which) {
             t.differing += 1;

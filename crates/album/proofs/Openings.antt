@@ -5,8 +5,7 @@ use Rattle.reference.specs.Refusals.{Decision, Place, error_decision, decide, ac
 use Rattle.reference.proofs.Refusals.{decide_first, decide_skip, pass, at_first, at_next, error_refuses}
 use Rattle.reference.proofs.Promises.{exit_accepted, exit_refused}
 use Rattle.refusals.proofs.Steps.{stops, goes_on, first_stops, past_first, wrong_bytes, right_length, nothing}
-use Rattle.wav_format.specs.Wav as wav
-use Rattle.wav_format.specs.Wav.{most_data}
+use Rattle.wav_header.specs.Header.{header, most_data}
 use Rattle.wav_format.proofs.Reading.{right_is}
 use Rattle.reference.specs.Codes.{hertz}
 use Rattle.reference.specs.declared.PcmRate.{PcmRate}
@@ -92,7 +91,7 @@ module _ (rate : PcmRate) (n bytes : ℕ) (out : List ℕ) where
         let no : error_decision (OutputBytes (length out) 44) ≡ decide (head_places rate n bytes (length out)) = past_first (no_such_file rate n bytes) (lent_length 7 (length out) 44 ∷ []) d (wrong_bytes (length out) 44 [] r) in
         record { decided = no; written = sym (exit_refused _ _ _ (ap is_accepted (sym no))) }
 
-    pub head_written : {out' : List ℕ} → length out ≡ 44 → out' ≡ wav.header (hertz rate) n bytes ++ drop 44 out → HeaderPromise rate n bytes out out' (Ok _)
+    pub head_written : {out' : List ℕ} → length out ≡ 44 → out' ≡ header (hertz rate) n bytes ++ drop 44 out → HeaderPromise rate n bytes out out' (Ok _)
     unfolding head_places
     head_written r w =
         let yes : accepted ≡ decide (head_places rate n bytes (length out)) = past_first (no_such_file rate n bytes) (lent_length 7 (length out) 44 ∷ []) d (right_length (length out) 44 [] 7 r nothing) in

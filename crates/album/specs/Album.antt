@@ -16,7 +16,7 @@ use Rattle.reference.specs.declared.PcmError.{PcmError}
 use Rattle.dsf.specs.Dsf.{channels, samples, frames, frames_in}
 use Rattle.dsf.specs.Reading.{header_places}
 use Rattle.reference.specs.Codes.{hertz}
-use Rattle.wav_format.specs.Wav as wav
+use Rattle.wav_header.specs.Header.{header}
 use Rattle.wav_format.specs.Wav.{frame_size, right_data}
 use Rattle.wav_checks.specs.Places.{too_large}
 use Rattle.album.specs.declared.Wanted.{Wanted}
@@ -89,7 +89,7 @@ head_places rate n bytes room = no_such_file rate n bytes ∷ lent_length 7 room
 
 pub record HeaderPromise (rate : PcmRate) (n bytes : ℕ) (out out' : List ℕ) (answer : Result (Unit {0}) PcmError) : Type 0 where
   pub decided : decision answer ≡ decide (head_places rate n bytes (length out))
-  pub written : out' ≡ by_decision (decide (head_places rate n bytes (length out))) (wav.header (hertz rate) n bytes) out
+  pub written : out' ≡ by_decision (decide (head_places rate n bytes (length out))) (header (hertz rate) n bytes) out
 
 -- ---- what the code asks for
 

@@ -10,8 +10,8 @@ use lib.ListN.{length, drop, drop_of_length-le}
 use lib.Seq.{drop-drop}
 use Rattle.numbers.specs.Lists.{tabulate}
 use Rattle.numbers.proofs.Lists.{length_tabulate}
-use Rattle.level_lines.specs.Text.{joined, with_text, Printed}
-use Rattle.level_lines.proofs.Printing.{then, joined_last}
+use Rattle.text.specs.Text.{joined, with_text, Printed}
+use Rattle.text.proofs.Printing.{then, joined_last}
 use Rattle.reference.specs.Frames.{frame_length}
 use Rattle.reference.specs.Refusals.{decide, accepted}
 use Rattle.std.specs.Prelude.{Result}

@@ -13,7 +13,7 @@ use lib.Seq.{take-append-le, drop-append-le, drop_at, take_all}
 use borrow.Author.Tests.{lt-ltb, le-ltb, ltb-true}
 use Rattle.numbers.specs.Lists.{tabulate}
 use Rattle.numbers.proofs.Lists.{tabulate_same, below_or, part_end}
-use Rattle.level_lines.specs.Text.{joined}
+use Rattle.text.specs.Text.{joined}
 use Rattle.reference.specs.Frames.{Run, run, frame_length, frame, idle, neighbour, before_frame, after_frame, sequence}
 use Rattle.album_gather.specs.Steps.{frames_from, there, run_from}
 use Rattle.album_gather.proofs.Gathered.{one_more}

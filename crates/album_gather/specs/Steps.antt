@@ -1,18 +1,15 @@
 -- A step: some frames of an album, converted with the frames next to them.
-use Rattle.std.specs.Prelude.{◌≡◌, Result, IfOk, Option, Some, None, List, [], ◌∷◌, ◌++◌, Bool, true, false, not, ◌&&◌, ℕ, ◌+◌, ◌-◌, ◌*◌, ◌<◌, ◌^◌, ltb, leb, length}
+use Rattle.std.specs.Prelude.{◌≡◌, Result, IfOk, Option, Some, None, List, [], ◌∷◌, ◌++◌, Bool, true, false, not, ◌&&◌, ℕ, ◌+◌, ◌-◌, ◌*◌, ◌<◌, ◌^◌, ltb, leb}
 use Rattle.numbers.specs.Lists.{tabulate}
-use Rattle.level_lines.specs.Text.{joined}
+use Rattle.text.specs.Text.{joined}
 use Rattle.reference.specs.Frames.{Run, run, frame_length}
-use Rattle.reference.specs.Output.{samples, s24le}
-use Rattle.reference.specs.Promises.{by_decision, Converted, Answered}
-use Rattle.reference.specs.declared.Converter.{Converter}
 use Rattle.reference.specs.declared.PcmError.{PcmError}
 use Rattle.reference.specs.Refusals.{Place, place, decide, decision, accepted, number, lent_length}
 use Rattle.dsf.specs.Dsf.{channels, frames, file_frame}
 use Rattle.dsf.specs.Dsf as dsf
 use Rattle.dsf.specs.Reading.{header_places}
 use Rattle.dsf_frames.specs.Reading.{asked_places, window_frame}
-use Rattle.album.specs.Album.{album_places, album_of, album_converter}
+use Rattle.album.specs.Album.{album_places, album_of}
 use Rattle.album_plan.specs.Plan.{stretch_start, stretch_end}
 use Rattle.album.specs.declared.Wanted.{Wanted}
 use Rattle.album.specs.declared.Album.{Album}
@@ -71,34 +68,14 @@ window_run head window start = run_from (λ f. window_frame head f window start)
 unfoldable pub album_run : List ℕ → Run
 album_run file = run false [] (frames_from (file_frame file) 0 (frames file)) false []
 
--- ---- what a step promises. A primed list is one at exit
+-- ---- what is promised. A primed list is one at exit
 
--- a list to work in: it is written where it is used
-unfoldable pub worked : Bool → List ℕ → List ℕ → List ℕ
-worked true new old = new
-worked false new old = old
-
--- so for a frame that need not be there
+-- a list for a frame that need not be there
 abbrev pub gathered : (ℕ → List ℕ) → Option ℕ → List ℕ → List ℕ
 gathered frame (Some f) old = frame f
 gathered frame None old = old
 
-pub record Stepped (places : List Place) (conv : Converter) (r : Run) (before before' frames frames' after after' out out' : List ℕ) (answer : Converted) : Type 0 where
-  pub answered : Answered places conv r answer
-  pub written : out' ≡ by_decision (decide places) (s24le (samples conv r)) out
-  pub in_before : before' ≡ by_decision (decide places) (worked r.has_before r.before before) before
-  pub in_frames : frames' ≡ by_decision (decide places) r.frames frames
-  pub in_after : after' ≡ by_decision (decide places) (worked r.has_after r.after after) after
-
-abbrev pub lent_lists : List ℕ → List ℕ → List ℕ → List ℕ → Lent
-lent_lists before frames after out = record { before = length before; frames = length frames; after = length after; out = length out }
-
-abbrev pub StepPromise : List ℕ → ℕ → Wanted → ℕ → ℕ → List ℕ → ℕ → List ℕ → List ℕ → List ℕ → List ℕ → List ℕ → List ℕ → List ℕ → List ℕ → Converted → Type 0
-StepPromise head n w first count window start before before' frames frames' after after' out =
-    Stepped (step_places head n w first count start (length window) (lent_lists before frames after out)) (album_converter w head) (window_run head window start first count)
-    before before' frames frames' after after' out
-
--- what is tried before it, with the album's numbers
+-- what a step tries, with the album's numbers
 pub record ReadyPromise (head : List ℕ) (n : ℕ) (w : Wanted) (first count start window : ℕ) (lent : Lent) (answer : Result Album PcmError) : Type 0 where
   pub decided : decision answer ≡ decide (step_places head n w first count start window lent)
   pub album : IfOk answer (λ a. a ≡ album_of w.rate (channels head) (dsf.samples head))

@@ -1,7 +1,7 @@
 // What a step asks of its window and its lists, and frames gathered out of a window.
 #![tactic(auto)]
 
-ghost use Rattle.std.specs.Prelude.{◌≡◌, [], ◌∷◌, ◌≤◌, length, IfSome};
+ghost use Rattle.std.specs.Prelude.{◌≡◌, [], ◌∷◌, ◌+◌, ◌^◌, ◌≤◌, ◌<◌, ltb, length, IfSome};
 ghost use Rattle.reference.specs.Refusals.{decision, decide, lent_length};
 ghost use Rattle.dsf_frames.specs.Reading.{window_frame};
 ghost use Rattle.album.specs.Album.{FitArgs};
@@ -142,4 +142,19 @@ pub fn gather_one(window: Window<'_>, size: usize, frame: Option<u64>, out: &mut
     if let Some(f) = frame {
         gather(window, size, f, 1, out);
     }
+}
+
+// Whether a frame stands before the first of a step.
+pub fn has_before(first: u64) -> bool
+    ensures { result ≡ ltb 0 first }
+{
+    0 < first
+}
+
+// Whether one stands after its last, in an album of `total` frames.
+pub fn has_after(first: u64, count: u64, total: u64) -> bool
+    requires { first + count < 2 ^ 64 }
+    ensures { result ≡ ltb (first + count) total }
+{
+    first + count < total
 }

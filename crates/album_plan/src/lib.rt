@@ -51,11 +51,12 @@ pub fn stretch(channels: u64, samples: u64, frames: u64, first: u64, count: u64)
     ensures { plan.Stretch channels samples first count result }
 {
     let last = (first + count).min(frames.saturating_sub(1));
-    let from = dsf_frames::window(channels, samples, first.saturating_sub(1));
-    let to = dsf_frames::window(channels, samples, last);
+    let none = FrameWindow { start: 0, end: 0 };
+    let from = dsf_frames::window(channels, samples, first.saturating_sub(1)).unwrap_or(none);
+    let to = dsf_frames::window(channels, samples, last).unwrap_or(none);
     FrameWindow {
-        start: from.map_or(0, |w| w.start),
-        end: to.map_or(0, |w| w.end),
+        start: from.start,
+        end: to.end,
     }
 }
 

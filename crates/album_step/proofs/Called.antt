@@ -10,7 +10,7 @@ use contract.Monad.{fact, Fun}
 use denote.Triple.Entry.{Args, Res}
 use denote.Triple.Clauses.{AtExit}
 use denote.Triple.Spec.{exits}
-use Rattle.album_gather.specs.Steps.{StepPromise}
+use Rattle.album_step.specs.Promises.{StepPromise}
 use Rattle.album_step.specs.contracts.step as step
 
 -- of a call of `step`, its arguments a, its answer r, the lent lists s at exit

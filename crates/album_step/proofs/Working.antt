@@ -26,7 +26,8 @@ use Rattle.dsf.specs.Reading.{header_places}
 use Rattle.dsf_frames.specs.Reading.{window_frame}
 use Rattle.wav_format.specs.Wav.{frame_size}
 use Rattle.album.specs.Album.{settings_for, later_places, album_places, album_of, album_converter}
-use Rattle.album_gather.specs.Steps.{held_places as step-held, lent_places, piece_places, step_places, frames_from, there, worked, gathered, run_from, window_run, lent_lists, StepPromise}
+use Rattle.album_gather.specs.Steps.{held_places as step-held, lent_places, piece_places, step_places, frames_from, there, gathered, run_from, window_run}
+use Rattle.album_step.specs.Promises.{worked, lent_lists, StepPromise}
 use Rattle.album.specs.declared.Wanted.{Wanted}
 use Rattle.album.specs.declared.Album.{Album}
 use Rattle.album.proofs.Openings.{few_frames, album_fits}

@@ -10,7 +10,7 @@ use Rattle.dsf.specs.Dsf as dsf
 use Rattle.dsf.specs.Reading.{header_places}
 use Rattle.dsf_frames.specs.Reading.{asked_places}
 use Rattle.wav_format.specs.Wav.{frame_size}
-use Rattle.album_gather.specs.Steps.{worked}
+use Rattle.album_step.specs.Promises.{worked}
 
 pub record StepArgs (head : List ℕ) (n : ℕ) (conv : Converter) (total first count : ℕ) (window : List ℕ) (start : ℕ) (before frames' after out : List ℕ) : Type 0 where
   pub taken : decide (header_places head n) ≡ accepted

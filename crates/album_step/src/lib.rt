@@ -2,7 +2,8 @@
 #![tactic(auto)]
 
 ghost use Rattle.std.specs.Prelude.{◌≡◌};
-ghost use Rattle.album_gather.specs.Steps.{StepPromise, window_run};
+ghost use Rattle.album_step.specs.Promises.{StepPromise};
+ghost use Rattle.album_gather.specs.Steps.{window_run};
 ghost use Rattle.album_step.specs.Steps.{StepArgs, Worked};
 
 use album::Wanted;
@@ -26,8 +27,8 @@ fn work(
     ensures { Worked conv (window_run window.entry.head.now window.entry.bytes.now window.entry.start first count) before.old before.new frames.new after.old after.new out.new result }
 {
     let size = 4704 * conv.channels as usize;
-    let has_before = 0 < first;
-    let has_after = first + count < total;
+    let has_before = album_gather::has_before(first);
+    let has_after = album_gather::has_after(first, count, total);
     let previous = has_before.then_some(first.saturating_sub(1));
     let next = has_after.then_some(first + count);
     gather_one(window, size, previous, before);

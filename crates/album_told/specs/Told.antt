@@ -1,7 +1,8 @@
 -- What is told of an album: its numbers, and those of a refusal's sentence.
 use Rattle.std.specs.Prelude.{cond, ◌&&◌, List, [], ◌∷◌, ℕ, ◌*◌, eqb, leb}
 use Rattle.reference.specs.declared.PcmRate.{PcmRate}
-use Rattle.dsf.specs.Dsf.{number_at, stated_length, channels, samples, frames, frames_in}
+use Rattle.text.specs.Bytes.{number_at}
+use Rattle.dsf.specs.Dsf.{stated_length, channels, samples, frames, frames_in}
 use Rattle.wav_format.specs.Wav.{frame_size}
 use Rattle.album.specs.declared.Album.{Album}
 use Rattle.album_told.specs.declared.Said.{Said}
@@ -20,7 +21,7 @@ frames_of = frames_in
 abbrev pub both : ℕ → ℕ → Said
 both a b = record { first = a; second = b }
 
--- the numbers that a refusal's sentence tells (sentences/specs), of a file with these first bytes and this length: 5 its frames; 10 its frequency and a
+-- the numbers that a refusal's sentence tells (command/describe.c), of a file with these first bytes and this length: 5 its frames; 10 its frequency and a
 -- channel's samples; 11 the length that it states and its length; 12 its channels and the bytes of the data. Others tell none
 unfoldable pub said_of : List ℕ → ℕ → PcmRate → ℕ → Said
 said_of head n rate number =

@@ -1,13 +1,13 @@
 // What is told of an album: its numbers in a list, and the numbers that a refusal's sentence tells.
 #![tactic(auto)]
 
-ghost use Rattle.std.specs.Prelude.{◌≡◌, length};
+ghost use Rattle.std.specs.Prelude.{◌≡◌};
 ghost use Rattle.reference.specs.Refusals.{decision, refusal_number};
-ghost use Rattle.interface.specs.Told.{if_ok};
+ghost use Rattle.codes.specs.Told.{if_ok};
 ghost use Rattle.album_told.specs.Told as told;
 
 use album::Album;
-use interface::Report;
+use codes::Report;
 use reference::{MOST_FRAMES, PcmError, PcmRate};
 
 // Two numbers of a sentence.
@@ -19,15 +19,14 @@ pub struct Said {
 
 // An opening's number is answered, and the album's numbers are written where it was accepted.
 #[tactic(auto, unfolding(crate::specs::Told::album_numbers))]
-pub fn tell_album(opened: Result<Album, PcmError>, list: &mut [u64]) -> u8
-    requires { length list.old ≡ 7 }
+pub fn tell_album(opened: Result<Album, PcmError>, list: &mut [u64; 7]) -> u8
     ensures value { result ≡ refusal_number (decision opened) }
     ensures list_after { list.new ≡ if_ok told.album_numbers opened list.old }
 {
     if let Ok(a) = opened {
-        list.copy_from_slice(&[
+        *list = [
             a.channels, a.samples, a.frames, a.bytes, a.frame, a.filled, a.pieces,
-        ]);
+        ];
     }
     Report::of(&opened).number
 }

@@ -10,11 +10,11 @@ use lib.IntN.{ℤ, pos, negsuc, nat_abs}
 use lib.Signed.{lt_z}
 use mir.Val.{bool_byte}
 use lib.ListN.{length, replicate, length-append, length-replicate}
-use Rattle.level_lines.specs.Text.{text, decimal, signed}
+use Rattle.text.specs.Text.{text, decimal, signed}
 use Rattle.std.specs.Prelude.{Some, None}
-use Rattle.level_lines.specs.Writing.{Prints}
-use Rattle.level_lines.specs.declared.text.Text.{Text}
-use Rattle.level_lines.proofs.Writing.{both}
+use Rattle.text.specs.Writing.{Prints}
+use Rattle.text.specs.declared.putting.Text.{Text}
+use Rattle.text.proofs.Writing.{both}
 use Rattle.columns.specs.Columns.{Entry, entry, column, level_text, too_wide}
 
 -- a text of k characters after its blanks

@@ -1,7 +1,6 @@
 -- Columns: entries of a line, each right-aligned with blanks.
 use Rattle.std.specs.Prelude.{List, [], ◌∷◌, ◌++◌, map, Bool, false, ◌||◌, ℕ, ◌-◌, ltb, ℤ, Option, Some, None, length, replicate}
-use Rattle.level_lines.specs.Text.{text, signed}
-use Rattle.level_lines.specs.Lines.{printed}
+use Rattle.text.specs.Text.{text, signed, printed}
 
 -- an entry of a line: the width of its column, and its text
 pub record Entry : Type 0 where

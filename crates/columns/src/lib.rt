@@ -2,11 +2,11 @@
 #![tactic(auto)]
 
 ghost use Rattle.std.specs.Prelude.{◌≡◌, ◌+◌, ◌≤◌, length, replicate};
-ghost use Rattle.level_lines.specs.Text as texts;
-ghost use Rattle.level_lines.specs.Writing.{Prints};
+ghost use Rattle.text.specs.Text as texts;
+ghost use Rattle.text.specs.Writing.{Prints};
 ghost use Rattle.columns.specs.Columns.{column, entry, level_text};
 
-use level_lines::Text;
+use text::Text;
 
 // How many digits n has.
 pub fn digits(n: u64) -> usize

@@ -1,15 +1,16 @@
 -- Laws of `alike`, `any` and `all`, and of tests joined.
 use mathlib.Core.Path.{◌≡◌, refl, sym, ap, ap₂, ◌∙◌}
-use mathlib.Core.List.{List, [], ◌∷◌, ◌++◌, append-nil, map}
+use mathlib.Core.List.{List, [], ◌∷◌, ◌++◌, append-nil}
 use mathlib.Core.Bool.{Bool, true, false, cond, not, ◌&&◌, ◌||◌}
-use mathlib.Core.Logic.{◌⊎◌, ⊎_elim}
+use mathlib.Core.Logic.{◌⊎◌, ◌≢◌, ⊎_elim}
 use Prim.Native.Nat.{ℕ, zero, suc, ◌+◌, ◌-◌, ◌≤◌, ◌<◌, min}
 use native.Mathlib.Omega.{arith}
+use native.Mathlib.Numerals.{add-one}
+use borrow.Author.Tests.{eq-eqb, ne_eqb}
 use lib.Dec.{T, eqb, eqb→eq, eqb_refl, leb, leb→le}
-use lib.ListN.{length, take, drop, length-drop, drop_of_length-le}
-use lib.Seq.{drop-nil, drop-drop, drop-append-le, take_all}
+use lib.ListN.{length, get_or, take, drop, length-drop, drop_of_length-le}
+use lib.Seq.{drop-cons, drop-nil, drop-drop, drop-append-le, take_all}
 use Rattle.numbers.proofs.Lists.{below_or}
-use Rattle.std.specs.List.{list_all, list_any, zip}
 use Rattle.numbers.specs.Lists.{Each}
 use Rattle.dsf.specs.Dsf.{Field, fixed, alike, any, all, fits}
 
@@ -188,21 +189,33 @@ unfolding alike
 alike_nil [] = refl
 alike_nil (x ∷ l) = refl
 
-pub alike_zip : (l v : List ℕ) → list_all (λ (p : ℕ × ℕ). eqb p.0 p.1) (zip l v) ≡ alike l v
-unfolding alike
-alike_zip [] v = refl
-alike_zip (x ∷ l) [] = refl
-alike_zip (x ∷ l) (y ∷ v) = ap (λ (b : Bool). eqb x y && b) (alike_zip l v)
+-- two lists agree at the first n places
+pub record Agree (l v : List ℕ) (n : ℕ) : Type 0 where
+  pub is : alike l v ≡ alike (drop n l) (drop n v)
 
-pub any_of_map : {A B : Type 0} (f : B → Bool) (g : A → B) (l : List A) → list_any (λ x. f (g x)) l ≡ any f (map g l)
-unfolding any
-any_of_map f g [] = refl
-any_of_map f g (x ∷ l) = ap (λ (b : Bool). f (g x) || b) (any_of_map f g l)
+pub agree_none : {l v : List ℕ} → Agree l v 0
+agree_none = record { is = refl }
 
-pub all_of_map : {A B : Type 0} (f : B → Bool) (g : A → B) (l : List A) → list_all (λ x. f (g x)) l ≡ all f (map g l)
-unfolding all
-all_of_map f g [] = refl
-all_of_map f g (x ∷ l) = ap (λ (b : Bool). f (g x) && b) (all_of_map f g l)
+module _ {l v : List ℕ} {n : ℕ} (a : Agree l v n) where
+  module _ (h : n < length l) (k : n < length v) where
+    apart : alike l v ≡ (eqb (get_or l n 0) (get_or v n 0) && alike (drop (n + 1) l) (drop (n + 1) v))
+    unfolding alike
+    apart = a.is ∙ rw (add-one, drop-cons l n 0 h, drop-cons v n 0 k) refl
+
+    pub agree_more : get_or l n 0 ≡ get_or v n 0 → Agree l v (n + 1)
+    agree_more e = record { is = apart ∙ rw (eq-eqb (get_or l n 0) (get_or v n 0) e) refl }
+
+    pub differ : get_or l n 0 ≢ get_or v n 0 → false ≡ alike l v
+    differ e = sym (apart ∙ rw (ne_eqb (get_or l n 0) (get_or v n 0) e) refl)
+
+  pub agree_all : min (length l) (length v) ≤ n → true ≡ alike l v
+  unfolding alike
+  agree_all h =
+      sym
+      (a.is
+      ∙ ⊎_elim (λ b. let e : drop n v ≡ [] = drop_of_length-le v {i = n} (omega arith) in rw e (alike_nil (drop n l)))
+      (λ b. let e : drop n l ≡ [] = drop_of_length-le l {i = n} (omega arith) in rw e refl)
+      (below_or n (length l)))
 
 -- ---- what is left of a list from a place on, also from one past its end
 pub rest_is : (l : List ℕ) (a m : ℕ) → m ≡ min a (length l) → take (length l - m) (drop m l) ≡ drop a l

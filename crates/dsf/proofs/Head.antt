@@ -12,8 +12,9 @@ use lib.Seq.{take-take, take_all, length-take-le}
 use Rattle.numbers.proofs.Lists.{below_or}
 use Rattle.reference.specs.Refusals.{decide}
 use Rattle.reference.proofs.Refusals.{at_first, at_next}
-use Rattle.dsf.specs.Dsf.{number_of, number_at, bytes, Field, pairs, orders, layout, frequency, alike, any, all, fits, stated_length, channel_type, channels, bits_per_sample, samples, data_size, data_bytes, needed, frames, places_at, file_places}
-use Rattle.level_lines.specs.Text.{text}
+use Rattle.text.specs.Bytes.{number_of, number_at, bytes}
+use Rattle.dsf.specs.Dsf.{Field, pairs, orders, layout, frequency, alike, any, all, fits, stated_length, channel_type, channels, bits_per_sample, samples, data_size, data_bytes, needed, frames, places_at, file_places}
+use Rattle.text.specs.Text.{text}
 use Rattle.dsf.specs.Theorems.{HeaderRight}
 use Rattle.dsf.specs.Reading.{file_header, header_places}
 use Rattle.dsf.proofs.Alike.{left, right, alike_nil, ends_by}

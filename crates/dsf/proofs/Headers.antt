@@ -4,11 +4,13 @@ use mathlib.Core.List.{List, [], ◌++◌}
 use Prim.Native.Nat.{ℕ}
 use lib.Dec.{T}
 use lib.ListN.{length, drop}
-use Rattle.level_lines.specs.Text.{text}
-use Rattle.dsf.specs.Dsf.{number_of, number_at, bytes, pair, layout, pairs, orders, frequency, alike, any, all, fits, stated_length, channel_type, channels, bits_per_sample, samples, data_size}
+use Rattle.text.specs.Text.{text}
+use Rattle.text.specs.Bytes.{number_of, number_at, bytes}
+use Rattle.dsf.specs.Dsf.{pair, layout, pairs, orders, frequency, alike, any, all, fits, stated_length, channel_type, channels, bits_per_sample, samples, data_size}
 use Rattle.dsf.specs.Headers.{header}
 use Rattle.dsf.proofs.Alike.{Alike, seg, fixed_alike, all_each}
-use Rattle.dsf.proofs.Numbers.{padded, alike_padded}
+use Rattle.text.proofs.Bytes.{padded}
+use Rattle.dsf.proofs.Numbers.{alike_padded}
 
 module _ (xs ys : List ℕ) (t c b : ℕ) (ns : List ℕ) (z : ℕ) (r : List ℕ) where
   abbrev pub h : List ℕ

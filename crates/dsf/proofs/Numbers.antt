@@ -1,30 +1,15 @@
--- Laws of numbers as bytes.
-use mathlib.Core.Path.{◌≡◌, refl, ap}
+-- Laws of a file's fields as numbers.
+use mathlib.Core.Path.{◌≡◌, refl}
 use mathlib.Core.List.{List, [], ◌∷◌, ◌++◌}
-use Prim.Native.Nat.{ℕ, zero, suc, ◌+◌, ◌*◌, ◌/◌, ◌%◌, ◌^◌, ◌≤◌, ◌<◌}
-use native.Mathlib.Nat.{pow-suc, mod-lt}
+use Prim.Native.Nat.{ℕ, zero, suc, ◌+◌, ◌%◌, ◌≤◌}
 use native.Mathlib.Omega.{arith}
 use lib.Dec.{T, eqb, eqb_refl, ltb, ltb→lt}
-use lib.ListN.{length, get_or, take, drop, replicate, length-drop, take-append-drop}
-use lib.Seq.{get_or-drop, drop-append-le, take-append-le, length-take-le}
-use Rattle.std.specs.Int.{w64, from_le_bytes, to_le_bytes}
-use Rattle.dsf.specs.Dsf.{Bytes, number_of, number_at, bytes, alike, all}
+use lib.ListN.{length, take, drop, length-drop, take-append-drop}
+use lib.Seq.{length-take-le}
+use Rattle.text.specs.Bytes.{Bytes, number_of, number_at, bytes}
+use Rattle.text.proofs.Bytes.{padded, none, cons, bytes_number, each_take, each_drop}
+use Rattle.dsf.specs.Dsf.{alike, all}
 use Rattle.dsf.proofs.Alike.{both, left, right, alike_self}
-
--- so many bytes of a list, with 0 past its end
-unfoldable pub padded : ℕ → List ℕ → List ℕ
-padded zero l = []
-padded (suc n) l = get_or l 0 0 ∷ padded n (drop 1 l)
-
-pub number_padded : (n : ℕ) (l : List ℕ) → number_of (padded n l) ≡ number_of (take n l)
-unfolding padded number_of
-number_padded zero l = refl
-number_padded (suc n) [] = omega (arith, number_padded n [], none n)
-  where
-    none : (n : ℕ) → number_of (take n []) ≡ 0
-    none zero = refl
-    none (suc n) = refl
-number_padded (suc n) (x ∷ l) = ap (λ (k : ℕ). x + 256 * k) (number_padded n l)
 
 pub alike_padded : (n : ℕ) (l : List ℕ) → T (alike l (padded n l))
 unfolding padded alike
@@ -32,54 +17,6 @@ alike_padded zero [] = tt
 alike_padded zero (x ∷ l) = tt
 alike_padded (suc n) [] = tt
 alike_padded (suc n) (x ∷ l) = both (eqb x x) (alike l (padded n l)) (eqb_refl x) (alike_padded n l)
-
--- ---- bytes
-pub none : Bytes []
-none = record { each = λ i. omega arith }
-
-pub cons : {x : ℕ} {l : List ℕ} → x < 256 → Bytes l → Bytes (x ∷ l)
-cons {x} {l} h b = record { each = go }
-  where
-    go : (i : ℕ) → get_or (x ∷ l) i 0 < 256
-    go zero = h
-    go (suc i) = b.each i
-
-pub tail : {x : ℕ} {l : List ℕ} → Bytes (x ∷ l) → Bytes l
-tail b = record { each = λ i. b.each (suc i) }
-
--- ---- a number of bytes
-pub number_bytes : (s n : ℕ) → n < 256 ^ s → number_of (bytes s n) ≡ n
-unfolding bytes number_of
-number_bytes zero n h = omega arith
-number_bytes (suc s) n h = omega (arith, number_bytes s (n / 256) (omega (arith, pow-suc 256 s)))
-
-pub bytes_number : (l : List ℕ) → Bytes l → bytes (length l) (number_of l) ≡ l
-unfolding bytes number_of
-bytes_number [] b = refl
-bytes_number (x ∷ l) b =
-    let s : x < 256 = b.each 0 in
-    let low : (x + 256 * number_of l) % 256 ≡ x = omega arith in
-    let high : (x + 256 * number_of l) / 256 ≡ number_of l = omega arith in
-    rw (low, high, bytes_number l (tail b))
-
-pub number_small : (l : List ℕ) → Bytes l → number_of l < 256 ^ length l
-unfolding number_of
-number_small [] b = omega arith
-number_small (x ∷ l) b = let s : x < 256 = b.each 0 in omega (arith, number_small l (tail b), pow-suc 256 (length l))
-
--- ---- a beginning's number
-pub number_begin : (s : ℕ) (p q : List ℕ) → number_of (take s p) ≤ number_of (take s (p ++ q))
-unfolding number_of
-number_begin zero p q = omega arith
-number_begin (suc s) [] q = omega arith
-number_begin (suc s) (x ∷ p) q = omega (arith, number_begin s p q)
-
-pub number_at_begin : (at s : ℕ) (p q : List ℕ) → number_at p at s ≤ number_at (p ++ q) at s
-unfolding number_at number_of
-number_at_begin zero s p q = number_begin s p q
-number_at_begin (suc at) zero [] q = omega arith
-number_at_begin (suc at) (suc s) [] q = omega arith
-number_at_begin (suc at) s (x ∷ p) q = number_at_begin at s p q
 
 -- a multiple of 8 by its first byte
 eighths : (s : ℕ) (p q : List ℕ) → number_of (take s (p ++ q)) % 8 ≡ 0 → number_of (take s p) % 8 ≡ 0
@@ -95,43 +32,11 @@ eighths_at (suc at) zero [] q h = refl
 eighths_at (suc at) (suc s) [] q h = refl
 eighths_at (suc at) s (x ∷ p) q h = eighths_at at s p q h
 
--- ---- bytes of parts
-pub each_append : {l m : List ℕ} → Bytes l → Bytes m → Bytes (l ++ m)
-each_append {l = []} a b = b
-each_append {l = x ∷ l} a b = cons (a.each 0) (each_append (tail a) b)
-
-pub each_drop : (n : ℕ) {l : List ℕ} → Bytes l → Bytes (drop n l)
-each_drop n {l} b = record { each = λ i. rw (get_or-drop n l i 0) (b.each (n + i)) }
-
-pub each_take : (n : ℕ) (l : List ℕ) → Bytes l → Bytes (take n l)
-each_take zero l b = none
-each_take (suc n) [] b = none
-each_take (suc n) (x ∷ l) b = cons (b.each 0) (each_take n l (tail b))
-
-pub each_bytes : (s n : ℕ) → Bytes (bytes s n)
-unfolding bytes
-each_bytes zero n = none
-each_bytes (suc s) n = cons (mod-lt n (omega arith)) (each_bytes s (n / 256))
-
-pub each_padded : (s : ℕ) (l : List ℕ) → Bytes l → Bytes (padded s l)
-unfolding padded
-each_padded zero l b = none
-each_padded (suc s) l b = cons (b.each 0) (each_padded s (drop 1 l) (each_drop 1 b))
-
-pub each_zeros : (n : ℕ) → Bytes (replicate n 0)
-each_zeros zero = none
-each_zeros (suc n) = cons (omega arith) (each_zeros n)
-
 -- by a computed test
 pub each_all : (l : List ℕ) → T (all (λ x. ltb x 256) l) → Bytes l
 unfolding all
 each_all [] h = none
 each_all (x ∷ l) h = cons (ltb→lt x 256 (left (ltb x 256) (all (λ x. ltb x 256) l) h)) (each_all l (right (ltb x 256) (all (λ x. ltb x 256) l) h))
-
--- ---- a field that is whole
-pub number_same : (at s : ℕ) (p q : List ℕ) → at + s ≤ length p → number_at (p ++ q) at s ≡ number_at p at s
-unfolding number_at
-number_same at s p q h = rw (drop-append-le at p q (omega arith), take-append-le s (drop at p) q (omega (arith, length-drop at p)))
 
 -- it is its number's bytes
 pub field_alike : (file : List ℕ) (at s : ℕ) → Bytes file → at + s ≤ length file → T (alike (drop at file) (bytes s (number_at file at s)))
@@ -142,33 +47,3 @@ field_alike file at s b h =
     let e : bytes s (number_of part) ≡ part = rw size at (bytes_number part (each_take s (drop at file) (each_drop at b))) in
     let w : part ++ drop s (drop at file) ≡ drop at file = take-append-drop s (drop at file) in
     rw e (rw w at (alike_self part (drop s (drop at file))))
-
--- ---- as the code reads and writes it
-
--- eight bytes that begin with these, and are 0 after them
-pub number_eight : (l : List ℕ) → length l ≤ 8 → from_le_bytes w64 (l ++ drop (length l) (replicate 8 0)) ≡ number_of l
-unfolding number_of
-number_eight [] h = refl
-number_eight (a ∷ []) h = omega arith
-number_eight (a ∷ b ∷ []) h = omega arith
-number_eight (a ∷ b ∷ c ∷ []) h = omega arith
-number_eight (a ∷ b ∷ c ∷ d ∷ []) h = omega arith
-number_eight (a ∷ b ∷ c ∷ d ∷ e ∷ []) h = omega arith
-number_eight (a ∷ b ∷ c ∷ d ∷ e ∷ f ∷ []) h = omega arith
-number_eight (a ∷ b ∷ c ∷ d ∷ e ∷ f ∷ g ∷ []) h = omega arith
-number_eight (a ∷ b ∷ c ∷ d ∷ e ∷ f ∷ g ∷ i ∷ []) h = omega arith
-number_eight (a ∷ b ∷ c ∷ d ∷ e ∷ f ∷ g ∷ i ∷ j ∷ l) h = absurd (omega arith)
-
-pub number_filled : (l p : List ℕ) → l ≡ p → length p ≤ 8 → from_le_bytes w64 (l ++ drop (length p) (replicate 8 0)) ≡ number_of p
-number_filled l p e h = rw e (number_eight p h)
-
-pub eight_bytes : (n : ℕ) → to_le_bytes w64 n ≡ bytes 8 n
-unfolding bytes
-eight_bytes n =
-    let b : n / 256 / 256 ≡ n / 256 ^ 2 = omega arith in
-    let c : n / 256 ^ 2 / 256 ≡ n / 256 ^ 3 = omega arith in
-    let d : n / 256 ^ 3 / 256 ≡ n / 256 ^ 4 = omega arith in
-    let e : n / 256 ^ 4 / 256 ≡ n / 256 ^ 5 = omega arith in
-    let f : n / 256 ^ 5 / 256 ≡ n / 256 ^ 6 = omega arith in
-    let g : n / 256 ^ 6 / 256 ≡ n / 256 ^ 7 = omega arith in
-    rw (b, c, d, e, f, g)

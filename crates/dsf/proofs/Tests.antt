@@ -12,10 +12,11 @@ use borrow.Author.Tests.{le-leb, lt-leb, lt-ltb, le-ltb}
 use Rattle.numbers.proofs.Lists.{below_or}
 use Rattle.reference.specs.Refusals.{Decision, accepted, refused, place, decide}
 use Rattle.reference.proofs.Refusals.{at_first, at_next}
-use Rattle.dsf.specs.Dsf.{number_of, number_at, bytes, pair, fixed, pairs, layout, alike, any, all, fits, channels, right_format, right_lengths, places_at}
+use Rattle.text.specs.Bytes.{number_of, number_at, bytes}
+use Rattle.dsf.specs.Dsf.{pair, fixed, pairs, layout, alike, any, all, fits, channels, right_format, right_lengths, places_at}
 use Rattle.dsf.specs.Reading.{header_places}
 use Rattle.dsf.proofs.Alike.{T_of, left, right, alike_after, alike_take, any_elim, all_each}
-use Rattle.dsf.proofs.Numbers.{number_bytes}
+use Rattle.text.proofs.Bytes.{number_bytes}
 
 pub fits_fixed : (file : List ℕ) (start : ℕ) (v : List ℕ) → alike (drop start file) v ≡ fits file (fixed start v)
 unfolding fits any

@@ -1,28 +1,10 @@
 -- A DSF file, as Sony's document lays it out: what stands where, what is refused, and the frames that it holds.
-use Rattle.std.specs.Prelude.{List, [], ◌∷◌, ◌++◌, Bool, true, false, cond, not, ◌&&◌, ◌||◌, ℕ, zero, suc, ◌+◌, ◌*◌, ◌-◌, ◌/◌, ◌%◌, ◌^◌, ◌<◌, eqb, ltb, leb, length, get_or, take, drop}
-use Rattle.level_lines.specs.Text.{text}
+use Rattle.std.specs.Prelude.{List, [], ◌∷◌, ◌++◌, Bool, true, false, cond, not, ◌&&◌, ◌||◌, ℕ, ◌+◌, ◌*◌, ◌-◌, ◌/◌, ◌%◌, ◌^◌, eqb, ltb, leb, length, get_or, drop}
+use Rattle.text.specs.Text.{text}
+use Rattle.text.specs.Bytes.{number_at, bytes}
 use Rattle.numbers.specs.Lists.{tabulate, total}
 use Rattle.reference.specs.Frames.{frame_bytes, frame_length, idle}
 use Rattle.reference.specs.Refusals.{Place, place, decide, is_accepted, number, lent_length}
-
--- a list of bytes
-pub record Bytes (l : List ℕ) : Type 0 where
-  pub each : (i : ℕ) → get_or l i 0 < 256
-
--- ---- numbers, lowest byte first
-
-unfoldable pub number_of : List ℕ → ℕ
-number_of [] = 0
-number_of (x ∷ xs) = x + 256 * number_of xs
-
--- the number in so many bytes of a file from a place on; a byte past the end counts as 0
-unfoldable pub number_at : List ℕ → ℕ → ℕ → ℕ
-number_at file start size = number_of (take size (drop start file))
-
--- a number as so many bytes
-unfoldable pub bytes : ℕ → ℕ → List ℕ
-bytes zero n = []
-bytes (suc size) n = n % 256 ∷ bytes size (n / 256)
 
 -- ---- the fields that the document fixes
 

@@ -1,7 +1,7 @@
 -- A header, made of its fields.
 use Rattle.std.specs.Prelude.{List, ◌++◌, ℕ}
-use Rattle.level_lines.specs.Text.{text}
-use Rattle.dsf.specs.Dsf.{bytes}
+use Rattle.text.specs.Text.{text}
+use Rattle.text.specs.Bytes.{bytes}
 
 -- the 92 bytes before the data; of the fields that vary, each as its bytes, but for the bits per sample
 unfoldable pub header : List ℕ → List ℕ → List ℕ → ℕ → List ℕ → List ℕ → List ℕ

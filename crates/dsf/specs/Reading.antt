@@ -1,14 +1,9 @@
 -- What the reader promises of a file's header, from the whole file, or from its first bytes and its length.
-use Rattle.std.specs.Prelude.{◌≡◌, List, [], ◌∷◌, ℕ, ltb, length, take, map, Result, IfOk}
+use Rattle.std.specs.Prelude.{◌≡◌, List, [], ◌∷◌, ℕ, ltb, length, take, Result, IfOk}
 use Rattle.reference.specs.Refusals.{Place, place, decide, decision}
 use Rattle.reference.specs.declared.PcmError.{PcmError}
-use Rattle.dsf.specs.Dsf.{Field, channel_type, channels, bits_per_sample, samples, frames, places_at, file_places}
+use Rattle.dsf.specs.Dsf.{channel_type, channels, bits_per_sample, samples, frames, places_at, file_places}
 use Rattle.dsf.specs.declared.DsfHeader.{DsfHeader}
-use Rattle.dsf.specs.declared.fields.Field as fields
-
--- a field of the code's table
-abbrev pub field_of : fields.Field → Field
-field_of f = record { start = f.start; values = map (λ v. v.now) f.values.now }
 
 -- what a file holds
 unfoldable pub file_header : List ℕ → DsfHeader

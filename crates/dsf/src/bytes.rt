@@ -1,6 +1,6 @@
 // Bytes as numbers, lowest first.
 ghost use Rattle.std.specs.Prelude.{◌≡◌, ◌≤◌};
-ghost use Rattle.dsf.specs.Dsf.{number_at};
+ghost use Rattle.text.specs.Bytes.{number_at};
 
 // The number in so many bytes from a place on, lowest first; a byte past the end counts as 0.
 pub fn number(file: &[u8], start: usize, size: usize) -> u64

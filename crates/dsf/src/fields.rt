@@ -1,7 +1,6 @@
 // The fields that the document fixes, tested as far as a file goes, and the data that a file needs.
 ghost use Rattle.std.specs.Prelude.{◌≡◌, true, ◌+◌, ◌*◌, ◌^◌, ◌≤◌, drop};
-ghost use Rattle.dsf.specs.Dsf.{fixed, layout, frequency, alike, all, fits, data_bytes, needed};
-ghost use Rattle.dsf.specs.Reading.{field_of};
+ghost use Rattle.dsf.specs.Dsf.{fixed, pairs, orders, layout, frequency, alike, all, fits, data_bytes, needed};
 
 use crate::bytes::number;
 
@@ -10,7 +9,12 @@ fn agrees(file: &[u8], start: usize, value: &[u8]) -> bool
     ensures { result ≡ alike (drop start file.now) value.now }
 {
     let rest = &file[start.min(file.len())..];
-    rest.iter().zip(value).all(|(x, y)| x == y)
+    for k in 0..rest.len().min(value.len()) {
+        if rest[k] != value[k] {
+            return false;
+        }
+    }
+    true
 }
 
 // A field that has one value.
@@ -21,87 +25,48 @@ pub fn holds(file: &[u8], start: usize, value: &[u8]) -> bool
     agrees(file, start, value)
 }
 
-// A field of the header: where it stands, and the values that it may have.
-struct Field {
-    start: usize,
-    values: &'static [&'static [u8]],
+// A channel type with its channels.
+#[tactic(auto, unfolding(crate::specs::Dsf::pairs, crate::specs::Dsf::fits, crate::specs::Dsf::any, text::specs::Bytes::bytes))]
+fn right_pair(file: &[u8]) -> bool
+    ensures { result ≡ fits file.now pairs }
+{
+    agrees(file, 48, b"\x01\0\0\0\x01\0\0\0")
+        || agrees(file, 48, b"\x02\0\0\0\x02\0\0\0")
+        || agrees(file, 48, b"\x03\0\0\0\x03\0\0\0")
+        || agrees(file, 48, b"\x04\0\0\0\x04\0\0\0")
+        || agrees(file, 48, b"\x05\0\0\0\x04\0\0\0")
+        || agrees(file, 48, b"\x06\0\0\0\x05\0\0\0")
+        || agrees(file, 48, b"\x07\0\0\0\x06\0\0\0")
 }
 
-// The fields of refusal 9: of them the channel type with its channels, and bits per sample, lowest bit first or highest, have more values than one.
-const LAYOUT: [Field; 11] = [
-    Field {
-        start: 0,
-        values: &[b"DSD "],
-    },
-    Field {
-        start: 4,
-        values: &[b"\x1c\0\0\0\0\0\0\0"],
-    },
-    Field {
-        start: 28,
-        values: &[b"fmt "],
-    },
-    Field {
-        start: 32,
-        values: &[b"\x34\0\0\0\0\0\0\0"],
-    },
-    Field {
-        start: 40,
-        values: &[b"\x01\0\0\0"],
-    },
-    Field {
-        start: 44,
-        values: &[b"\0\0\0\0"],
-    },
-    Field {
-        start: 48,
-        values: &[
-            b"\x01\0\0\0\x01\0\0\0",
-            b"\x02\0\0\0\x02\0\0\0",
-            b"\x03\0\0\0\x03\0\0\0",
-            b"\x04\0\0\0\x04\0\0\0",
-            b"\x05\0\0\0\x04\0\0\0",
-            b"\x06\0\0\0\x05\0\0\0",
-            b"\x07\0\0\0\x06\0\0\0",
-        ],
-    },
-    Field {
-        start: 60,
-        values: &[b"\x01\0\0\0", b"\x08\0\0\0"],
-    },
-    Field {
-        start: 72,
-        values: &[b"\0\x10\0\0"],
-    },
-    Field {
-        start: 76,
-        values: &[b"\0\0\0\0"],
-    },
-    Field {
-        start: 80,
-        values: &[b"data"],
-    },
-];
-
-// Whether a field has one of its values, as far as the file goes.
-fn fits(file: &[u8], field: &Field) -> bool
-    ensures { result ≡ fits file.now (field_of field.now) }
+// Bits per sample: lowest bit first, or highest.
+#[tactic(auto, unfolding(crate::specs::Dsf::orders, crate::specs::Dsf::fits, crate::specs::Dsf::any, text::specs::Bytes::bytes))]
+fn right_order(file: &[u8]) -> bool
+    ensures { result ≡ fits file.now orders }
 {
-    field
-        .values
-        .iter()
-        .any(|value| agrees(file, field.start, value))
+    agrees(file, 60, b"\x01\0\0\0") || agrees(file, 60, b"\x08\0\0\0")
 }
 
 // The fields of refusal 9.
+#[tactic(auto, unfolding(crate::specs::Dsf::layout, crate::specs::Dsf::all, text::specs::Text::text, text::specs::Bytes::bytes))]
 pub fn laid_out(file: &[u8]) -> bool
     ensures { result ≡ all (fits file.now) layout }
 {
-    LAYOUT.iter().all(|field| fits(file, field))
+    holds(file, 0, b"DSD ")
+        && holds(file, 4, b"\x1c\0\0\0\0\0\0\0")
+        && holds(file, 28, b"fmt ")
+        && holds(file, 32, b"\x34\0\0\0\0\0\0\0")
+        && holds(file, 40, b"\x01\0\0\0")
+        && holds(file, 44, b"\0\0\0\0")
+        && right_pair(file)
+        && right_order(file)
+        && holds(file, 72, b"\0\x10\0\0")
+        && holds(file, 76, b"\0\0\0\0")
+        && holds(file, 80, b"data")
 }
 
 // The frequency, refusal 10.
-#[tactic(auto, unfolding(crate::specs::Dsf::frequency, crate::specs::Dsf::bytes))]
+#[tactic(auto, unfolding(crate::specs::Dsf::frequency, text::specs::Bytes::bytes))]
 pub fn at_frequency(file: &[u8]) -> bool
     ensures { result ≡ fits file.now frequency }
 {

@@ -23,7 +23,7 @@ pub struct DsfHeader {
 }
 
 // Which bit of a byte is its first sample.
-#[derive(Clone, Copy, PartialEq, Eq)]
+#[derive(Clone, Copy)]
 pub enum BitOrder {
     LowestFirst,
     HighestFirst,

@@ -19,18 +19,20 @@ use Rattle.reference.proofs.Refusals.{error_refuses, at_first, at_next, at_end, 
 use Rattle.reference.specs.Promises.{by_decision}
 use Rattle.reference.specs.declared.PcmError.{PcmError}
 use Rattle.reference.proofs.Promises.{accepted_is, exit_accepted, exit_refused}
-use Rattle.dsf.specs.Dsf.{Bytes, number_at, blocks, data_bytes, data_place, channels, bits_per_sample, samples, needed, frames, frames_in, file_places, frame_places, accepts, our_byte, sample_byte, turn_byte, data_frame, file_data, file_frame}
+use Rattle.text.specs.Bytes.{Bytes, number_at}
+use Rattle.dsf.specs.Dsf.{blocks, data_bytes, data_place, channels, bits_per_sample, samples, needed, frames, frames_in, file_places, frame_places, accepts, our_byte, sample_byte, turn_byte, data_frame, file_data, file_frame}
 use Rattle.dsf.specs.Reading.{HeadOf, file_header, header_places}
 use Rattle.dsf.specs.declared.DsfHeader.{DsfHeader}
 use Rattle.dsf.proofs.Alike.{T_is, T_of, left, right, skip}
-use Rattle.dsf.proofs.Numbers.{number_small, each_take, each_drop}
+use Rattle.text.proofs.Bytes.{number_small, each_take, each_drop}
 use Rattle.dsf.proofs.Accepted.{sound_at, head_channels}
 use Rattle.dsf.proofs.Head.{whole_head, header_right}
 use Rattle.dsf_frames.specs.Theorems.{WindowRight}
 use Rattle.dsf_frames.specs.Reading.{lesser, window_start, window_end, window_of, asked_places, window_places, window_data, window_frame, Framed, WindowOf}
-use Rattle.dsf_frames.specs.Columns.{WindowArgs}
+use Rattle.dsf_frames.specs.Windows.{WindowArgs}
 use Rattle.dsf_frames.specs.declared.FrameWindow.{FrameWindow}
-use Rattle.dsf_frames.proofs.Windows.{place_at, above, within, column_args, turn_at}
+use Rattle.dsf_columns.proofs.Strides.{place_at, above, within}
+use Rattle.dsf_frames.proofs.Windows.{column_args, turn_at}
 
 -- ---- what a program reads for a frame
 pub window_is : (w : FrameWindow) (n s f : ℕ) → n ≤ 6 → f < frames_in s → w.start ≡ window_start n f → w.end ≡ window_end n s f → window_of n s f ≡ Some w

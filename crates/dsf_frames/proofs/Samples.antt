@@ -9,13 +9,14 @@ use lib.Dec.{T, eqb, ltb, eqb→eq, lt→ltb, ltb→lt}
 use lib.ListN.{get_or}
 use Rattle.numbers.specs.Lists.{total}
 use Rattle.numbers.proofs.Lists.{get_d_tabulate}
-use Rattle.dsf.specs.Dsf.{Bytes, data_place, channels, bits_per_sample, samples, frames, frames_in, turned, our_byte, sample_byte, turn_byte, data_frame, file_data, file_byte, file_frame, sample_from_lowest, sample_from_highest, file_sample}
+use Rattle.text.specs.Bytes.{Bytes}
+use Rattle.dsf.specs.Dsf.{data_place, channels, bits_per_sample, samples, frames, frames_in, turned, our_byte, sample_byte, turn_byte, data_frame, file_data, file_byte, file_frame, sample_from_lowest, sample_from_highest, file_sample}
 use Rattle.dsf.proofs.Alike.{pick, skip}
 use Rattle.dsf.proofs.Accepted.{sound}
 use Rattle.numbers.specs.Tests.{each_below}
 use Rattle.numbers.proofs.Tests.{each_below_at}
 use Rattle.dsf_frames.specs.Theorems.{SamplesRight, IdlePast}
-use Rattle.dsf_frames.proofs.Blocks.{quotient, remainder}
+use Rattle.dsf_columns.proofs.Blocks.{quotient, remainder}
 
 test : ℕ → ℕ → Bool
 test x i = eqb (turned x / 2 ^ (7 - i) % 2) (x / 2 ^ i % 2)

@@ -1,3 +1,3 @@
 pub mod Reading
-pub mod Columns
+pub mod Windows
 pub mod Theorems

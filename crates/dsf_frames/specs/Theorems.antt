@@ -2,7 +2,8 @@
 use Rattle.std.specs.Prelude.{◌≡◌, List, ℕ, ◌+◌, ◌*◌, ◌/◌, ◌%◌, ◌≤◌, ◌<◌, T, length, get_or}
 use Rattle.reference.specs.Frames.{idle}
 use Rattle.reference.specs.Refusals.{decide, accepted}
-use Rattle.dsf.specs.Dsf.{Bytes, accepts, channels, samples, frames, file_frame, file_sample, sample_from_highest}
+use Rattle.text.specs.Bytes.{Bytes}
+use Rattle.dsf.specs.Dsf.{accepts, channels, samples, frames, file_frame, file_sample, sample_from_highest}
 use Rattle.dsf.specs.Reading.{HeadOf}
 use Rattle.dsf_frames.specs.Reading.{WindowOf, window_frame, window_places}
 

@@ -1,14 +1,14 @@
 // Frames out of a window of a file's data, or out of a whole file.
 ghost use Rattle.std.specs.Prelude.{◌≡◌, ◌+◌, ◌*◌, ◌/◌, ◌≤◌, ◌<◌, leb, length};
 ghost use Rattle.reference.specs.Refusals.{decide, decision};
-ghost use Rattle.dsf.specs.Dsf.{Bytes, data_frame};
+ghost use Rattle.text.specs.Bytes.{Bytes};
+ghost use Rattle.dsf.specs.Dsf.{data_frame};
 ghost use Rattle.dsf_frames.specs.Reading.{window_start, window_end, window_of, asked_places, window_data, Framed, FramePromise, WindowPromise};
-ghost use Rattle.dsf_frames.specs.Columns.{WindowArgs};
+ghost use Rattle.dsf_frames.specs.Windows.{WindowArgs};
 
-use crate::bits::order_table;
-use crate::columns::{Channel, column};
-use crate::{FrameWindow, Stretch};
+use crate::FrameWindow;
 use dsf::{DsfHeader, read_header};
+use dsf_columns::{Channel, Stretch, column, order_table};
 use reference::PcmError;
 
 // Tells that a slice's numbers are bytes: of a parameter that is known, of the slice in a `Stretch` it is not.

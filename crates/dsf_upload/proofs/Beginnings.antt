@@ -11,7 +11,8 @@ use lib.ListN.{length, take}
 use lib.Seq.{take-take, take_all, length-take-le}
 use Rattle.numbers.proofs.Lists.{below_or}
 use Rattle.reference.specs.Refusals.{decide, is_accepted}
-use Rattle.dsf.specs.Dsf.{bytes, fixed, layout, frequency, all, fits, stated_length, samples, needed, accepts}
+use Rattle.text.specs.Bytes.{bytes}
+use Rattle.dsf.specs.Dsf.{fixed, layout, frequency, all, fits, stated_length, samples, needed, accepts}
 use Rattle.dsf.specs.Reading.{HeadOf, header_places}
 use Rattle.dsf.proofs.Alike.{T_of, F_of, left, right, both, or_elim, or_right, ends_by}
 use Rattle.dsf.proofs.Head.{header_right, fits_same, layout_same, frequency_same, samples_same, needed_same, stated_same}

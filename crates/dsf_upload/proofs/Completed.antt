@@ -8,13 +8,15 @@ use lib.Dec.{T, lit≤}
 use lib.Seq.{drop-drop}
 use lib.ListN.{length, drop, replicate, length-append, length-drop, length-replicate, drop_of_length-le}
 use Rattle.numbers.proofs.Lists.{below_or}
-use Rattle.level_lines.specs.Text.{text}
-use Rattle.dsf.specs.Dsf.{Bytes, number_of, number_at, bytes, pair, alike, any, all, fits, layout, pairs, orders, data_bytes, stated_length, channels, samples, data_size, needed}
+use Rattle.text.specs.Text.{text}
+use Rattle.text.specs.Bytes.{Bytes, number_of, number_at, bytes}
+use Rattle.dsf.specs.Dsf.{pair, alike, any, all, fits, layout, pairs, orders, data_bytes, stated_length, channels, samples, data_size, needed}
 use Rattle.dsf.specs.Headers.{header}
 use Rattle.dsf_upload.specs.Uploads.{Continued}
 use Rattle.dsf_upload.specs.Deciding.{hopeful}
 use Rattle.dsf.proofs.Alike.{Alike, fixed_alike, all_each, any_elim, join, alike_append, alike_after, alike_take}
-use Rattle.dsf.proofs.Numbers.{padded, number_padded, alike_padded, number_bytes, number_small, each_append, each_drop, each_bytes, each_padded, each_zeros, each_all, cons, none}
+use Rattle.text.proofs.Bytes.{padded, number_padded, number_bytes, number_small, each_append, each_drop, each_bytes, each_padded, each_zeros, cons, none}
+use Rattle.dsf.proofs.Numbers.{alike_padded, each_all}
 use Rattle.dsf.proofs.Accepted.{is_sound}
 use Rattle.dsf.proofs.Headers.{Laid, head, alike_head}
 use Rattle.dsf_upload.proofs.Open.{Open, opens}

@@ -9,13 +9,14 @@ use lib.Dec.{T, T_not, not_T}
 use lib.ListN.{length, take, drop, take-append-drop}
 use lib.Seq.{take_all, take-take, length-take-le}
 use Rattle.numbers.proofs.Lists.{below_or}
-use Rattle.dsf.specs.Dsf.{Bytes, number_of, number_at, alike, any, all, fits, layout, pairs, orders, frequency, stated_length, channels, samples, blocks, data_bytes, needed, accepts}
+use Rattle.text.specs.Bytes.{Bytes, number_of, number_at}
+use Rattle.dsf.specs.Dsf.{alike, any, all, fits, layout, pairs, orders, frequency, stated_length, channels, samples, blocks, data_bytes, needed, accepts}
 use Rattle.dsf_upload.specs.Uploads.{Continued, Hopeless, ShortestHopeless, UploadPromise}
 use Rattle.dsf_upload.specs.Deciding.{head_hopeful, hopeful}
 use Rattle.dsf_upload.specs.Theorems.{Decides, OneAnswer}
 use Rattle.dsf_upload.specs.declared.Upload.{Upload}
 use Rattle.dsf_upload.specs.declared.Upload.TheVariants.{Accepted, Unfinished, GiveUp}
-use Rattle.dsf.proofs.Numbers.{each_append, each_drop, each_take}
+use Rattle.text.proofs.Bytes.{each_append, each_drop, each_take}
 use Rattle.dsf_upload.proofs.Open.{opens, is_open}
 use Rattle.dsf_upload.proofs.Hopeful.{begins, stated_same, longer}
 use Rattle.dsf_upload.proofs.Completed.{continues}

@@ -8,11 +8,13 @@ use native.Mathlib.Omega.{arith}
 use lib.Dec.{T}
 use lib.ListN.{length, drop, length-append, drop_of_length-le}
 use Rattle.numbers.proofs.Lists.{below_or}
-use Rattle.level_lines.specs.Text.{text}
-use Rattle.dsf.specs.Dsf.{Bytes, bytes, fixed, alike, all, fits, layout, pairs, orders, frequency, blocks, data_bytes, stated_length, channels, samples, data_size, needed, accepts}
+use Rattle.text.specs.Text.{text}
+use Rattle.text.specs.Bytes.{Bytes, bytes}
+use Rattle.dsf.specs.Dsf.{fixed, alike, all, fits, layout, pairs, orders, frequency, blocks, data_bytes, stated_length, channels, samples, data_size, needed, accepts}
 use Rattle.dsf_upload.specs.Deciding.{hopeful}
 use Rattle.dsf.proofs.Alike.{all_map, fits_begin, alike_fixed, alike_begin_at, ends_by, all_map_where, fits_longer}
-use Rattle.dsf.proofs.Numbers.{number_at_begin, number_same, eighths_at, field_alike}
+use Rattle.text.proofs.Bytes.{number_at_begin, number_same}
+use Rattle.dsf.proofs.Numbers.{eighths_at, field_alike}
 use Rattle.dsf.proofs.Accepted.{Sound, sound}
 use Rattle.dsf_upload.proofs.Open.{Open, is_open}
 

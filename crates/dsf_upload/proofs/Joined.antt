@@ -9,7 +9,8 @@ use Rattle.std.specs.Result.{is_ok}
 use Rattle.reference.specs.Refusals.{is_accepted, decision}
 use Rattle.reference.specs.declared.PcmError.{PcmError}
 use Rattle.reference.proofs.Refusals.{error_refuses}
-use Rattle.dsf.specs.Dsf.{bytes, fixed, layout, frequency, all, fits, stated_length, samples, needed}
+use Rattle.text.specs.Bytes.{bytes}
+use Rattle.dsf.specs.Dsf.{fixed, layout, frequency, all, fits, stated_length, samples, needed}
 use Rattle.dsf_upload.specs.Deciding.{head_hopeful}
 
 regroup : (a b r : Bool) → ((a && (b && true)) && r) ≡ (a && (b && r))

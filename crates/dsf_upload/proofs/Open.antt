@@ -6,7 +6,8 @@ use Prim.Native.Nat.{ℕ, ◌+◌, ◌%◌, ◌≤◌, ◌<◌}
 use native.Mathlib.Omega.{arith}
 use lib.Dec.{T, eqb, ltb, leb, leb→le, le→leb, ltb→lt, nltb→le, eqb→eq}
 use lib.ListN.{length}
-use Rattle.dsf.specs.Dsf.{fixed, bytes, layout, frequency, all, fits, stated_length, samples, needed}
+use Rattle.dsf.specs.Dsf.{fixed, layout, frequency, all, fits, stated_length, samples, needed}
+use Rattle.text.specs.Bytes.{bytes}
 use Rattle.dsf.proofs.Alike.{both, left, right, or_elim}
 use Rattle.dsf.proofs.Accepted.{eq→eqb}
 use Rattle.dsf_upload.specs.Deciding.{head_hopeful, hopeful}

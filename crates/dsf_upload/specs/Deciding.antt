@@ -1,6 +1,7 @@
 -- How it is decided whether a beginning has an accepted continuation; no part of a promise.
 use Rattle.std.specs.Prelude.{List, [], ◌∷◌, Bool, ◌&&◌, ◌||◌, ℕ, ◌+◌, ◌%◌, eqb, ltb, leb, length}
-use Rattle.dsf.specs.Dsf.{bytes, fixed, layout, frequency, all, fits, stated_length, samples, needed}
+use Rattle.text.specs.Bytes.{bytes}
+use Rattle.dsf.specs.Dsf.{fixed, layout, frequency, all, fits, stated_length, samples, needed}
 
 -- the reader's tests on the first bytes of a beginning of n bytes: fields as far as it goes, absent bytes of the sample count 0, the stated length once it is there
 unfoldable pub head_hopeful : List ℕ → ℕ → Bool

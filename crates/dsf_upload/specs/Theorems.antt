@@ -1,6 +1,6 @@
 -- What is proved of giving up early.
 use Rattle.std.specs.Prelude.{◌≡◌, List, ℕ, T, take}
-use Rattle.dsf.specs.Dsf.{Bytes}
+use Rattle.text.specs.Bytes.{Bytes}
 use Rattle.dsf.specs.Reading.{HeadOf}
 use Rattle.dsf_upload.specs.Uploads.{Continued, UploadPromise, known, known_length}
 use Rattle.dsf_upload.specs.Deciding.{hopeful}

@@ -1,6 +1,7 @@
 -- Giving up early on an upload: the shortest beginning that no continuation makes acceptable.
 use Rattle.std.specs.Prelude.{List, ◌++◌, not, cond, ℕ, ◌≤◌, ◌<◌, T, min, ltb, length, take}
-use Rattle.dsf.specs.Dsf.{Bytes, accepts}
+use Rattle.text.specs.Bytes.{Bytes}
+use Rattle.dsf.specs.Dsf.{accepts}
 use Rattle.dsf.specs.Reading.{HeadOf}
 use Rattle.dsf_upload.specs.declared.Upload.{Upload}
 use Rattle.dsf_upload.specs.declared.Upload.TheVariants.{Accepted, Unfinished, GiveUp}

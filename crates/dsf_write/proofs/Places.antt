@@ -4,7 +4,7 @@ use Prim.Native.Nat.{ℕ, ◌+◌, ◌*◌, ◌/◌, ◌%◌, ◌<◌}
 use native.Mathlib.Nat.{div-add-mod', mod-lt, div-lt_iff_lt-mul}
 use native.Mathlib.Omega.{arith}
 use Rattle.dsf.specs.Dsf.{data_place}
-use Rattle.dsf_frames.proofs.Blocks.{quotient, remainder, group}
+use Rattle.dsf_columns.proofs.Blocks.{quotient, remainder, group}
 use Rattle.dsf_write.specs.Written.{data_channel, data_byte}
 
 module _ (n c q : ℕ) (l : c < n) where

@@ -11,16 +11,18 @@ use lib.Seq.{get_or-take, get_or-drop, length-take-le}
 use Rattle.numbers.specs.Lists.{tabulate}
 use Rattle.numbers.proofs.Lists.{part_end, below_or, length_tabulate, get_d_tabulate, is_tabulate}
 use Rattle.reference.specs.Frames.{frame, frame_count}
-use Rattle.dsf.specs.Dsf.{Bytes, number_of, number_at, bytes, pair, alike, blocks, data_bytes, data_place, stated_length, channel_type, channels, bits_per_sample, samples, data_size, needed, frames, turned, our_byte, sample_byte, turn_byte, data_frame, file_data, file_byte}
+use Rattle.text.specs.Bytes.{Bytes, number_of, number_at, bytes}
+use Rattle.dsf.specs.Dsf.{pair, alike, blocks, data_bytes, data_place, stated_length, channel_type, channels, bits_per_sample, samples, data_size, needed, frames, turned, our_byte, sample_byte, turn_byte, data_frame, file_data, file_byte}
 use Rattle.dsf.specs.Headers.{header}
 use Rattle.dsf.proofs.Alike.{Alike, seg, join, pick, skip, T_is}
-use Rattle.dsf.proofs.Numbers.{padded, number_padded, alike_padded, bytes_number, each_padded, each_drop, field_alike}
+use Rattle.text.proofs.Bytes.{padded, number_padded, bytes_number, each_padded, each_drop}
+use Rattle.dsf.proofs.Numbers.{alike_padded, field_alike}
 use Rattle.dsf.proofs.Accepted.{Sound, sound}
 use Rattle.dsf.proofs.Tests.{channels_range}
 use Rattle.dsf.proofs.Headers.{head, alike_head}
 use Rattle.dsf.proofs.Headers as H
-use Rattle.dsf_frames.proofs.Blocks.{quotient, remainder}
-use Rattle.dsf_frames.proofs.Turned.{turned_twice}
+use Rattle.dsf_columns.proofs.Blocks.{quotient, remainder}
+use Rattle.dsf_columns.proofs.Turned.{turned_twice}
 use Rattle.dsf_write.specs.Written.{type_of, data_channel, data_byte, written_channel, written_data, written_byte, written, all_frames, Plain, Writable}
 use Rattle.dsf_write.specs.Theorems.{Rewritten, FrameOfAll}
 use Rattle.dsf_write.proofs.Places.{place_is, channel_below, byte_below}

@@ -3,7 +3,7 @@ use mathlib.Core.Path.{◌≡◌, refl, sym, ap, ap₂, ◌∙◌}
 use mathlib.Core.List.{List, [], ◌∷◌, ◌++◌, append_assoc}
 use mathlib.Core.Bool.{not, ◌&&◌, and-false}
 use mathlib.Core.Logic.{◌≢◌, ⊎_elim}
-use Prim.Native.Nat.{ℕ, ◌+◌, ◌-◌, ◌*◌, ◌/◌, ◌%◌, ◌^◌, ◌≤◌, ◌<◌}
+use Prim.Native.Nat.{ℕ, ◌+◌, ◌-◌, ◌*◌, ◌/◌, ◌%◌, ◌^◌, ◌≤◌, ◌<◌, min}
 use native.Mathlib.Nat.{add-mul, mul-le-mul, mul-le-mul_right, mod-lt, div-add-mod', mul_assoc, div-mul-le_self, div-lt_iff_lt-mul}
 use native.Mathlib.Omega.{arith}
 use lib.Dec.{leb, ltb, lt→ltb, ltb→lt}
@@ -21,15 +21,15 @@ use Rattle.reference.specs.declared.PcmError.TheVariants.{OutputBytes}
 use Rattle.reference.proofs.Promises.{exit_accepted, exit_refused}
 use Rattle.reference.specs.Refusals.{Decision, accepted, refused, error_decision, place, decide, is_accepted, number, rack, run_length, lent_length}
 use Rattle.reference.proofs.Refusals.{error_refuses, at_first, at_next, at_end, pass, decide_skip, decide_stop}
-use Rattle.level_lines.specs.Text.{text}
-use Rattle.dsf.specs.Dsf.{bytes, pair, blocks, data_bytes, turned}
+use Rattle.text.specs.Text.{text}
+use Rattle.text.specs.Bytes.{bytes}
+use Rattle.dsf.specs.Dsf.{pair, blocks, data_bytes, turned}
 use Rattle.dsf.specs.Headers.{header}
 use Rattle.dsf.proofs.Alike.{T_is, T_of, left, right, pick, skip}
-use Rattle.dsf_frames.specs.Reading.{lesser}
 use Rattle.dsf.specs.declared.BitOrder.TheVariants.{LowestFirst}
-use Rattle.dsf_frames.specs.Columns.{Ordering}
-use Rattle.dsf_frames.proofs.Blocks.{group}
-use Rattle.dsf_frames.proofs.Pieces.{long_mid, wrote_piece}
+use Rattle.dsf_columns.specs.Columns.{Ordering}
+use Rattle.dsf_columns.proofs.Blocks.{group}
+use Rattle.dsf_write.proofs.Pieces.{long_mid, wrote_piece}
 use Rattle.dsf_write.specs.Written.{type_of, data_channel, data_byte, written_channel, written_data, written_byte, written, file_length, length_places, write_places, WritePromise, Writable}
 use Rattle.dsf_write.specs.Putting.{PutPromise, DataArgs, BlockArgs}
 use Rattle.dsf_write.proofs.Written.{by_channels}
@@ -134,7 +134,7 @@ module _ {n : ℕ} {fr : List ℕ} {m k out : ℕ} (a : BlockArgs n fr m k out) 
         let g : m ≤ (k * 4096 + i) / 4096 / n * 4096 + (k * 4096 + i) % 4096 = rw (t.0, t.1) (omega (arith, a.begun)) in
         byte_out n fr m (k * 4096 + i) a.bytes_are g
 
-    pub block_wrote : {live : ℕ} {old mid new : List ℕ} → live ≡ lesser 4096 (m - first) → Wrote 0 (λ i. get_or table (get_or fr (first * n + c + i * n) 0) 0) (92 + k * 4096) live old mid
+    pub block_wrote : {live : ℕ} {old mid new : List ℕ} → live ≡ min 4096 (m - first) → Wrote 0 (λ i. get_or table (get_or fr (first * n + c + i * n) 0) 0) (92 + k * 4096) live old mid
         → Wrote 0 (λ i. 0) (92 + k * 4096 + live) (4096 - live) mid new → Wrote 0 (λ i. written_byte n fr (k * 4096 + i)) (92 + k * 4096) 4096 old new
     block_wrote {live} e v w =
         let s : live + (4096 - live) ≡ 4096 = omega arith in

@@ -11,16 +11,17 @@ use lib.Seq.{get_or-append-add, get_or-take, get_or-drop, length-take-le}
 use Rattle.numbers.specs.Lists.{tabulate}
 use Rattle.numbers.proofs.Lists.{part_end, length_tabulate, get_d_tabulate, is_tabulate}
 use Rattle.reference.specs.Frames.{frame, frame_count}
-use Rattle.level_lines.specs.Text.{text}
-use Rattle.dsf.specs.Dsf.{Bytes, number_at, bytes, alike, any, all, fits, layout, pairs, orders, blocks, data_bytes, data_place, stated_length, channel_type, channels, bits_per_sample, samples, data_size, needed, accepts, frames, frames_in, turned, our_byte, sample_byte, turn_byte, data_frame, file_data, file_byte, file_frame}
+use Rattle.text.specs.Text.{text}
+use Rattle.text.specs.Bytes.{Bytes, number_at, bytes}
+use Rattle.dsf.specs.Dsf.{alike, any, all, fits, layout, pairs, orders, blocks, data_bytes, data_place, stated_length, channel_type, channels, bits_per_sample, samples, data_size, needed, accepts, frames, frames_in, turned, our_byte, sample_byte, turn_byte, data_frame, file_data, file_byte, file_frame}
 use Rattle.dsf.specs.Headers.{header}
 use Rattle.dsf.proofs.Alike.{pick, skip}
-use Rattle.dsf.proofs.Numbers.{padded, number_bytes}
+use Rattle.text.proofs.Bytes.{padded, number_bytes}
 use Rattle.dsf.proofs.Accepted.{is_sound}
 use Rattle.dsf.proofs.Headers.{Laid}
 use Rattle.dsf.proofs.Headers as H
-use Rattle.dsf_frames.proofs.Blocks.{place_below}
-use Rattle.dsf_frames.proofs.Turned.{turned_twice}
+use Rattle.dsf_columns.proofs.Blocks.{place_below}
+use Rattle.dsf_columns.proofs.Turned.{turned_twice}
 use Rattle.dsf_write.specs.Written.{type_of, written_channel, written_data, written_byte, written, Writable, Plain}
 use Rattle.dsf_write.specs.Theorems.{WrittenRead}
 use Rattle.dsf_write.proofs.Places.{channel_is, byte_is}

@@ -1,7 +1,8 @@
 -- What is proved of the files that are written: read, they give the frames back, and what was read from a file of their kind is written back as it.
 use Rattle.std.specs.Prelude.{◌≡◌, List, ℕ, ◌<◌, T}
 use Rattle.reference.specs.Frames.{frame, frame_count}
-use Rattle.dsf.specs.Dsf.{Bytes, accepts, channels, frames, file_frame}
+use Rattle.text.specs.Bytes.{Bytes}
+use Rattle.dsf.specs.Dsf.{accepts, channels, frames, file_frame}
 use Rattle.dsf_write.specs.Written.{written, all_frames, Plain, Writable}
 
 -- a written file is accepted, has as many frames as were written, and each is the frame written; and it is of the kind that is written.

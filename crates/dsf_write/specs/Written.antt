@@ -5,7 +5,8 @@ use Rattle.reference.specs.Frames.{frame_count, frame_bytes, frame_length}
 use Rattle.reference.specs.Refusals.{Place, place, decide, decision, number, lent_length}
 use Rattle.reference.specs.Promises.{by_decision}
 use Rattle.reference.specs.declared.PcmError.{PcmError}
-use Rattle.dsf.specs.Dsf.{number_at, bytes, pair, block, blocks, data_bytes, data_place, channel_type, channels, bits_per_sample, samples, needed, accepts, frames, turned, turn_byte, file_data}
+use Rattle.text.specs.Bytes.{number_at, bytes}
+use Rattle.dsf.specs.Dsf.{pair, block, blocks, data_bytes, data_place, channel_type, channels, bits_per_sample, samples, needed, accepts, frames, turned, turn_byte, file_data}
 use Rattle.dsf.specs.Headers.{header}
 
 -- the channel type that is written for 1 to 6 channels: 1, 2, 3, 4, 6, 7

@@ -2,20 +2,20 @@
 ghost use Rattle.std.specs.Prelude.{◌≡◌, ◌+◌, ◌-◌, ◌*◌, ◌≤◌, ◌<◌, ◌^◌, length, get_or};
 ghost use Rattle.numbers.specs.Lists.{Wrote};
 ghost use Rattle.dsf.specs.declared.BitOrder.TheVariants.{LowestFirst};
-ghost use Rattle.dsf_frames.specs.Columns.{Ordering};
+ghost use Rattle.dsf_columns.specs.Columns.{Ordering};
 ghost use Rattle.dsf_write.specs.Written.{written_byte};
 ghost use Rattle.dsf_write.specs.Putting.{DataArgs, BlockArgs};
 
 use dsf::BitOrder;
-use dsf_frames::order_table;
+use dsf_columns::order_table;
 
 // Bytes at a stride through a table.
 fn gather(frames: &[u8], table: &[u8; 256], from: usize, stride: usize, out: &mut [u8])
     requires { (from + length out.old * stride < length frames.now + stride) × (length frames.now + stride < 2 ^ 64) }
     ensures { Wrote 0 (λ i. get_or table.now (get_or frames.now (from + i * stride) 0) 0) 0 (length out.old) out.old out.new }
 {
-    for (k, place) in out.iter_mut().enumerate() {
-        *place = table[frames[from + k * stride] as usize];
+    for k in 0..out.len() {
+        out[k] = table[frames[from + k * stride] as usize];
     }
 }
 

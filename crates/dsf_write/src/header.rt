@@ -1,6 +1,7 @@
 // The 92 bytes before the data.
 ghost use Rattle.std.specs.Prelude.{◌≡◌, ◌+◌, ◌≤◌, length};
-ghost use Rattle.dsf.specs.Dsf.{bytes, pair};
+ghost use Rattle.text.specs.Bytes.{bytes};
+ghost use Rattle.dsf.specs.Dsf.{pair};
 ghost use Rattle.dsf.specs.Headers.{header};
 ghost use Rattle.dsf_write.specs.Written.{type_of};
 ghost use Rattle.dsf_write.specs.Putting.{PutPromise};

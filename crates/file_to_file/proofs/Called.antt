@@ -11,7 +11,7 @@ use Rattle.dsf.specs.Dsf.{frames}
 use Rattle.dsf.specs.Reading.{HeadOf}
 use Rattle.dsf_frames.specs.Reading.{WindowOf}
 use Rattle.album.specs.Album.{pieces}
-use Rattle.album_gather.specs.Steps.{lent_lists}
+use Rattle.album_step.specs.Promises.{lent_lists}
 use Rattle.album_step.specs.contracts.step as step
 use Rattle.album_step.proofs.Called.{step_said}
 use Rattle.file_to_file.specs.FileToFile.{Step}

@@ -15,15 +15,18 @@ use Rattle.reference.specs.declared.Converter.{Converter}
 use Rattle.std.specs.Prelude.{Ok}
 use Rattle.reference.proofs.Promises.{exit_accepted}
 use Rattle.reference.specs.Codes.{hertz}
-use Rattle.dsf.specs.Dsf.{Bytes, channels, frames}
+use Rattle.text.specs.Bytes.{Bytes}
+use Rattle.dsf.specs.Dsf.{channels, frames}
 use Rattle.dsf_frames.specs.Reading.{WindowOf}
-use Rattle.wav_format.specs.Wav.{header, wav_file, frame_size}
-use Rattle.wav_format.proofs.Reading.{length_header}
+use Rattle.wav_header.specs.Header.{header}
+use Rattle.wav_format.specs.Wav.{wav_file, frame_size}
+use Rattle.wav_header.proofs.ThreeParts.{length_header}
 use Rattle.album.specs.Album.{pieces, album_places, album_converter}
 use Rattle.album.specs.declared.Wanted.{Wanted}
 use Rattle.album_plan.specs.Plan.{place_of, part_first}
 use Rattle.album_plan.specs.declared.Piece.{Piece}
-use Rattle.album_gather.specs.Steps.{step_places, lent_lists, album_run, window_run, worked}
+use Rattle.album_gather.specs.Steps.{step_places, album_run, window_run}
+use Rattle.album_step.specs.Promises.{lent_lists, worked}
 use Rattle.file_to_file.specs.FileToFile.{Step, Cut, Holds, Written}
 use Rattle.file_to_file.specs.Planned.{piece_at, PieceCall, Calls, Parts, CutMeets, PlanCanBeMet}
 use Rattle.file_to_file.proofs.FileToFile.{few, all_bytes, bytes_long}

@@ -23,7 +23,8 @@ use Rattle.reference.proofs.Opening.{held_as_opened}
 use Rattle.joins.specs.Joins.{Call, convert, run_of, answer_of, samples_of, read_s24le, right_lengths, is_answered_accepted, keep, pieces, SameBytes, Agree, AllAgree, JoinTo, GiveWholeRun}
 use Rattle.joins.proofs.Bytes.{samples_back, bytes_join, no_bytes}
 use Rattle.joins.proofs.Joins.{cut_runs_join}
-use Rattle.dsf.specs.Dsf.{Bytes, channels, frames, file_frame, data_frame}
+use Rattle.text.specs.Bytes.{Bytes}
+use Rattle.dsf.specs.Dsf.{channels, frames, file_frame, data_frame}
 use Rattle.dsf.specs.Dsf as dsf
 use Rattle.dsf.specs.Reading.{HeadOf, header_places, file_header}
 use Rattle.dsf.specs.declared.DsfHeader.{DsfHeader}
@@ -32,10 +33,12 @@ use Rattle.dsf.proofs.Head.{header_right}
 use Rattle.dsf_frames.specs.Reading.{window_places, window_frame}
 use Rattle.dsf_frames.proofs.Asked.{window_right}
 use Rattle.reference.specs.Codes.{hertz}
-use Rattle.wav_format.specs.Wav.{header, wav_file, frame_size}
-use Rattle.wav_format.proofs.Reading.{length_header}
+use Rattle.wav_header.specs.Header.{header}
+use Rattle.wav_format.specs.Wav.{wav_file, frame_size}
+use Rattle.wav_header.proofs.ThreeParts.{length_header}
 use Rattle.album.specs.Album.{settings_for, later_places, album_places, album_of, album_converter}
-use Rattle.album_gather.specs.Steps.{held_places as step-held, lent_places, piece_places, step_places, frames_from, run_from, there, file_run, window_run, album_run, lent_lists}
+use Rattle.album_gather.specs.Steps.{held_places as step-held, lent_places, piece_places, step_places, frames_from, run_from, there, file_run, window_run, album_run}
+use Rattle.album_step.specs.Promises.{lent_lists}
 use Rattle.file_to_file.specs.FileToFile.{Step, Cut, Holds, Written, FileToFile}
 use Rattle.album_plan.specs.Plan.{place_of}
 use Rattle.album.specs.declared.Wanted.{Wanted}

@@ -20,7 +20,8 @@ use Rattle.sheet_laws.proofs.Runs.{never_too_wide}
 use Rattle.dsf.specs.Dsf.{channels, frames, frames_in, blocks}
 use Rattle.dsf.specs.Dsf as dsf
 use Rattle.dsf_frames.specs.Reading.{lesser, window_start, window_end}
-use Rattle.wav_format.specs.Wav.{frame_size, most_data, right_data}
+use Rattle.wav_format.specs.Wav.{frame_size, right_data}
+use Rattle.wav_header.specs.Header.{most_data}
 use Rattle.wav_format.proofs.Reading.{right_of}
 use Rattle.album.proofs.Openings.{few_frames}
 use Rattle.wav_checks.specs.Places.{too_large}

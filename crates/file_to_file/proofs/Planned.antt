@@ -32,7 +32,8 @@ use Rattle.album_plan.specs.Plan.{piece_count, stretch_start, stretch_end, place
 use Rattle.album_plan.specs.declared.Piece.{Piece}
 use Rattle.album_plan.proofs.Cutting.{plan_cuts}
 use Rattle.album_plan.proofs.Stretches.{long_enough, lesser_right}
-use Rattle.album_gather.specs.Steps.{held_places, lent_places, piece_places, step_places, lent_lists}
+use Rattle.album_gather.specs.Steps.{held_places, lent_places, piece_places, step_places}
+use Rattle.album_step.specs.Promises.{lent_lists}
 use Rattle.album_gather.specs.declared.Lent.{Lent}
 use Rattle.album_gather.proofs.Fitting.{all_there}
 use Rattle.sheet.specs.Sheet.{sheet}

@@ -6,13 +6,16 @@ use Rattle.reference.specs.Statistics.{all_joined}
 use Rattle.reference.specs.Promises.{Converted, stats_told}
 use Rattle.reference.specs.Refusals.{decide, decision, accepted}
 use Rattle.reference.specs.Codes.{hertz}
-use Rattle.dsf.specs.Dsf.{Bytes, channels, frames}
+use Rattle.text.specs.Bytes.{Bytes}
+use Rattle.dsf.specs.Dsf.{channels, frames}
 use Rattle.dsf.specs.Reading.{HeadOf}
 use Rattle.dsf_frames.specs.Reading.{WindowOf}
-use Rattle.wav_format.specs.Wav.{header, wav_file, frame_size}
+use Rattle.wav_header.specs.Header.{header}
+use Rattle.wav_format.specs.Wav.{wav_file, frame_size}
 use Rattle.album.specs.Album.{album_places, album_converter}
 use Rattle.album_plan.specs.Plan.{place_of}
-use Rattle.album_gather.specs.Steps.{StepPromise, album_run}
+use Rattle.album_step.specs.Promises.{StepPromise}
+use Rattle.album_gather.specs.Steps.{album_run}
 use Rattle.album.specs.declared.Wanted.{Wanted}
 
 -- a step that was taken: some frames of the file, out of its first bytes, its length and a window of its data

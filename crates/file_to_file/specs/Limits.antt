@@ -6,7 +6,8 @@ use Rattle.reference.specs.Frames.{frame_length}
 use Rattle.reference.specs.Output.{stats}
 use Rattle.reference.specs.Refusals.{decide, accepted, refusal_number}
 use Rattle.sheet.specs.Promises.{sheet_places}
-use Rattle.dsf.specs.Dsf.{Bytes, channels, frames}
+use Rattle.text.specs.Bytes.{Bytes}
+use Rattle.dsf.specs.Dsf.{channels, frames}
 use Rattle.wav_format.specs.Wav.{frame_size}
 use Rattle.album.specs.Album.{pieces, album_places, album_converter, head_places}
 use Rattle.album.specs.declared.Wanted.{Wanted}

@@ -11,16 +11,19 @@ use Rattle.reference.specs.declared.ConvertStats.{ConvertStats}
 use Rattle.stretches.specs.Joining.{joined_on}
 use Rattle.sheet.specs.Sheet.{sheet}
 use Rattle.reference.specs.Codes.{hertz}
-use Rattle.dsf.specs.Dsf.{Bytes, channels, frames}
+use Rattle.text.specs.Bytes.{Bytes}
+use Rattle.dsf.specs.Dsf.{channels, frames}
 use Rattle.dsf.specs.Dsf as dsf
 use Rattle.dsf.specs.Reading.{HeadOf}
 use Rattle.dsf_frames.specs.Reading.{WindowOf}
-use Rattle.wav_format.specs.Wav.{header, wav_file, frame_size}
+use Rattle.wav_header.specs.Header.{header}
+use Rattle.wav_format.specs.Wav.{wav_file, frame_size}
 use Rattle.album.specs.Album.{pieces, album_places, album_converter}
 use Rattle.album.specs.declared.Wanted.{Wanted}
 use Rattle.album_plan.specs.Plan.{part, piece}
 use Rattle.album_plan.specs.declared.Piece.{Piece}
-use Rattle.album_gather.specs.Steps.{StepPromise, album_run, step_places, lent_lists}
+use Rattle.album_step.specs.Promises.{StepPromise, lent_lists}
+use Rattle.album_gather.specs.Steps.{album_run, step_places}
 use Rattle.album_gather.specs.declared.Lent.{Lent}
 use Rattle.file_to_file.specs.FileToFile.{Step, Cut, Holds, Written}
 

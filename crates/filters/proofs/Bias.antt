@@ -6,17 +6,21 @@ use native.Mathlib.Omega.{arith}
 use lib.IntN.{ℤ, pos, neg_ℤ, nat_abs, ◌+ℤ◌, ◌-ℤ◌, ◌*ℤ◌, +ℤ_assoc, +ℤ_idr, +ℤ_invr}
 use lib.ListN.{length}
 use Rattle.numbers.specs.Sums.{sum_to, at0}
-use Rattle.numbers.proofs.Integers.{pp, nn, abs_parts, +ℤ-left-comm, add_mul}
+use Rattle.numbers.proofs.Integers.{pp, nn, zext, add_parts, abs_parts, +ℤ-left-comm, add_mul}
 use Rattle.reference.specs.Rounding.{R}
 use Rattle.reference.specs.Stages.{tap, M, fir}
-use Rattle.filters.specs.Filters.{alone, between_by, same_rate, middle, half_rate, Fit, ones, Filter, Phases, Between, Filled}
-use Rattle.filters.specs.Lanes.{lifted, raised, arms, Raised, Sums, rounded}
-use Rattle.filters.proofs.Ops.{up_is}
+use Rattle.lanes.specs.Lanes.{Filled, raised, arms}
+use Rattle.filters.specs.Filters.{alone, between_by, same_rate, middle, half_rate, Fit, ones, Filter, Phases, Between}
+use Rattle.filters.specs.Lifts.{lifted, Raised, Sums, rounded}
 use Rattle.filters.proofs.Pairs.{fir_is, between_is, fir_same, between_same, fir_lift, between_lift}
 use Rattle.filters.proofs.Places.{filled_as, filled_then, filled_again}
 
 pub back : (z c : ℤ) → z +ℤ c -ℤ c ≡ z
 back z c = +ℤ_assoc z c (neg_ℤ c) ∙ ap (λ (k : ℤ). z +ℤ k) (+ℤ_invr c) ∙ +ℤ_idr z
+
+-- a number, raised by as much as its size or more
+up_is : (z : ℤ) (B : ℕ) → nat_abs z ≤ B → z +ℤ pos B ≡ pos (B + pp z - nn z)
+up_is z B h = zext _ _ (omega (arith, add_parts z (pos B), abs_parts z))
 
 -- ---- sums lifted by 2^53: what the rounding asks of them, and what it gives
 module _ (F : ℕ → ℤ) {old new : List ℤ} (u : Filled (λ k. F k +ℤ pos (2 ^ 53)) old new) where

@@ -1,10 +1,7 @@
-pub mod Ops
 pub mod Places
 pub mod Pairs
 pub mod Bias
 pub mod Signals
 pub mod Totals
 pub mod Tables
-pub mod Bands
 pub mod Seconds
-pub mod Eight

@@ -14,8 +14,8 @@ use Rattle.numbers.proofs.Sums.{sum_same}
 use Rattle.numbers.proofs.Lists.{below_or, length_tabulate, get_d_tabulate, is_tabulate}
 use Rattle.reference.specs.Rounding.{R}
 use Rattle.reference.specs.Stages.{tap, M, fir}
-use Rattle.filters.specs.Filters.{even_taps, odd_taps, between_by, same_rate, middle, half_rate, Small, Fit, Filled, ones, Filter, Phases}
-use Rattle.filters.specs.Lanes.{arms}
+use Rattle.lanes.specs.Lanes.{Small, Filled, arms}
+use Rattle.filters.specs.Filters.{even_taps, odd_taps, between_by, same_rate, middle, half_rate, Fit, ones, Filter, Phases}
 use Rattle.filters.proofs.Pairs.{fir_is}
 
 -- 0 past the end

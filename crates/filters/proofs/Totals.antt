@@ -14,7 +14,7 @@ use Rattle.numbers.proofs.Lists.{below_or, total_same, total_join}
 use Rattle.reference.specs.Stages.{tap, M, fir}
 use Rattle.reference.specs.Sizes.{absolute_sum}
 use Rattle.filters.specs.Filters.{ones, Filter}
-use Rattle.filters.specs.Lanes.{arms}
+use Rattle.lanes.specs.Lanes.{arms}
 use Rattle.filters.proofs.Pairs.{fir_is}
 use Rattle.filters.proofs.Bias.{back}
 use Rattle.filters.proofs.Signals.{past}

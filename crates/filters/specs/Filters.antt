@@ -3,6 +3,7 @@ use Rattle.std.specs.Prelude.{◌≡◌, List, [], ◌∷◌, ℕ, ◌+◌, ◌-
 use Rattle.numbers.specs.Sums.{sum_to, at0}
 use Rattle.numbers.specs.Lists.{tabulate}
 use Rattle.reference.specs.Stages.{tap, M, fir}
+use Rattle.lanes.specs.Lanes.{Small}
 
 -- ---- taps
 
@@ -41,10 +42,6 @@ seconds f x = tabulate (λ k. at0 x (2 * k + f)) 0 ((length x + 1 - f) / 2)
 
 -- ---- what is asked
 
--- no number is over B in size
-pub record Small (B : ℕ) (l : List ℤ) : Type 0 where
-  pub size : (i : ℕ) → nat_abs (at0 l i) ≤ B
-
 -- none of the first n sums is over 2^53 in size
 pub record Fit (F : ℕ → ℤ) (n : ℕ) : Type 0 where
   pub fits : (i : ℕ) → i < n → nat_abs (F i) ≤ 2 ^ 53
@@ -67,8 +64,3 @@ pub record Phases (he ho : List ℤ) : Type 0 where
 pub record Between (h : List ℤ) : Type 0 where
   pub small : Small (2 ^ 25) h
   pub whole : between_by h ones (length h) ≡ pos (2 ^ 23)
-
--- ---- what is given: every place of the output holds f
-pub record Filled (f : ℕ → ℤ) (old new : List ℤ) : Type 0 where
-  pub same : length new ≡ length old
-  pub is : (i : ℕ) → i < length old → at0 new i ≡ f i

@@ -1,10 +1,9 @@
 // What the sums start with: the centre's products. And the copy of a block that the taps
 // read: each value is below 2^29 in size, and lifted by that.
 ghost use Rattle.std.specs.Prelude.{◌≡◌, ◌+◌, ◌-◌, ◌/◌, ◌^◌, ◌≤◌, pos, nat_abs, ◌+ℤ◌, ◌*ℤ◌, length};
-ghost use Rattle.filters.specs.Filters.{seconds, Small, Filled};
-ghost use Rattle.filters.specs.Lanes.{raised, Low, Raised};
-
-use crate::lane;
+ghost use Rattle.lanes.specs.Lanes.{Small, Filled, raised, Low};
+ghost use Rattle.filters.specs.Filters.{seconds};
+ghost use Rattle.filters.specs.Lifts.{Raised};
 
 // A value lifted.
 fn lift(a: i64) -> u64
@@ -44,7 +43,7 @@ fn product(h: i64, a: u64) -> i64
     requires { (nat_abs h ≤ 2 ^ 25) × (a ≤ 2 ^ 30) }
     ensures { result ≡ h *ℤ pos a }
 {
-    lane::tap1(0, h, a % 4294967296)
+    lanes::tap1(0, h, a % 4294967296)
 }
 
 // The centre's products, over the copy from place `at` on.
@@ -56,12 +55,4 @@ pub fn centre(y: &mut [i64], h: i64, v: &[u64], at: usize)
     for (k, place) in y.iter_mut().enumerate() {
         *place = product(h, v[at + k]);
     }
-}
-
-// 2^23 times a, lifted.
-pub fn halved(a: i64) -> i64
-    requires { nat_abs a ≤ 2 ^ 29 }
-    ensures { result ≡ pos 8388608 *ℤ (a +ℤ pos (2 ^ 29)) }
-{
-    8388608 * (a + 536870912)
 }

@@ -29,8 +29,8 @@ fn window(tables: &[i32], half: usize, bytes: &[u8], at: usize) -> i64
     table_sum(tables, &bytes[at..end])
 }
 
-// The sums of every step-th window, from byte `start` on. Two windows are summed in a turn: most bytes of the second
-// are loaded for the first.
+// The sums of every step-th window, from byte `start` on. Four windows are summed in a turn: most bytes of each are
+// loaded for the one before.
 pub fn first_stage(
     tables: &[i32],
     half: usize,
@@ -42,16 +42,20 @@ pub fn first_stage(
     requires { (length tables.now ≡ 256 * (2 * half)) × (half ≤ 6) × (start + step * length out.old + 2 * half ≤ length bytes.now + step) × (length bytes.now ≤ 512) × (step ≤ 2) }
     ensures { Held (pos 0) (λ k. window_sum tables.now half bytes.now (start + step * k)) 0 (length out.old) out.new }
 {
-    for pair in 0..out.len() / 2 {
-        let k = 2 * pair;
+    let turns = out.len() / 4;
+    for turn in 0..turns {
+        let k = 4 * turn;
         let at = start + step * k;
         let a = window(tables, half, bytes, at);
         let b = window(tables, half, bytes, at + step);
+        let c = window(tables, half, bytes, at + 2 * step);
+        let d = window(tables, half, bytes, at + 3 * step);
         out[k] = a;
         out[k + 1] = b;
+        out[k + 2] = c;
+        out[k + 3] = d;
     }
-    if out.len() % 2 == 1 {
-        let last = out.len() - 1;
-        out[last] = window(tables, half, bytes, start + step * last);
+    for k in 4 * turns..out.len() {
+        out[k] = window(tables, half, bytes, start + step * k);
     }
 }

@@ -74,7 +74,7 @@ fn before_clamp(y: i32, factor: f64) -> i64
 }
 
 // The numbers of a block as samples. Scaling keeps their order, so that for the lowest and the highest no other y is
-// scaled again.
+// scaled again. Each y is taken as an i32, of which the machine makes several floats at once.
 pub fn scale_block(ys: &[i64], factor: f64, out: &mut [i32]) -> ChannelStats
     requires ys_nonzero { (0 < length ys.now) × (length out.old ≡ length ys.now) }
     requires t { T (bounded factor) }
@@ -85,12 +85,12 @@ pub fn scale_block(ys: &[i64], factor: f64, out: &mut [i32]) -> ChannelStats
     let mut least = i32::MAX;
     let mut greatest = i32::MIN;
     for (i, place) in out.iter_mut().enumerate() {
-        let y = ys[i];
-        let scaled = scale(y, factor);
+        let y = ys[i] as i32;
+        let scaled = scale(y as i64, factor);
         *place = scaled.sample;
         clipped += u64::from(scaled.clipped);
-        least = least.min(y as i32);
-        greatest = greatest.max(y as i32);
+        least = least.min(y);
+        greatest = greatest.max(y);
     }
     ChannelStats {
         clipped,

@@ -1,13 +1,14 @@
-// Reading from a reader, which may give its bytes in pieces of any size; and the buffer of three frames moved on.
+// Reading from a reader, which may give its bytes in pieces of any size; the buffer of three frames moved on; and the
+// beginning of a text passed to a writer.
 #![tactic(auto)]
 
 ghost use Rattle.std.specs.Prelude.{◌≡◌, ◌+◌, ◌*◌, ◌<◌, ◌≤◌, length, take, drop, IfOk, IfSome};
-ghost use Rattle.std.specs.Io.KnownBytes.{Consumes, IsAtEnd, ReadConsumes};
+ghost use Rattle.std.specs.Io.KnownBytes.{Appends, Consumes, IsAtEnd, ReadConsumes};
 ghost use Rattle.level_input.specs.Lines.{LineCame};
 ghost use Rattle.level_input.specs.Moved.{moved_on};
 
 use std::io;
-use std::io::Read;
+use std::io::{Read, Write};
 
 // One read into the slice from place n on: how many bytes came, at least one, or none where the input has ended. An error is that of the read.
 pub fn read_some<R: Read>(from: &mut R, bytes: &mut [u8], n: usize) -> io::Result<usize>
@@ -61,4 +62,12 @@ pub fn move_on(three: &mut [u8], size: usize)
     ensures { three.new ≡ moved_on size three.old }
 {
     three.copy_within(size.., 0);
+}
+
+// Writes the first n bytes of a text.
+pub fn write_first<W: Write>(to: &mut W, text: &[u8], n: usize) -> io::Result<()>
+    requires { n ≤ length text.now }
+    ensures wrote { IfOk result (λ _. Appends (W.contents to.old) (W.contents to.new) (take n text.now)) }
+{
+    to.write_all(&text[..n])
 }

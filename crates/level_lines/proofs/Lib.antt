@@ -1,4 +1,0 @@
-pub mod Printing
-pub mod Numerals
-pub mod Signs
-pub mod Writing

@@ -1,11 +1,7 @@
 -- The lines that the level report prints.
-use Rattle.std.specs.Prelude.{List, [], ◌∷◌, ◌++◌, ℕ}
-use Rattle.level_lines.specs.Text.{text, joined, decimal, signed}
+use Rattle.std.specs.Prelude.{List, [], ◌∷◌, ℕ}
+use Rattle.text.specs.Text.{text, printed, decimal, signed}
 use Rattle.level_lines.specs.declared.Level.{Level}
-
--- texts end to end, and a newline
-unfoldable pub printed : List (List ℕ) → List ℕ
-printed ts = joined ts ++ (10 ∷ [])
 
 -- channel c of frame f
 unfoldable pub level_line : ℕ → ℕ → Level → List ℕ

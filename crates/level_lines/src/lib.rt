@@ -3,12 +3,10 @@
 #![tactic(auto)]
 
 ghost use Rattle.std.specs.Prelude.{◌+◌, ◌≤◌, length};
-ghost use Rattle.level_lines.specs.Text.{Printed};
+ghost use Rattle.text.specs.Text.{Printed};
 ghost use Rattle.level_lines.specs.Lines as lines;
 
-mod text;
-
-pub use text::Text;
+use text::Text;
 
 // What is told of one channel of a frame.
 #[derive(Clone, Copy)]

@@ -10,14 +10,14 @@ use Rattle.reference.specs.declared.PcmRate.{PcmRate}
 use Rattle.reference.specs.declared.PcmRate.TheVariants.{Hz88200, Hz176400, Hz352800}
 use Rattle.reference.specs.declared.Cutoff.{Cutoff}
 use Rattle.reference.specs.declared.Cutoff.TheVariants.{Standard, Low, Wide}
-use Rattle.level_lines.specs.Text.{text, joined, decimal, signed}
-use Rattle.level_lines.proofs.Numerals.{all_digits}
+use Rattle.text.specs.Text.{text, joined, decimal, signed}
+use Rattle.text.proofs.Numerals.{all_digits}
 use Rattle.level_settings.specs.Settings.{rate_text, cutoff_text, rate_named, cutoff_named, settings_line, InRange, LineRead}
 use Rattle.level_settings.specs.Reading.{ChannelsRead, DecibelsRead}
-use Rattle.byte_lists.specs.Lists.{Without}
-use Rattle.byte_lists.proofs.Cuts.{without, cut, uncut}
+use Rattle.text.specs.Lists.{Without}
+use Rattle.text.proofs.Cuts.{without, cut, uncut}
 use Rattle.level_settings.specs.declared.LineSettings.{LineSettings}
-use Rattle.level_settings.proofs.Digits.{no_some, some_is}
+use Rattle.text.proofs.Options.{no_some, some_is}
 use Rattle.level_settings.proofs.Words.{word_is}
 
 -- ---- texts without a blank

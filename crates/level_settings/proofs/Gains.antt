@@ -8,10 +8,11 @@ use lib.IntN.{ℤ, pos, negsuc, neg_ℤ}
 use lib.ListN.{get_or}
 use lib.Signed.{◌≤ℤ◌}
 use Rattle.std.specs.Prelude.{Option, Some, None}
-use Rattle.level_lines.specs.Text.{decimal, signed}
-use Rattle.level_settings.specs.Reading.{NumberRead, DecibelsRead}
-use Rattle.level_lines.proofs.Numerals.{first_digit}
-use Rattle.level_settings.proofs.Digits.{no_some, some_is}
+use Rattle.text.specs.Text.{decimal, signed}
+use Rattle.text.specs.Reading.{NumberRead}
+use Rattle.level_settings.specs.Reading.{DecibelsRead}
+use Rattle.text.proofs.Numerals.{first_digit}
+use Rattle.text.proofs.Options.{no_some, some_is}
 
 module _ {t : List ℕ} where
   none : ((z : ℤ) → negsuc 119 ≤ℤ z → z ≤ℤ pos 24 → t ≡ signed z → ⊥) → DecibelsRead t None

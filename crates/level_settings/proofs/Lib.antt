@@ -1,4 +1,3 @@
-pub mod Digits
 pub mod Negated
 pub mod Gains
 pub mod Words

@@ -1,11 +1,6 @@
 -- What the steps of reading the first line promise.
-use Rattle.std.specs.Prelude.{◌≡◌, List, ℕ, ◌≤◌, ◌<◌, ℤ, pos, negsuc, Option, Some, ◌≤ℤ◌}
-use Rattle.level_lines.specs.Text.{decimal, signed}
-
--- the number below 1000 that a text is, if it is one
-pub record NumberRead (t : List ℕ) (r : Option ℕ) : Type 0 where
-  pub takes : (n : ℕ) → n < 1000 → t ≡ decimal n → r ≡ Some n
-  pub takes_only : (n : ℕ) → r ≡ Some n → (n < 1000) × (t ≡ decimal n)
+use Rattle.std.specs.Prelude.{◌≡◌, List, ℕ, ◌≤◌, ℤ, pos, negsuc, Option, Some, ◌≤ℤ◌}
+use Rattle.text.specs.Text.{decimal, signed}
 
 -- the number that a text is, if it is 1 or 2
 pub record ChannelsRead (t : List ℕ) (r : Option ℕ) : Type 0 where

@@ -5,7 +5,7 @@ use Rattle.reference.specs.declared.PcmRate.{PcmRate}
 use Rattle.reference.specs.declared.PcmRate.TheVariants.{Hz88200, Hz176400, Hz352800}
 use Rattle.reference.specs.declared.Cutoff.{Cutoff}
 use Rattle.reference.specs.declared.Cutoff.TheVariants.{Standard, Low, Wide}
-use Rattle.level_lines.specs.Text.{text, joined, decimal, signed}
+use Rattle.text.specs.Text.{text, joined, decimal, signed}
 use Rattle.level_settings.specs.declared.LineSettings.{LineSettings}
 
 unfoldable pub rate_text : PcmRate → List ℕ

@@ -3,12 +3,12 @@
 
 ghost use Rattle.level_settings.specs.Settings.{LineRead};
 
-use byte_lists::split_once;
 use reference::{Cutoff, PcmRate};
+use text::split_once;
 
 mod reading;
 
-pub use reading::{cutoff_named, decibels, number, rate_named};
+use reading::{cutoff_named, decibels, rate_named};
 
 // What the first line sets.
 #[derive(Clone, Copy)]

@@ -1,13 +1,14 @@
 // What the fields of the first line are taken for.
-ghost use Rattle.std.specs.Prelude.{◌≡◌, ◌↔◌, List, [], ◌∷◌, ◌++◌, ℕ, ◌<◌, Some, IsTrue, length};
+ghost use Rattle.std.specs.Prelude.{◌≡◌, ◌∷◌};
 ghost use Rattle.level_settings.specs.Settings as names;
-ghost use Rattle.level_settings.specs.Reading.{NumberRead, ChannelsRead, DecibelsRead};
+ghost use Rattle.level_settings.specs.Reading.{ChannelsRead, DecibelsRead};
 
 use reference::{Cutoff, PcmRate};
+use text::number;
 
 // The words of a rate and, below, of a cutoff: three cases each, of different types. A table of words and values that both
 // search would be longer than the cases.
-#[tactic(auto, unfolding(crate::specs::Settings::rate_named, crate::specs::Settings::rate_text, level_lines::specs::Text::text))]
+#[tactic(auto, unfolding(crate::specs::Settings::rate_named, crate::specs::Settings::rate_text, text::specs::Text::text))]
 pub fn rate_named(word: &[u8]) -> Option<PcmRate>
     ensures { result ≡ names.rate_named word.now }
 {
@@ -22,7 +23,7 @@ pub fn rate_named(word: &[u8]) -> Option<PcmRate>
     }
 }
 
-#[tactic(auto, unfolding(crate::specs::Settings::cutoff_named, crate::specs::Settings::cutoff_text, level_lines::specs::Text::text))]
+#[tactic(auto, unfolding(crate::specs::Settings::cutoff_named, crate::specs::Settings::cutoff_text, text::specs::Text::text))]
 pub fn cutoff_named(word: &[u8]) -> Option<Cutoff>
     ensures { result ≡ names.cutoff_named word.now }
 {
@@ -35,47 +36,6 @@ pub fn cutoff_named(word: &[u8]) -> Option<Cutoff>
     } else {
         None
     }
-}
-
-// A number's first digit.
-fn digit(byte: u8) -> Option<u32>
-    ensures { NumberRead (byte ∷ []) result }
-{
-    match byte {
-        b'0'..=b'9' => Some(u32::from(byte - b'0')),
-        _ => None,
-    }
-}
-
-// Whether a digit may come after a number: none comes after 0, nor after three.
-fn goes_on(n: u32) -> bool
-    ensures { IsTrue result ↔ ((0 < n) × (n < 100)) }
-{
-    0 < n && n < 100
-}
-
-// One digit more.
-fn more(n: u32, byte: u8) -> Option<u32>
-    ensures { (t : List ℕ) → 0 < length t → NumberRead t (Some n) → NumberRead (t ++ (byte ∷ [])) result }
-{
-    let digit = digit(byte)?;
-    if goes_on(n) {
-        Some(n * 10 + digit)
-    } else {
-        None
-    }
-}
-
-// A number below 1000 to the text's end.
-pub fn number(text: &[u8]) -> Option<u32>
-    ensures { NumberRead text.now result }
-{
-    let (first, rest) = text.split_first()?;
-    let mut n = digit(*first)?;
-    for byte in rest {
-        n = more(n, *byte)?;
-    }
-    Some(n)
 }
 
 // One or two channels.

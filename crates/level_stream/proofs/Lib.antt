@@ -1,7 +1,2 @@
-pub mod Whole
-pub mod Buffers
-pub mod Opening
-pub mod Turns
-pub mod Printing
 pub mod Prints
 pub mod Reporting

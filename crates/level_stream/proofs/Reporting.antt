@@ -15,12 +15,11 @@ use Rattle.reference.proofs.Promises.{exit_accepted}
 use Rattle.reference.proofs.Refusals.{some_channel}
 use Rattle.level_lines.specs.Lines.{refused_line}
 use Rattle.level_settings.specs.declared.LineSettings.{LineSettings}
-use Rattle.level_settings.proofs.Digits.{no_some, some_is}
+use Rattle.text.proofs.Options.{no_some, some_is}
 use Rattle.level_input.proofs.Known.{appends_more}
-use Rattle.levels.specs.Levels.{read_settings}
-use Rattle.level_stream.specs.Begun.{leads_to, said, InputRead, Starts}
-use Rattle.level_stream.specs.Report.{lines_of, text_by, report_text}
-use Rattle.level_stream.specs.Printed.{Reported}
+use Rattle.level_start.specs.Begun.{read_settings, leads_to, said, InputRead, Starts}
+use Rattle.level_frames.specs.Report.{lines_of, text_by}
+use Rattle.level_stream.specs.Printed.{report_text, Reported}
 use Rattle.level_stream.proofs.Prints.{text_of, text_of_none, refused_alone}
 
 -- no converter: what was said is all

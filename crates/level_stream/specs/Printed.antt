@@ -1,13 +1,23 @@
 -- What the level report prints of every input.
 use Rattle.std.specs.Prelude.{◌≡◌, List, ℕ, Option}
 use Rattle.std.specs.Io.KnownBytes.{Appends}
+use Rattle.reference.specs.Settings.{converter_of}
+use Rattle.reference.specs.Refusals.{decide, refusal_number, opening_places}
+use Rattle.reference.specs.Promises.{by_decision}
 use Rattle.reference.specs.declared.PcmRate.TheVariants.{Hz88200}
 use Rattle.reference.specs.declared.Cutoff.TheVariants.{Wide}
 use Rattle.level_lines.specs.Lines.{refused_line}
 use Rattle.level_settings.specs.Settings.{InRange}
 use Rattle.level_settings.specs.declared.LineSettings.{LineSettings}
-use Rattle.level_stream.specs.Begun.{after_line, refused_settings}
-use Rattle.level_stream.specs.Report.{report_text}
+use Rattle.level_start.specs.Begun.{read_settings, after_line, refused_settings}
+use Rattle.level_frames.specs.Report.{lines_of, text_by}
+
+-- what is printed of settings and the bytes after their line: the refusal of a converter that does not open stands alone
+unfoldable pub report_text : LineSettings → List ℕ → List ℕ
+report_text s input =
+    let conv = converter_of (read_settings s) in
+    let opened = decide (opening_places (read_settings s)) in
+    by_decision opened (text_by conv input (lines_of conv input)) (refused_line (refusal_number opened))
 
 -- the text of an input: of settings in range and what follows their line, the report of these; of any other input, that
 -- its settings are refused

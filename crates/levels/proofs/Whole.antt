@@ -15,13 +15,13 @@ use Rattle.reference.specs.declared.Converter.{Converter}
 use Rattle.reference.proofs.Frames.{some_samples, channel_left, channel_right, channel_frame}
 use Rattle.reference.proofs.Locality.{reach_small, last_tap}
 use Rattle.joins.proofs.Pieces.{PieceOf, unclamped_same, piece_clips}
-use Rattle.overs.specs.Overs.{in_progress, none, channel, overs_of}
-use Rattle.overs.specs.Joins.{frame_overs}
-use Rattle.overs.specs.Overs.{Progress}
+use Rattle.overs.specs.Overs.{none, channel, overs_of, Progress}
+use Rattle.overs_joins.specs.Signal.{in_progress}
+use Rattle.overs_joins.specs.Joins.{frame_overs}
 use Rattle.overs.specs.declared.OverCount.{OverCount}
-use Rattle.overs.proofs.Laws.{answer_is}
-use Rattle.overs.proofs.Joins.{run_channel}
-use Rattle.level_lines.specs.Text.{joined}
+use Rattle.overs_joins.proofs.Signal.{answer_is}
+use Rattle.overs_joins.proofs.Joins.{run_channel}
+use Rattle.text.specs.Text.{joined}
 use Rattle.level_lines.specs.Lines.{level_line}
 use Rattle.levels.specs.Levels.{level, lines_with, frame_lines, states_after, whole_input, FrameOf, InProgress, piece_lines, piece_states}
 

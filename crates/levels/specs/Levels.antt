@@ -1,32 +1,20 @@
 -- The figures of the level report: what it tells of each channel of a frame, and its lines.
-use Rattle.std.specs.Prelude.{◌≡◌, ℕ, suc, ◌+◌, ◌-◌, ◌*◌, ◌/◌, ◌<◌, ◌≤◌, None, false, cond, List, [], length, get_or, take, ℤ, pos, nat_lt, slice_index_or, Result, Ok, Err, IfOk}
-use Rattle.std.specs.Float.Ieee.{of_int}
-use Rattle.std.specs.Float.{binary64}
+use Rattle.std.specs.Prelude.{◌≡◌, ℕ, suc, ◌-◌, ◌*◌, ◌<◌, ◌≤◌, false, cond, List, [], take, ℤ, nat_lt, slice_index_or, Result, Ok, Err, IfOk}
 use Rattle.numbers.specs.Extremes.{lesser, greater, extreme}
 use Rattle.numbers.specs.Lists.{tabulate, count}
 use Rattle.reference.specs.Frames.{Run, run, frame_length, frame_count, frame}
-use Rattle.reference.specs.Scaling.{db_to_linear}
 use Rattle.reference.specs.Output.{samples_per_frame, sample, clipped, samples, frame_clips}
 use Rattle.reference.specs.Refusals.{accepted, decide, decision, convert_frame_places}
 use Rattle.reference.specs.Promises.{by_decision}
-use Rattle.reference.specs.declared.Settings.{Settings}
 use Rattle.reference.specs.declared.Converter.{Converter}
 use Rattle.reference.specs.declared.PcmError.{PcmError}
-use Rattle.overs.specs.Overs.{Progress, in_progress, none, overs_of}
-use Rattle.overs.specs.Joins.{frame_overs}
-use Rattle.level_lines.specs.Text.{joined, Printed}
+use Rattle.overs.specs.Overs.{Progress, none, overs_of}
+use Rattle.overs_joins.specs.Signal.{in_progress}
+use Rattle.overs_joins.specs.Joins.{frame_overs}
+use Rattle.text.specs.Text.{joined, Printed}
 use Rattle.level_lines.specs.Lines.{level_line}
 use Rattle.level_lines.specs.declared.Level.{Level}
-use Rattle.level_settings.specs.declared.LineSettings.{LineSettings}
 use Rattle.levels.specs.declared.Reported.{Reported}
-
--- ---- settings
-
--- the settings that a line's stand for: their gain record is that of the whole decibels, and no filter is given
-unfoldable pub read_settings : LineSettings → Settings
-read_settings s =
-    let db = of_int binary64 s.db in
-    record { rate = s.rate; cutoff = s.cutoff; channels = s.channels; gain = record { db = db; linear = db_to_linear db }; filter = None }
 
 -- ---- a channel of a frame
 
@@ -45,18 +33,6 @@ module _ (conv : Converter) (r : Run) where
   -- document 02's overs: those of the run whose third sample falls in the frame
   unfoldable pub frame_lines : ℕ → ℕ → List ℕ
   frame_lines number f = lines_with (λ c. frame_overs conv r c f) number f
-
--- ---- the same, read off a channel's clip count and a frame's items, and what is in progress before it: what the code works out
-
-unfoldable pub level_of : ℕ → List ℤ → ℕ → ℕ → Progress → Level
-level_of clips items channels c p =
-    let at : ℕ → ℤ = λ n. get_or items (n * channels + c) (pos 0) in
-    record {
-      clipped = clips;
-      low = extreme lesser at 0 (length items / channels);
-      high = extreme greater at 0 (length items / channels);
-      over = (overs_of items channels c p).count;
-    }
 
 -- what is in progress after the items in the channels below n; the others have nothing
 unfoldable pub states_after : List ℤ → ℕ → ℕ → List Progress → List Progress

@@ -10,20 +10,23 @@ ghost use Rattle.reference.specs.Taps.{S1};
 ghost use Rattle.reference.specs.Stages.{M, v, w, y_narrow};
 ghost use Rattle.reference.specs.declared.PcmRate.TheVariants.{Hz88200, Hz176400, Hz352800};
 ghost use Rattle.tables.specs.Tables.{ByteTables};
-ghost use Rattle.filters.specs.Filters.{Small};
+ghost use Rattle.lanes.specs.Lanes.{Small};
+ghost use Rattle.band.specs.Bands.{odd_sizes};
 ghost use Rattle.routes.specs.Routes.{LowPass, HalvedFilter, halves_of};
 
 use stages::Buffers;
 
-// The values of w, and those between them, in turn: `kept` has w from 8 places before sample n's on.
+// The values of w, and those between them, in turn: `kept` has w from 8 places before sample n's on. The half band's
+// sizes are lent.
 #[tactic(auto, using(routes::proofs::Filters::woven_gives))]
-fn between(kept: &[i64], y: &mut [i64])
+fn between(sizes: &[u32], kept: &[i64], y: &mut [i64])
+    requires lent { sizes.now ≡ odd_sizes }
     requires kept_len { (length kept.now ≡ 184) × (length y.old ≡ 336) }
     requires small { Small (2 ^ 29) kept.now }
     ensures { (F : List ℤ) (β : ℕ → ℕ) (n : ℕ) → 16 ≤ n → n % 2 ≡ 0 → Held (pos 0) (w F β) (n / 2 - 8) 184 kept.now → Held (pos 0) (y_narrow Hz352800 F β) n 336 y.new }
 {
     let mut z = [0i64; 168];
-    filters::interp(&mut z, &kept[1..184]);
+    band::interp(&mut z, sizes, &kept[1..184]);
     stages::weave(&kept[8..176], &z, y);
 }
 
@@ -43,6 +46,7 @@ fn newest(h: &[i64], x: &[i64], k: usize, kept: &mut [i64])
 }
 
 // At 88,200: h has the even taps, then the odd ones.
+#[inline(always)]
 pub fn narrow88(tables: &[i32], h: &[i64], bytes: &[u8], buffers: &mut Buffers, y: &mut [i64])
     requires byte_tables { ByteTables S1 8 tables.now }
     requires halved_filter { HalvedFilter h.now }
@@ -57,6 +61,7 @@ pub fn narrow88(tables: &[i32], h: &[i64], bytes: &[u8], buffers: &mut Buffers, 
 }
 
 // At 176,400.
+#[inline(always)]
 #[tactic(auto, using(stages::proofs::Smalls::front_fit))]
 pub fn narrow176(tables: &[i32], h: &[i64], bytes: &[u8], buffers: &mut Buffers, y: &mut [i64])
     requires byte_tables { ByteTables S1 8 tables.now }
@@ -72,6 +77,7 @@ pub fn narrow176(tables: &[i32], h: &[i64], bytes: &[u8], buffers: &mut Buffers,
 }
 
 // At 352,800: k values of w are new, 184 in a frame's first block and 168 in the others.
+#[inline(always)]
 pub fn narrow352(
     tables: &[i32],
     h: &[i64],
@@ -88,7 +94,7 @@ pub fn narrow352(
     let m = 2 * (h.len() - 1);
     buffers.bring_v(tables, bytes, m, k);
     newest(h, &buffers.x, k, &mut buffers.kept);
-    between(&buffers.kept, y);
+    between(&buffers.sizes, &buffers.kept, y);
     buffers.move_on(k, m);
     stages::shift(&mut buffers.kept, 168, 16);
 }

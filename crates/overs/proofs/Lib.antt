@@ -1,4 +1,1 @@
-pub mod Examples
 pub mod Laws
-pub mod Joins
-pub mod Turns

@@ -1,201 +1,259 @@
-// The converter's calls for C and Rust. None asks anything of its arguments: where they are not understood, a call answers
-// 255 and writes nothing. Numbers, flags and lists, one by one, are those of C; what the five conversions share is in
-// asked.rt, and each names its own lists.
+// The library's calls for C: each hands on, and has the contract of the function that it calls. None asks anything of
+// its arguments. Numbers and lists come one by one, as C has them; here they become the records of the functions below.
 #![tactic(auto)]
 
 ghost use Rattle.reference.specs.Promises.{PackPromise};
-ghost use Rattle.interface.specs.Settings.{c_settings, c_converter, input};
-ghost use Rattle.interface.specs.Told.{stat_lists};
-ghost use Rattle.puigneht.specs.Calls.{results, GainCall, OpenCall, ConvertRunCall, ConvertFrameCall, ConvertCall};
+ghost use Rattle.c_converter.specs.Blocks.{block, input};
+ghost use Rattle.c_stats.specs.Conversions.{results};
+ghost use Rattle.c_calls.specs.Calls.{c_wanted, GainCall, OpenCall, ChangeCall, SamplesCall, BytesCall};
+ghost use Rattle.c_calls.specs.declared.conversions.Samples.TheVariants as samples_of;
+ghost use Rattle.c_calls.specs.declared.conversions.Bytes.TheVariants as bytes_of;
 
-mod files;
+use c_calls::{Bytes, Samples, convert_bytes, convert_samples};
+use c_converter::{Blocks, Input};
 
-pub use files::{
-    puigneht_dsf_frame, puigneht_dsf_give_up, puigneht_dsf_give_up_header, puigneht_dsf_length,
-    puigneht_dsf_read, puigneht_dsf_read_header, puigneht_dsf_window, puigneht_dsf_window_frame,
-    puigneht_dsf_write,
-};
-use interface::{
-    NOT_UNDERSTOOD, SettingNumbers, flag_of, tell_conversion, tell_gain, tell_opening,
-};
-
-mod asked;
-mod change;
-mod desk;
-mod sheets;
+mod dsf_files;
 mod studio;
-mod turns;
 mod wav_files;
 
-use asked::asked;
-pub use change::puigneht_change;
-pub use desk::puigneht_convert_desk;
-pub use sheets::{puigneht_join_stats, puigneht_level_sheet};
-pub use studio::puigneht_overs;
-pub use turns::puigneht_turns;
-pub use wav_files::{puigneht_wav_convert, puigneht_wav_read, puigneht_wav_write};
+pub use dsf_files::{
+    puigneht_dsf_frame_call, puigneht_dsf_give_up_call, puigneht_dsf_give_up_header_call,
+    puigneht_dsf_length_call, puigneht_dsf_read_call, puigneht_dsf_read_header_call,
+    puigneht_dsf_why_call, puigneht_dsf_window_call, puigneht_dsf_window_frame_call,
+    puigneht_dsf_write_call,
+};
+pub use studio::{
+    puigneht_join_stats_call, puigneht_level_sheet_call, puigneht_overs_call, puigneht_turns_call,
+};
+pub use wav_files::{puigneht_wav_header_call, puigneht_wav_read_call, puigneht_wav_write_call};
 
 // The gain record of some decibels.
-#[tactic(auto, using(crate::proofs::Calls::turned_away, crate::proofs::Calls::worked, crate::proofs::Calls::not_left, crate::proofs::Calls::not_right, crate::proofs::Calls::both_hold, crate::proofs::Done::gain_done))]
 #[unsafe(no_mangle)]
-pub extern "C" fn puigneht_gain(db: f64, gain: &mut [f64], decibels: &mut [f64]) -> u8
-    ensures { GainCall db gain.old gain.new decibels.old decibels.new result }
+pub extern "C" fn puigneht_gain_call(db: f64, gain: &mut [f64; 2], decibels: &mut [f64; 1]) -> u8
+    ensures { GainCall db gain.old gain.new decibels.new result }
 {
-    if gain.len() != 2 || decibels.len() != 1 {
-        return NOT_UNDERSTOOD;
-    }
-    tell_gain(gain::from_db(db), gain, decibels)
+    c_calls::gain(db, gain, decibels)
 }
 
-// The numbers that an accepted converter stores: samples per frame, reach, frame length.
+// Whether a converter has these settings; the numbers that it stores.
 #[unsafe(no_mangle)]
-pub extern "C" fn puigneht_open(
-    rate: u32,
-    cutoff: u8,
-    channels: u8,
-    gain: &[f64],
-    own: u8,
-    taps: &[i32],
-    numbers: &mut [u64],
-    data: &mut [u64],
-    decibels: &mut [f64],
+pub extern "C" fn puigneht_open_call(
+    numbers: &mut [u64; 8],
+    gain: &[f64; 2],
+    taps: &[i32; 117],
+    data: &mut [u64; 2],
+    decibels: &mut [f64; 1],
 ) -> u8
-    ensures { OpenCall (c_settings rate cutoff channels gain.now own taps.now) numbers.old numbers.new «data».old «data».new decibels.old decibels.new result }
+    ensures { OpenCall (block numbers.old gain.now taps.now) numbers.new «data».old «data».new decibels.old decibels.new result }
 {
-    let asked = SettingNumbers {
-        rate,
-        cutoff,
-        channels,
-        gain,
-        own,
-        taps,
-    };
-    let Some(settings) = asked.settings() else {
-        return NOT_UNDERSTOOD;
-    };
-    if numbers.len() != 3 || data.len() != 2 || decibels.len() != 1 {
-        return NOT_UNDERSTOOD;
-    }
-    tell_opening(scarletbook_pcm::open(settings), numbers, data, decibels)
+    c_calls::open(numbers, gain, taps, data, decibels)
+}
+
+// Another rate, cutoff and gain for an open converter.
+#[unsafe(no_mangle)]
+pub extern "C" fn puigneht_change_call(
+    numbers: &mut [u64; 8],
+    gain: &mut [f64; 2],
+    taps: &[i32; 117],
+    rate: u64,
+    cutoff: u64,
+    wanted: &[f64; 2],
+    data: &mut [u64; 2],
+    decibels: &mut [f64; 1],
+) -> u8
+    ensures { ChangeCall (block numbers.old gain.old taps.now) (c_wanted rate cutoff wanted.now) numbers.new gain.new «data».old «data».new decibels.old decibels.new result }
+{
+    c_calls::change(numbers, gain, taps, rate, cutoff, wanted, data, decibels)
 }
 
 // 32-bit samples of a run.
 #[unsafe(no_mangle)]
-pub extern "C" fn puigneht_convert_run<'a, 'b>(
-    rate: u32,
-    cutoff: u8,
-    channels: u8,
-    gain: &'a [f64],
-    own: u8,
-    taps: &'a [i32],
-    numbers: &'a [u64],
-    has_before: u8,
+pub extern "C" fn puigneht_convert_run_call<'a>(
+    numbers: &'a [u64; 8],
+    gain: &'a [f64; 2],
+    taps: &'a [i32; 117],
+    presence: u8,
     before: &'a [u8],
     frames: &'a [u8],
-    has_after: u8,
     after: &'a [u8],
     out: &mut [i32],
-    clipped: &'b mut [u64],
-    lowest: &'b mut [i64],
-    highest: &'b mut [i64],
-    empty: &'b mut [u8],
-    data: &'b mut [u64],
-    decibels: &'b mut [f64],
+    stats: &mut [u64; 24],
+    data: &mut [u64; 2],
+    decibels: &mut [f64; 1],
 ) -> u8
-    ensures { ConvertRunCall (c_converter (c_settings rate cutoff channels gain.now own taps.now) numbers.now) (input has_before before.now frames.now has_after after.now) out.old out.new (results (stat_lists clipped.old lowest.old highest.old empty.old) «data».old decibels.old) (results (stat_lists clipped.new lowest.new highest.new empty.new) «data».new decibels.new) result }
+    ensures { SamplesCall samples_of.Run (block numbers.now gain.now taps.now) (input presence before.now frames.now after.now) out.old out.new (results stats.old «data».old decibels.old) (results stats.new «data».new decibels.new) result }
 {
-    let Some((conv, run)) = asked(
-        rate, cutoff, channels, gain, own, taps, numbers, has_before, before, frames, has_after,
-        after, clipped, lowest, highest, empty, data, decibels,
-    ) else {
-        return NOT_UNDERSTOOD;
+    let blocks = Blocks {
+        numbers,
+        gain,
+        taps,
     };
-    let made = scarletbook_pcm::convert_run(conv, run, out);
-    tell_conversion(made, clipped, lowest, highest, empty, data, decibels)
+    let input = Input {
+        presence,
+        before,
+        frames,
+        after,
+    };
+    convert_samples(Samples::Run, blocks, input, out, stats, data, decibels)
 }
 
 // 32-bit samples of exactly one frame.
 #[unsafe(no_mangle)]
-pub extern "C" fn puigneht_convert_frame<'a, 'b>(
-    rate: u32,
-    cutoff: u8,
-    channels: u8,
-    gain: &'a [f64],
-    own: u8,
-    taps: &'a [i32],
-    numbers: &'a [u64],
-    has_before: u8,
+pub extern "C" fn puigneht_convert_frame_call<'a>(
+    numbers: &'a [u64; 8],
+    gain: &'a [f64; 2],
+    taps: &'a [i32; 117],
+    presence: u8,
     before: &'a [u8],
     frames: &'a [u8],
-    has_after: u8,
     after: &'a [u8],
     out: &mut [i32],
-    clipped: &'b mut [u64],
-    lowest: &'b mut [i64],
-    highest: &'b mut [i64],
-    empty: &'b mut [u8],
-    data: &'b mut [u64],
-    decibels: &'b mut [f64],
+    stats: &mut [u64; 24],
+    data: &mut [u64; 2],
+    decibels: &mut [f64; 1],
 ) -> u8
-    ensures { ConvertFrameCall (c_converter (c_settings rate cutoff channels gain.now own taps.now) numbers.now) (input has_before before.now frames.now has_after after.now) out.old out.new (results (stat_lists clipped.old lowest.old highest.old empty.old) «data».old decibels.old) (results (stat_lists clipped.new lowest.new highest.new empty.new) «data».new decibels.new) result }
+    ensures { SamplesCall samples_of.Frame (block numbers.now gain.now taps.now) (input presence before.now frames.now after.now) out.old out.new (results stats.old «data».old decibels.old) (results stats.new «data».new decibels.new) result }
 {
-    let Some((conv, run)) = asked(
-        rate, cutoff, channels, gain, own, taps, numbers, has_before, before, frames, has_after,
-        after, clipped, lowest, highest, empty, data, decibels,
-    ) else {
-        return NOT_UNDERSTOOD;
+    let blocks = Blocks {
+        numbers,
+        gain,
+        taps,
     };
-    let made = scarletbook_pcm::convert_frame(conv, run, out);
-    tell_conversion(made, clipped, lowest, highest, empty, data, decibels)
+    let input = Input {
+        presence,
+        before,
+        frames,
+        after,
+    };
+    convert_samples(Samples::Frame, blocks, input, out, stats, data, decibels)
 }
 
-// Samples of a run, three bytes each, and the clips of each frame if `counts` is lent.
+// Samples of a run, three bytes each.
 #[unsafe(no_mangle)]
-pub extern "C" fn puigneht_convert<'a, 'b>(
-    rate: u32,
-    cutoff: u8,
-    channels: u8,
-    gain: &'a [f64],
-    own: u8,
-    taps: &'a [i32],
-    numbers: &'a [u64],
-    has_before: u8,
+pub extern "C" fn puigneht_convert_call<'a>(
+    numbers: &'a [u64; 8],
+    gain: &'a [f64; 2],
+    taps: &'a [i32; 117],
+    presence: u8,
     before: &'a [u8],
     frames: &'a [u8],
-    has_after: u8,
     after: &'a [u8],
-    lent: u8,
     out: &mut [u8],
     counts: &mut [u64],
-    clipped: &'b mut [u64],
-    lowest: &'b mut [i64],
-    highest: &'b mut [i64],
-    empty: &'b mut [u8],
-    data: &'b mut [u64],
-    decibels: &'b mut [f64],
+    stats: &mut [u64; 24],
+    data: &mut [u64; 2],
+    decibels: &mut [f64; 1],
 ) -> u8
-    ensures { ConvertCall (c_converter (c_settings rate cutoff channels gain.now own taps.now) numbers.now) (input has_before before.now frames.now has_after after.now) lent out.old out.new counts.old counts.new (results (stat_lists clipped.old lowest.old highest.old empty.old) «data».old decibels.old) (results (stat_lists clipped.new lowest.new highest.new empty.new) «data».new decibels.new) result }
+    ensures { BytesCall bytes_of.Rack (block numbers.now gain.now taps.now) (input presence before.now frames.now after.now) out.old counts.old out.new counts.new (results stats.old «data».old decibels.old) (results stats.new «data».new decibels.new) result }
 {
-    let Some((conv, run)) = asked(
-        rate, cutoff, channels, gain, own, taps, numbers, has_before, before, frames, has_after,
-        after, clipped, lowest, highest, empty, data, decibels,
-    ) else {
-        return NOT_UNDERSTOOD;
+    let blocks = Blocks {
+        numbers,
+        gain,
+        taps,
     };
-    let Some(lent) = flag_of(lent) else {
-        return NOT_UNDERSTOOD;
+    let input = Input {
+        presence,
+        before,
+        frames,
+        after,
     };
-    let made = if lent {
-        scarletbook_pcm::convert(conv, run, out, Some(counts))
-    } else {
-        scarletbook_pcm::convert(conv, run, out, None)
+    convert_bytes(
+        Bytes::Rack,
+        blocks,
+        input,
+        out,
+        counts,
+        stats,
+        data,
+        decibels,
+    )
+}
+
+// For the listening desk, which takes at most 8 frames.
+#[unsafe(no_mangle)]
+pub extern "C" fn puigneht_convert_desk_call<'a>(
+    numbers: &'a [u64; 8],
+    gain: &'a [f64; 2],
+    taps: &'a [i32; 117],
+    presence: u8,
+    before: &'a [u8],
+    frames: &'a [u8],
+    after: &'a [u8],
+    out: &mut [u8],
+    counts: &mut [u64],
+    stats: &mut [u64; 24],
+    data: &mut [u64; 2],
+    decibels: &mut [f64; 1],
+) -> u8
+    ensures { BytesCall bytes_of.Desk (block numbers.now gain.now taps.now) (input presence before.now frames.now after.now) out.old counts.old out.new counts.new (results stats.old «data».old decibels.old) (results stats.new «data».new decibels.new) result }
+{
+    let blocks = Blocks {
+        numbers,
+        gain,
+        taps,
     };
-    tell_conversion(made, clipped, lowest, highest, empty, data, decibels)
+    let input = Input {
+        presence,
+        before,
+        frames,
+        after,
+    };
+    convert_bytes(
+        Bytes::Desk,
+        blocks,
+        input,
+        out,
+        counts,
+        stats,
+        data,
+        decibels,
+    )
+}
+
+// A WAV file from a run.
+#[unsafe(no_mangle)]
+pub extern "C" fn puigneht_wav_convert_call<'a>(
+    numbers: &'a [u64; 8],
+    gain: &'a [f64; 2],
+    taps: &'a [i32; 117],
+    presence: u8,
+    before: &'a [u8],
+    frames: &'a [u8],
+    after: &'a [u8],
+    out: &mut [u8],
+    counts: &mut [u64],
+    stats: &mut [u64; 24],
+    data: &mut [u64; 2],
+    decibels: &mut [f64; 1],
+) -> u8
+    ensures { BytesCall bytes_of.Wav (block numbers.now gain.now taps.now) (input presence before.now frames.now after.now) out.old counts.old out.new counts.new (results stats.old «data».old decibels.old) (results stats.new «data».new decibels.new) result }
+{
+    let blocks = Blocks {
+        numbers,
+        gain,
+        taps,
+    };
+    let input = Input {
+        presence,
+        before,
+        frames,
+        after,
+    };
+    convert_bytes(
+        Bytes::Wav,
+        blocks,
+        input,
+        out,
+        counts,
+        stats,
+        data,
+        decibels,
+    )
 }
 
 // 32-bit samples as three bytes each, as many as there are bytes for.
 #[unsafe(no_mangle)]
-pub extern "C" fn puigneht_pack_s24le(samples: &[i32], bytes: &mut [u8])
+pub extern "C" fn puigneht_pack_s24le_call(samples: &[i32], bytes: &mut [u8])
     ensures { PackPromise samples.now bytes.old bytes.new }
 {
     scarletbook_pcm::pack_s24le(samples, bytes)

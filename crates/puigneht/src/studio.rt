@@ -1,27 +1,50 @@
-// Overs by the studio rule, for C and Rust.
-ghost use Rattle.puigneht.specs.Overs.{OversCall};
+// Statistics joined, the level sheet, overs and turns.
+ghost use Rattle.c_studio.specs.Calls.{JoinCall, SheetCall, OversCall, TurnsCall};
 
-use interface::{NOT_UNDERSTOOD, in_progress, tell_overs};
-
-// Overs of a channel of interleaved samples, from what is in progress before them, and what is in progress after them.
-#[tactic(auto, using(crate::proofs::Calls::turned_away, crate::proofs::Calls::worked, crate::proofs::Calls::not_left, crate::proofs::Calls::not_right, crate::proofs::Calls::both_hold, interface::proofs::Known::some_known, interface::proofs::Known::none_known))]
+// The statistics of a stretch, with those of the stretch after it.
 #[unsafe(no_mangle)]
-pub extern "C" fn puigneht_overs(
+pub extern "C" fn puigneht_join_stats_call(stats: &mut [u64; 24], more: &[u64; 24]) -> u8
+    ensures { JoinCall stats.old more.now stats.new result }
+{
+    c_studio::join_stats(stats, more)
+}
+
+// The level sheet of some statistics.
+#[unsafe(no_mangle)]
+pub extern "C" fn puigneht_level_sheet_call(
+    channels: u8,
+    stats: &[u64; 24],
+    out: &mut [u8],
+    data: &mut [u64; 2],
+) -> u8
+    ensures { SheetCall channels stats.now out.old out.new «data».old «data».new result }
+{
+    c_studio::level_sheet(channels, stats, out, data)
+}
+
+// Overs of a channel, and what is in progress after its samples.
+#[unsafe(no_mangle)]
+pub extern "C" fn puigneht_overs_call(
     samples: &[i32],
     channels: usize,
     channel: usize,
-    end: u8,
-    length: u64,
-    told: &mut [u64],
+    told: &mut [u64; 3],
 ) -> u8
-    ensures { OversCall samples.now channels channel end «length» told.old told.new result }
+    ensures { OversCall samples.now channels channel told.old told.new result }
 {
-    let Some(before) = in_progress(end, length) else {
-        return NOT_UNDERSTOOD;
-    };
-    if told.len() != 3 {
-        return NOT_UNDERSTOOD;
-    }
-    tell_overs(overs::overs(samples, channels, channel, before), told);
-    0
+    c_studio::overs(samples, channels, channel, told)
+}
+
+// Finishing turn and lateness of each album.
+#[unsafe(no_mangle)]
+pub extern "C" fn puigneht_turns_call(
+    frames: &[u64],
+    dues: &[u64],
+    turn: u64,
+    finishes: &mut [u64],
+    late: &mut [i32],
+) -> u8
+    ensures { TurnsCall frames.now dues.now turn finishes.old late.old finishes.new late.new result }
+{
+    c_studio::turns(frames, dues, turn, finishes, late)
 }

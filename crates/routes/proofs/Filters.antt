@@ -17,7 +17,8 @@ use Rattle.reference.specs.Stages.{tap, M, fir, between, w, y_narrow}
 use Rattle.reference.specs.declared.PcmRate.TheVariants.{Hz352800}
 use Rattle.reference.proofs.Locality.{F40_last, F80_last}
 use Rattle.reference.proofs.Sizes.{F40_sum}
-use Rattle.filters.specs.Filters.{even_taps, odd_taps, between_by, same_rate, middle, Small, Fit, Filled}
+use Rattle.lanes.specs.Lanes.{Small, Filled}
+use Rattle.filters.specs.Filters.{even_taps, odd_taps, between_by, same_rate, middle, Fit}
 use Rattle.filters.proofs.Signals.{filled_held, same_signal, same_held, middle_held, length_even, length_odd}
 use Rattle.filters.proofs.Tables.{between_is_HB, filter_F40, filter_F80, absolute_F80}
 use Rattle.routes.specs.Routes.{LowPass, HalvedFilter, halves_of}

@@ -22,13 +22,13 @@ use Rattle.reference.specs.declared.Converter.{Converter}
 use Rattle.reference.specs.declared.Limit.{Limit}
 use Rattle.joins.specs.Joins.{Call, convert, convert_run, AcceptedConverter, AcceptedRun, JoinTo, GiveWholeRun}
 use Rattle.joins.proofs.Joins.{cut_runs_join}
-use Rattle.scarletbook_pcm.specs.Calls.{listed, left}
+use Rattle.run_record.specs.Calls.{listed, left}
 use Rattle.scarletbook_pcm.specs.contracts.convert_parts as parts
 use Rattle.scarletbook_pcm.specs.contracts.convert_desk_parts as desk-parts
 use Rattle.scarletbook_pcm.specs.contracts.convert_run_parts as run-parts
-use Rattle.scarletbook_pcm.specs.contracts.record.convert as record'
-use Rattle.scarletbook_pcm.specs.contracts.record.convert_desk as desk-record
-use Rattle.scarletbook_pcm.specs.contracts.record.convert_run as run-record
+use Rattle.run_record.specs.contracts.convert as record'
+use Rattle.run_record.specs.contracts.convert_desk as desk-record
+use Rattle.run_record.specs.contracts.convert_run as run-record
 
 -- ---- calls by their parts
 

@@ -1,3 +1,1 @@
-pub mod Same
-pub mod Answers
 pub mod Joins

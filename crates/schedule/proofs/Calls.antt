@@ -11,10 +11,11 @@ use Rattle.numbers.specs.Lists.{tabulate}
 use Rattle.numbers.proofs.Lists.{get_d_tabulate, length_tabulate}
 use Rattle.reference.specs.Refusals.{accepted, refused, is_accepted, decide}
 use Rattle.reference.proofs.Promises.{exit_accepted}
-use Rattle.schedule.specs.Turns.{board, simulated, lateness_in, greatest, greatest_lateness}
-use Rattle.schedule.specs.Promise.{fitting, simulate_places, ReturnsTheBest}
-use Rattle.schedule.proofs.Ranges.{ranges, fits}
-use Rattle.schedule.proofs.Best.{due_first_is_best}
+use Rattle.boards.specs.Boards.{board, fitting}
+use Rattle.finishes.specs.Turns.{simulated, lateness_in, greatest, greatest_lateness}
+use Rattle.schedule.specs.Promise.{simulate_places, ReturnsTheBest}
+use Rattle.boards.proofs.Ranges.{ranges, fits}
+use Rattle.finishes.proofs.Best.{due_first_is_best}
 
 pub greatest_same : (f g : ℕ → ℤ) (n : ℕ) → ((a : ℕ) → a ≤ n → f a ≡ g a) → greatest f n ≡ greatest g n
 unfolding greatest

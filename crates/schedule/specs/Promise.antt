@@ -1,15 +1,11 @@
 -- What a call of `simulate` promises.
-use Rattle.std.specs.Prelude.{◌≡◌, Result, List, [], ◌∷◌, Bool, not, ◌&&◌, ℕ, ◌-◌, eqb, ℤ, pos, length, get_or, ◌≤ℤ◌}
+use Rattle.std.specs.Prelude.{◌≡◌, Result, List, [], ◌∷◌, not, ℕ, ◌-◌, ℤ, pos, length, get_or, ◌≤ℤ◌}
 use Rattle.numbers.specs.Lists.{tabulate}
 use Rattle.reference.specs.Refusals.{Place, place, decide, decision, accepted}
 use Rattle.reference.specs.Promises.{by_decision}
 use Rattle.reference.specs.declared.PcmError.{PcmError}
-use Rattle.schedule.specs.Turns.{board, in_range, simulated, finish_in, lateness_in, GivesTurns, greatest, greatest_lateness}
-
--- every number is in its range, and each list has a place for each album
-unfoldable pub fitting : List ℕ → List ℕ → ℕ → ℕ → ℕ → Bool
-fitting frames dues turn finishes late =
-    eqb (length dues) (length frames) && (in_range (board frames dues turn) && (eqb finishes (length frames) && eqb late (length frames)))
+use Rattle.boards.specs.Boards.{board, fitting}
+use Rattle.finishes.specs.Turns.{simulated, finish_in, lateness_in, GivesTurns, greatest, greatest_lateness}
 
 -- the one place of refusal. `finishes` and `late` are the lengths of the lent lists
 unfoldable pub simulate_places : List ℕ → List ℕ → ℕ → ℕ → ℕ → List Place

@@ -8,13 +8,12 @@ use Rattle.columns.specs.Columns.{column, entry}
 use native.Mathlib.Nat.{zero-add, add-zero}
 use native.Mathlib.Numerals.{add-one}
 use Rattle.numbers.specs.Lists.{tabulate}
-use Rattle.level_lines.specs.Text.{joined, with_text}
-use Rattle.level_lines.specs.Lines.{printed}
-use Rattle.level_lines.specs.Writing.{Prints}
-use Rattle.level_lines.specs.declared.text.Text.{Text}
-use Rattle.level_lines.proofs.Printing as printing
-use Rattle.level_lines.proofs.Printing.{joined_last}
-use Rattle.level_lines.proofs.Writing.{both}
+use Rattle.text.specs.Text.{joined, with_text, printed}
+use Rattle.text.specs.Writing.{Prints}
+use Rattle.text.specs.declared.putting.Text.{Text}
+use Rattle.text.proofs.Printing as printing
+use Rattle.text.proofs.Printing.{joined_last}
+use Rattle.text.proofs.Writing.{both}
 use Rattle.std.proofs.Common.{take-append-drop}
 
 pub nothing : {a : Text} → Prints [] a a

@@ -1,23 +1,21 @@
 -- Which numbers of a sheet fit their columns.
-use Rattle.std.proofs.Common.{rules}
-use Rattle.std.specs.List.{list_any}
-use mathlib.Core.List.{List, [], ◌∷◌}
 use mathlib.Core.Path.{◌≡◌, refl, sym, ◌∙◌}
-use mathlib.Core.Bool.{Bool, false, ◌||◌, or-false}
+use mathlib.Core.Bool.{Bool, true, false, ◌||◌, or-false}
+use native.Mathlib.Numerals.{add-one}
 use mathlib.Core.Logic.{⊎_elim}
-use Prim.Native.Nat.{ℕ, zero, suc, ◌*◌, ◌^◌, ◌≤◌, ◌<◌}
+use Prim.Native.Nat.{ℕ, zero, suc, ◌+◌, ◌*◌, ◌^◌, ◌≤◌, ◌<◌}
 use native.Mathlib.Nat.{zero-add}
 use Rattle.numbers.specs.Lists.{total}
 use native.Mathlib.Omega.{arith}
 use borrow.Author.Tests.{ltb-false}
 use lib.Dec.{ltb}
-use lib.ListN.{length, take, get_or}
+use lib.ListN.{length}
 use Rattle.numbers.proofs.Lists.{below_or}
 use Rattle.reference.specs.Statistics.{channel_of, clip_sum}
 use Rattle.reference.specs.declared.ConvertStats.{ConvertStats}
 use Rattle.reference.specs.declared.ChannelStats.{ChannelStats}
-use Rattle.level_lines.specs.Text.{decimal}
-use Rattle.level_lines.proofs.Numerals.{one_digit, bounded}
+use Rattle.text.specs.Text.{decimal}
+use Rattle.text.proofs.Numerals.{one_digit, bounded}
 use Rattle.columns.specs.Columns.{level_text, too_wide}
 use Rattle.columns.proofs.Widths.{or_left, entry_fits}
 use Rattle.sheet.specs.Sheet.{lowest, highest, figures, channel_line, sum_line, some_below, sheet_too_wide}
@@ -84,22 +82,11 @@ module _ (channels : ℕ) (stats : ConvertStats) (fits : sheet_too_wide channels
       let h = (or_left (some_below (λ c. too_wide (channel_line stats c)) channels) (too_wide (sum_line (clip_sum stats channels))) fits).1 in
       ltb-false 14 (length (decimal (clip_sum stats channels))) (sym (sum_wide (clip_sum stats channels)) ∙ h)
 
--- the first place, then those after it
-some_first : (p : ℕ → Bool) (n : ℕ) → some_below p (suc n) ≡ (p 0 || some_below (λ k. p (suc k)) n)
+-- one place more: found before it, or found by what it says
+pub found_before : (p : ℕ → Bool) (n : ℕ) → some_below p n ≡ true → true ≡ some_below p (n + 1)
 unfolding some_below
-some_first p zero = grind rules
-some_first p (suc n) = rw (some_first p n) (grind rules)
+found_before p n e = rw (add-one, e) refl
 
--- some of the first elements of a list
-pub some_taken : {X : Type 0} (test : X → Bool) (d : X) (l : List X) (n : ℕ) → n ≤ length l → list_any test (take n l) ≡ some_below (λ c. test (get_or l c d)) n
+pub found_here : (p : ℕ → Bool) (n : ℕ) {b : Bool} → some_below p n ≡ false → b ≡ p n → b ≡ some_below p (n + 1)
 unfolding some_below
-some_taken test d [] zero h = refl
-some_taken test d [] (suc n) h = absurd (omega (arith, h))
-some_taken test d (x ∷ xs) zero h = refl
-some_taken test d (x ∷ xs) (suc n) h = rw (some_first (λ c. test (get_or (x ∷ xs) c d)) n, some_taken test d xs n (omega (arith, h))) refl
-
--- a test that agrees at each place
-pub some_same : (p q : ℕ → Bool) (n : ℕ) → ((c : ℕ) → c < n → p c ≡ q c) → some_below p n ≡ some_below q n
-unfolding some_below
-some_same p q zero h = refl
-some_same p q (suc n) h = rw (some_same p q n (λ c l. h c (omega (arith, l))), h n (omega arith)) refl
+found_here p n e h = rw (add-one, e) h

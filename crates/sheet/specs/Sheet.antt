@@ -5,7 +5,7 @@ use Rattle.reference.specs.Statistics.{channel_of, clip_sum}
 use Rattle.reference.specs.declared.ConvertStats.{ConvertStats}
 use Rattle.reference.specs.declared.ChannelStats.{ChannelStats}
 use Rattle.reference.specs.declared.Extremes.{Extremes}
-use Rattle.level_lines.specs.Text.{joined, decimal}
+use Rattle.text.specs.Text.{joined, decimal}
 use Rattle.columns.specs.Columns.{Entry, entry, line, too_wide, level_text}
 
 -- ---- the lines

@@ -5,28 +5,34 @@ ghost use Rattle.std.specs.Prelude.{◌≡◌, false, ◌+◌, ◌*◌, ◌<◌,
 ghost use Rattle.numbers.specs.Lists.{tabulate};
 ghost use Rattle.reference.specs.Refusals.{decide, decision};
 ghost use Rattle.reference.specs.Statistics.{clip_sum, channel_of};
-ghost use Rattle.level_lines.specs.Text.{joined, decimal};
-ghost use Rattle.level_lines.specs.Writing.{Prints};
+ghost use Rattle.text.specs.Text.{joined, decimal};
+ghost use Rattle.text.specs.Writing.{Prints};
 ghost use Rattle.columns.specs.Columns.{line, too_wide};
 ghost use Rattle.sheet.specs.Sheet as sheets;
 ghost use Rattle.sheet.specs.Sheet.{figures, numbered, channel_line, sum_line, sheet, some_below, sheet_too_wide};
 ghost use Rattle.sheet.specs.Promises.{sheet_length, sheet_places, SheetPromise};
 
-use level_lines::Text;
 use reference::{ChannelStats, ConvertStats, PcmError};
+use text::Text;
 
 #[tactic(auto, unfolding(crate::specs::Sheet::lowest))]
 fn lowest(channel: ChannelStats) -> Option<i64>
     ensures { result ≡ sheets.lowest channel.extremes }
 {
-    channel.extremes.map(|e| e.lowest)
+    match channel.extremes {
+        None => None,
+        Some(e) => Some(e.lowest),
+    }
 }
 
 #[tactic(auto, unfolding(crate::specs::Sheet::highest))]
 fn highest(channel: ChannelStats) -> Option<i64>
     ensures { result ≡ sheets.highest channel.extremes }
 {
-    channel.extremes.map(|e| e.highest)
+    match channel.extremes {
+        None => None,
+        Some(e) => Some(e.highest),
+    }
 }
 
 // Whether a number of a channel is too wide for its column.
@@ -44,9 +50,11 @@ fn wide_channels(stats: ConvertStats, channels: usize) -> bool
     requires { channels ≤ 6 }
     ensures { result ≡ some_below (λ c. too_wide (channel_line stats c)) channels }
 {
-    stats.channels[..channels]
-        .iter()
-        .any(|channel| wide_channel(*channel))
+    let mut found = false;
+    for c in 0..channels {
+        found = found || wide_channel(stats.channels[c]);
+    }
+    found
 }
 
 // Whether a printed number is too wide for its column.

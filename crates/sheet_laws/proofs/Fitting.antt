@@ -12,8 +12,8 @@ use Rattle.std.specs.Prelude.{Option, Some, None}
 use Rattle.reference.specs.Statistics.{channel_of, clip_sum}
 use Rattle.reference.specs.declared.ConvertStats.{ConvertStats}
 use Rattle.reference.specs.declared.Extremes.{Extremes}
-use Rattle.level_lines.specs.Text.{text, decimal, signed}
-use Rattle.level_lines.proofs.Numerals.{places}
+use Rattle.text.specs.Text.{text, decimal, signed}
+use Rattle.text.proofs.Numerals.{places}
 use Rattle.columns.specs.Columns.{level_text, too_wide}
 use Rattle.sheet.specs.Sheet.{lowest, highest, channel_line, some_below, sheet_too_wide}
 use Rattle.sheet.proofs.Widths.{figures_wide, channel_wide, sum_wide}

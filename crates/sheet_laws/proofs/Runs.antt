@@ -77,7 +77,7 @@ module _ (conv : Converter) (r : Run) (held : Held conv) (ok : AcceptedConverter
       go true = omega (arith, count_few (clipped conv r c) 0 (channel_samples conv r), samples_few)
       go false = omega arith
 
-  stats_small : Small (stats conv r)
+  pub stats_small : Small (stats conv r)
   unfolding stats channel_stats channel_of
   stats_small = record {
     clips = λ c l. rw (at_channel (channel_stats conv r) c l) (clips_small c);

@@ -14,7 +14,8 @@ use Rattle.reference.specs.Taps.{S1, S1_WIDE, HB}
 use Rattle.reference.specs.Stages.{M, fir, u, v}
 use Rattle.reference.proofs.Locality.{S1_length, S1_WIDE_length}
 use Rattle.reference.proofs.Sizes.{fir_size, u_S1_size, u_WIDE_size, v_size}
-use Rattle.filters.specs.Filters.{alone, odd_taps, half_rate, Small, Fit, Filled}
+use Rattle.lanes.specs.Lanes.{Small, Filled}
+use Rattle.filters.specs.Filters.{alone, odd_taps, half_rate, Fit}
 use Rattle.filters.proofs.Signals.{held_small, half_fit, half_held, length_odd}
 use Rattle.filters.proofs.Tables.{halves_HB, absolute_HB}
 use Rattle.tables.specs.Tables.{ByteTables}

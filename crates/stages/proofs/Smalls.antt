@@ -17,7 +17,8 @@ use Rattle.reference.specs.Stages.{M, fir}
 use Rattle.reference.proofs.Rounding.{R_size}
 use Rattle.reference.specs.Sizes.{absolute_sum}
 use Rattle.reference.proofs.Sizes.{fir_size}
-use Rattle.filters.specs.Filters.{same_rate, Small, Fit, Filled}
+use Rattle.lanes.specs.Lanes.{Small, Filled}
+use Rattle.filters.specs.Filters.{same_rate, Fit}
 use Rattle.filters.proofs.Signals.{past}
 use Rattle.routes.specs.Routes.{LowPass}
 use Rattle.routes.proofs.Arrays.{part_length, put_held}

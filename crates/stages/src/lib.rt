@@ -8,7 +8,9 @@ ghost use Rattle.reference.specs.Rounding.{R};
 ghost use Rattle.reference.specs.Taps.{S1};
 ghost use Rattle.reference.specs.Stages.{v};
 ghost use Rattle.tables.specs.Tables.{ByteTables};
-ghost use Rattle.filters.specs.Filters.{same_rate, Small, Filled};
+ghost use Rattle.lanes.specs.Lanes.{Small, Filled};
+ghost use Rattle.filters.specs.Filters.{same_rate};
+ghost use Rattle.band.specs.Bands.{odd_sizes};
 ghost use Rattle.routes.specs.Routes.{HalvedFilter, halves_of};
 
 mod buffers;
@@ -16,8 +18,9 @@ mod buffers;
 pub use buffers::Buffers;
 
 // v(i), v(i + 1), .., from the bytes around them, those from position 2i - 19 on: u(2i), u(2i + 2), .. go to the same
-// places first, u(2i - 15), u(2i - 13), .. to `odd`.
-pub fn half_band(tables: &[i32], bytes: &[u8], odd: &mut [i64], out: &mut [i64])
+// places first, u(2i - 15), u(2i - 13), .. to `odd`. The half band's sizes are lent.
+pub fn half_band(tables: &[i32], sizes: &[u32], bytes: &[u8], odd: &mut [i64], out: &mut [i64])
+    requires lent { sizes.now ≡ odd_sizes }
     requires byte_tables { ByteTables S1 8 tables.now }
     requires out_len_bound { (length out.old ≤ 232) × (length odd.old ≡ length out.old + 15) × (length bytes.now ≡ 2 * length out.old + 36) }
     ensures small { Small (2 ^ 27) out.new }
@@ -25,7 +28,7 @@ pub fn half_band(tables: &[i32], bytes: &[u8], odd: &mut [i64], out: &mut [i64])
 {
     first_stage::first_stage(tables, 4, bytes, 15, 2, out);
     first_stage::first_stage(tables, 4, bytes, 0, 2, odd);
-    filters::half(out, odd);
+    band::half(out, sizes, odd);
 }
 
 // n values of an array, those from place `by` on, become its first; the places past them keep theirs.
@@ -50,6 +53,7 @@ pub fn weave(even: &[i64], odd: &[i64], out: &mut [i64])
 
 // Half the rate, with a filter whose even taps come first in h, then the odd ones: place i of y is around place 2i + M
 // of x.
+#[inline(always)]
 pub fn halved(h: &[i64], x: &[i64], y: &mut [i64])
     requires halved_filter { HalvedFilter h.now }
     requires h_in_bounds { (2 * (length y.old + length h.now) ≤ length x.now + 3) × (length x.now ≤ 400) }

@@ -10,7 +10,9 @@ use reference::ConvertStats;
 pub fn join_stats(a: ConvertStats, b: ConvertStats) -> ConvertStats
     ensures { result ≡ joined_stats a b }
 {
-    ConvertStats {
-        channels: std::array::from_fn(|c| a.channels[c].join(b.channels[c])),
+    let mut channels = a.channels;
+    for c in 0..6 {
+        channels[c] = a.channels[c].join(b.channels[c]);
     }
+    ConvertStats { channels }
 }

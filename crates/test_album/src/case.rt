@@ -1,100 +1,61 @@
-// Cases: a file and what is wanted of it; how it opens; the WAV file and the sheet that it is to give, or the refusal's sentence.
-use album::{Album, Wanted};
+// Cases: what is wanted of a file, and how it opens; the file, the WAV file and the sheet that it is to give. The
+// refusal's sentence is command/faults's to compare.
+use album::Wanted;
 use reference::PcmRate;
-use std::alloc::Global;
-use std::io;
-use std::io::Read;
-use test_support::{Told, refusal, up_to, up_to_mut};
+use test_support::{behind, cutoff, rate_of_hertz, up_to};
 
-#[derive(Drop)]
-pub struct Case {
-    pub wanted: Wanted,
-    // The file's length: of a refused one only the first bytes are stored.
-    pub length: u64,
-    pub told: Told,
-    // What stands in the album's record.
-    pub album: [u64; 7],
-    pub file: Vec<u8>,
-    pub wav: Vec<u8>,
-    pub sheet: Vec<u8>,
-    pub text: Vec<u8>,
+// Rate, cutoff, decibels above -120, the file's length; the answer of opening and its two numbers; what stands in the
+// album's record; where the file's stored bytes, the WAV file, the sheet and the sentence stand, each with its length.
+pub type Row = [u64; 22];
+
+#[derive(Clone, Copy)]
+pub struct Case<'a> {
+    pub row: Row,
+    pub bytes: &'a [u8],
 }
 
-// The cases' decibels, by how many they are above -120.
-fn decibels(n: u64) -> i32 {
-    (n % 4096) as i32 - 120
-}
-
-fn wanted(rate: u64, cutoff: u64, db: u64) -> Wanted {
-    let rate = test_support::rate_of_hertz(rate);
-    let cutoff = test_support::cutoff(3 * (cutoff % 3));
-    album::wanted_of(rate, cutoff, decibels(db))
-}
-
-fn stored<F: Read>(alloc: Global, from: &mut F, n: u64) -> io::Result<Vec<u8>> {
-    let mut list = vec![in alloc; 0u8; n as usize]?;
-    from.read_exact(&mut list)?;
-    Ok(list)
-}
-
-impl Case {
-    // A file that is not stored is the one before, which stands in the buffer.
-    pub fn read<F: Read>(alloc: Global, from: &mut F, buffer: &mut [u8]) -> io::Result<Case> {
-        let mut record = [0u8; 144];
-        from.read_exact(&mut record)?;
-        let [rate, cutoff, db, file, length, number, first, second] = test_files::numbers::<8>(
-            &record, 0,
-        );
-        let [wav, sheet, text] = test_files::numbers::<3>(&record, 120);
-        from.read_exact(up_to_mut(buffer, file))?;
-        let told = refusal(number, first, second);
-        let held = if told.is_accepted() { length } else { file };
-        Ok(Case {
-            wanted: wanted(rate, cutoff, db),
-            length,
-            told,
-            album: test_files::numbers::<7>(&record, 64),
-            file: up_to(buffer, held).to_vec(alloc)?,
-            wav: stored(alloc, from, wav)?,
-            sheet: stored(alloc, from, sheet)?,
-            text: stored(alloc, from, text)?,
-        })
+impl<'a> Case<'a> {
+    pub fn wanted(self) -> Wanted {
+        let [rate, cut, db, ..] = self.row;
+        let db = (db % 4096) as i32 - 120;
+        album::wanted_of(rate_of_hertz(rate), cutoff(3 * (cut % 3)), db)
     }
 
-    // The first bytes of the file.
-    pub fn head(&self) -> &[u8] {
-        test_support::up_to(&self.file, 92)
+    pub fn rate(self) -> PcmRate {
+        rate_of_hertz(self.row[0])
     }
 
-    pub fn rate(&self) -> PcmRate {
-        self.wanted.rate
+    // The file's: of a refused one only the first bytes are stored.
+    pub fn length(self) -> u64 {
+        self.row[3]
     }
 
-    // As the record of an album has them.
-    pub fn channels(&self) -> u64 {
-        self.album[0]
+    pub fn channels(self) -> u64 {
+        self.row[7]
     }
 
-    pub fn samples(&self) -> u64 {
-        self.album[1]
-    }
-
-    pub fn frames(&self) -> u64 {
-        self.album[2]
-    }
-
-    pub fn bytes(&self) -> u64 {
-        self.album[3]
+    pub fn frames(self) -> u64 {
+        self.row[9]
     }
 
     // Bytes of a frame's samples.
-    pub fn frame(&self) -> u64 {
-        self.album[4]
+    pub fn frame(self) -> u64 {
+        self.row[11]
     }
-}
 
-pub fn numbers(a: Album) -> [u64; 7] {
-    [
-        a.channels, a.samples, a.frames, a.bytes, a.frame, a.filled, a.pieces,
-    ]
+    pub fn file(self) -> &'a [u8] {
+        up_to(behind(self.bytes, self.row[14]), self.row[15])
+    }
+
+    pub fn head(self) -> &'a [u8] {
+        up_to(self.file(), 92)
+    }
+
+    pub fn wav(self) -> &'a [u8] {
+        up_to(behind(self.bytes, self.row[16]), self.row[17])
+    }
+
+    pub fn sheet(self) -> &'a [u8] {
+        up_to(behind(self.bytes, self.row[18]), self.row[19])
+    }
 }

@@ -1,41 +1,40 @@
 // The plan's numbers: parts of jobs, and pieces.
-use album_plan::Piece;
+use std::io;
 use std::rt::Files;
-use std::{fs, io};
-use test_files::{Tally, numbers};
+use test_support::{numbers, print_right, rate_of_hertz};
 
-fn part(case: &[u8; 40], tally: &mut Tally) {
-    let [frames, jobs, j, first, end] = numbers::<5>(case, 0);
-    let p = album_plan::part_of(frames, jobs, j);
-    let part = p.map_or([0, 0], |p| [p.first, p.end]);
-    tally.add(part == [first, end], part[0] < part[1]);
+fn part_right(&[frames, jobs, j, first, end]: &[u64; 5]) -> bool {
+    let part = match album_plan::part_of(frames, jobs, j) {
+        Some(p) => [p.first, p.end],
+        None => [0, 0],
+    };
+    part == [first, end]
 }
 
-fn to_numbers(p: Piece) -> [u64; 7] {
-    [
-        p.first, p.count, p.start, p.window, p.place, p.bytes, p.room,
-    ]
-}
-
-fn piece(case: &[u8; 88], tally: &mut Tally) {
-    let [rate, channels, samples, k] = numbers::<4>(case, 0);
-    let rate = test_support::rate_of_hertz(rate);
-    let p = album_plan::piece_of(rate, channels, samples, k);
-    let piece = p.map_or([0; 7], |p| to_numbers(p));
-    tally.add(piece == numbers::<7>(case, 32), 0 < piece[1]);
+fn piece_right(row: &[u64; 11]) -> bool {
+    let [rate, channels, samples, k, a, b, c, d, e, f, g] = *row;
+    let piece = match album_plan::piece_of(rate_of_hertz(rate), channels, samples, k) {
+        Some(p) => [
+            p.first, p.count, p.start, p.window, p.place, p.bytes, p.room,
+        ],
+        None => [0; 7],
+    };
+    piece == [a, b, c, d, e, f, g]
 }
 
 pub fn all<R: Files + Print + AllocGlobal>(rt: &R) -> io::Result<()> {
-    let mut parts = Tally::default();
-    let list = fs::read(rt, "parts")?;
-    for case in test_files::records(&list) {
-        part(case, &mut parts);
-    }
-    println!(rt; "parts {parts}")?;
-    let mut pieces = Tally::default();
-    let list = fs::read(rt, "pieces")?;
-    for case in test_files::records(&list) {
-        piece(case, &mut pieces);
-    }
-    println!(rt; "pieces {pieces}")
+    let parts = numbers(rt, "parts")?;
+    print_right(
+        rt,
+        "parts",
+        parts.as_chunks::<5>().0,
+        |row| Ok(part_right(row)),
+    )?;
+    let pieces = numbers(rt, "pieces")?;
+    print_right(
+        rt,
+        "pieces",
+        pieces.as_chunks::<11>().0,
+        |row| Ok(piece_right(row)),
+    )
 }

@@ -4,18 +4,13 @@ use album_gather::Window;
 use album_plan::Piece;
 use reference::ConvertStats;
 use std::alloc::{AllocError, Global};
+use test_support::{behind, up_to};
 
 // The statistics of steps that were all accepted with the right bytes.
 type Stats = Result<Option<ConvertStats>, AllocError>;
 
-// n bytes of a list from a place on, as far as it goes.
-fn part(s: &[u8], from: u64, n: u64) -> &[u8] {
-    let start = s.len().min(from as usize);
-    test_support::up_to(&s[start..], n)
-}
-
 // One step, with lists of the lengths that it asks for.
-fn step(alloc: Global, case: &Case, p: Piece) -> Stats {
+fn step(alloc: Global, case: Case, p: Piece) -> Stats {
     let one = (case.channels() % 8 * 4704) as usize;
     let mut before = vec![in alloc; 0u8; one]?;
     let mut frames = vec![in alloc; 0u8; p.room as usize]?;
@@ -23,13 +18,13 @@ fn step(alloc: Global, case: &Case, p: Piece) -> Stats {
     let mut out = vec![in alloc; 0u8; p.bytes as usize]?;
     let window = Window {
         head: case.head(),
-        length: case.length,
-        bytes: part(&case.file, p.start.saturating_add(92), p.window),
+        length: case.length(),
+        bytes: up_to(behind(case.file(), p.start.saturating_add(92)), p.window),
         start: p.start,
     };
     let made = album_step::step(
         window,
-        case.wanted,
+        case.wanted(),
         p.first,
         p.count,
         &mut before,
@@ -37,18 +32,10 @@ fn step(alloc: Global, case: &Case, p: Piece) -> Stats {
         &mut after,
         &mut out,
     );
-    if out.as_slice() != part(&case.wav, p.place, p.bytes) {
+    if out.as_slice() != up_to(behind(case.wav(), p.place), p.bytes) {
         return Ok(None);
     }
     Ok(made.ok())
-}
-
-// A piece's step; a piece that is not there gives none.
-fn of_piece(alloc: Global, case: &Case, piece: Option<Piece>) -> Stats {
-    match piece {
-        Some(piece) => step(alloc, case, piece),
-        None => Ok(None),
-    }
 }
 
 // With one more step's.
@@ -56,23 +43,32 @@ fn joined(stats: Option<ConvertStats>, more: Option<ConvertStats>) -> Option<Con
     Some(stretches::join_stats(stats?, more?))
 }
 
+// The pieces of a part.
+fn pieces(alloc: Global, case: Case, first: u64, end: u64) -> Stats {
+    let mut stats = Some(reference::no_stats());
+    for k in first..end {
+        let samples = case.row[8];
+        let Some(piece) = album_plan::piece_of(case.rate(), case.channels(), samples, k) else {
+            return Ok(None);
+        };
+        stats = joined(stats, step(alloc, case, piece)?);
+    }
+    Ok(stats)
+}
+
 // All pieces of so many jobs' parts.
-pub fn jobs(alloc: Global, case: &Case, jobs: u64) -> Stats {
+pub fn jobs(alloc: Global, case: Case, jobs: u64) -> Stats {
     let mut stats = Some(reference::no_stats());
     for j in 0..jobs {
-        let Some(part) = album_plan::part_of(case.frames(), jobs, j) else {
-            continue;
-        };
-        for k in part.first..part.end {
-            let piece = album_plan::piece_of(case.rate(), case.channels(), case.samples(), k);
-            stats = joined(stats, of_piece(alloc, case, piece)?);
+        if let Some(part) = album_plan::part_of(case.frames(), jobs, j) {
+            stats = joined(stats, pieces(alloc, case, part.first, part.end)?);
         }
     }
     Ok(stats)
 }
 
 // Step k of at most n frames each, out of all the data.
-fn cut(case: &Case, n: u64, k: u64) -> Piece {
+fn cut(case: Case, n: u64, k: u64) -> Piece {
     let frames = case.frames();
     let first = n.saturating_mul(k).min(frames);
     let count = n.min(frames - first);
@@ -80,7 +76,7 @@ fn cut(case: &Case, n: u64, k: u64) -> Piece {
         first,
         count,
         start: 0,
-        window: case.length,
+        window: case.length(),
         place: first.saturating_mul(case.frame()).saturating_add(44),
         bytes: count.saturating_mul(case.frame()),
         room: count.saturating_mul(case.channels() % 8 * 4704),
@@ -88,7 +84,7 @@ fn cut(case: &Case, n: u64, k: u64) -> Piece {
 }
 
 // Steps of at most n frames each: as many steps as frames, the last ones perhaps of none.
-pub fn cuts(alloc: Global, case: &Case, n: u64) -> Stats {
+pub fn cuts(alloc: Global, case: Case, n: u64) -> Stats {
     let mut stats = Some(reference::no_stats());
     for k in 0..case.frames() {
         stats = joined(stats, step(alloc, case, cut(case, n, k))?);

@@ -1,5 +1,7 @@
-// The bytes of a conversion, by the rule of compare/answers, and digests.
+// The bytes of a conversion, by the rule of compare/answers; digests; converters.
+use reference::{Converter, Gain, Run};
 use std::alloc::{AllocError, Global};
+use test_support::{next, top};
 
 // What the bytes are: chance, one byte, loud, or chance that repeats after so many bytes.
 #[derive(Clone, Copy)]
@@ -12,7 +14,7 @@ pub enum Pattern {
 
 impl Pattern {
     // Chance repeats after 4 bytes of each channel.
-    pub fn of_row(pattern: u64, channels: u64) -> Pattern {
+    fn of_row(pattern: u64, channels: u64) -> Pattern {
         match pattern {
             1 => Pattern::Constant,
             2 => Pattern::Loud,
@@ -38,24 +40,56 @@ fn loud(k: usize, high: u8) -> u8 {
     if k / 300 % 2 == 0 { 0xff } else { 0 }
 }
 
-pub fn fill(pattern: Pattern, seed: u64, bytes: &mut [u8]) {
-    let mut x = seed;
-    for (k, byte) in bytes.iter_mut().enumerate() {
-        let from = if pattern.starts_anew(k) { seed } else { x };
-        x = test_support::next(from);
-        let high = (x / 0x100_0000 % 256) as u8;
-        *byte = match pattern {
-            Pattern::Constant => (seed % 256) as u8,
-            Pattern::Loud => loud(k, high),
-            _ => high,
-        };
-    }
-}
-
 pub fn made(alloc: Global, pattern: Pattern, seed: u64, n: usize) -> Result<Vec<u8>, AllocError> {
     let mut bytes = vec![in alloc; 0u8; n]?;
-    fill(pattern, seed, &mut bytes);
+    let mut x = seed;
+    for (k, byte) in bytes.iter_mut().enumerate() {
+        x = next(if pattern.starts_anew(k) { seed } else { x });
+        *byte = match pattern {
+            Pattern::Constant => (seed % 256) as u8,
+            Pattern::Loud => loud(k, top(x)),
+            _ => top(x),
+        };
+    }
     Ok(bytes)
+}
+
+// A neighbour that is not there has bytes all the same, which no call may read: an `Option` would hand it none.
+#[derive(Drop)]
+pub struct Input {
+    pub has_before: bool,
+    pub before: Vec<u8>,
+    pub frames: Vec<u8>,
+    pub has_after: bool,
+    pub after: Vec<u8>,
+}
+
+impl Input {
+    // By the first seven numbers of a row, which are route, channels, decibels, a length, neighbours (1 before, 2
+    // after), pattern and seed; the seed and the next two are those of the frames and of their neighbours.
+    pub fn new(alloc: Global, row: [u64; 7], bytes: usize) -> Result<Input, AllocError> {
+        let [_, channels, _, _, neighbours, pattern, seed] = row;
+        let pattern = Pattern::of_row(pattern, channels);
+        let seed = seed % 0x1_0000_0000;
+        let frame = 4704 * (channels % 256) as usize;
+        Ok(Input {
+            has_before: neighbours % 2 == 1,
+            before: made(alloc, pattern, seed + 1, frame)?,
+            frames: made(alloc, pattern, seed, bytes)?,
+            has_after: neighbours / 2 == 1,
+            after: made(alloc, pattern, seed + 2, frame)?,
+        })
+    }
+
+    pub fn run(&self) -> Run<'_> {
+        Run {
+            has_before: self.has_before,
+            before: &self.before,
+            frames: &self.frames,
+            has_after: self.has_after,
+            after: &self.after,
+        }
+    }
 }
 
 // Two digests of a list.
@@ -69,11 +103,28 @@ fn with([first, second]: Digest, x: u64) -> Digest {
     ]
 }
 
+// A sample, made positive.
+pub fn lifted(s: i32) -> u64 {
+    (s as i64 + 0x8000_0000) as u64
+}
+
 pub fn of_samples(s: &[i32]) -> Digest {
-    s.iter()
-        .fold([1, 1], |d, x| with(d, test_support::lifted(*x)))
+    s.iter().fold([1, 1], |d, x| with(d, lifted(*x)))
 }
 
 pub fn of_bytes(s: &[u8]) -> Digest {
     s.iter().fold([1, 1], |d, b| with(d, u64::from(*b)))
+}
+
+// The record that the gain call makes of decibels, or of 0 dB where it refuses.
+pub fn gain_of(db: f64) -> Gain {
+    gain::from_db(db).unwrap_or(Gain {
+        db: 0.0,
+        linear: 1.0,
+    })
+}
+
+// With the built-in filter.
+pub fn converter(route: u64, channels: u64, db: f64) -> Converter {
+    test_support::settings(route, channels, gain_of(db), None).converter()
 }

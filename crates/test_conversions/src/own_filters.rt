@@ -1,12 +1,13 @@
-// Labels' own filters: each line of data/filters, opened and converted. compare/filters.py writes them, and says what stands in a line: the answers
-// are worked out there from document 01's formulas.
-use crate::input::{Pattern, of_samples};
-use crate::{call, input};
-use reference::{Converter, Filter, Gain, Settings};
+// Labels' own filters: each line of data/filters, opened and converted. compare/filters.py writes them, and says what
+// stands in a line: the answers are worked out there from document 01's formulas.
+use crate::calls;
+use crate::calls::{Call, Made, Room, WAYS};
+use crate::input::{Input, of_samples};
+use reference::{Converter, Filter, Settings};
 use std::alloc::Global;
 use std::rt::Files;
 use std::{array, io};
-use test_support::{Converted, Told, float, refusal};
+use test_support::{Told, answered, channel_numbers, gain, numbers, print_right, refusal, stats};
 
 type Row = [u64; 80];
 
@@ -27,19 +28,13 @@ fn tap_at(codes: &[u64], k: usize) -> i32 {
 
 // A row's settings, with its filter. The factor is that of 0 dB.
 fn settings(row: &Row) -> Settings {
-    let gain = Gain {
-        db: float(row[2]),
-        linear: 1.0,
-    };
     let codes = &row[16..75];
     let filter = Filter {
         taps: array::from_fn(|k| tap_at(codes, k)),
         count: row[15] as usize,
     };
-    Settings {
-        filter: Some(filter),
-        ..call::settings(row[0], row[1], gain)
-    }
+    let gain = gain(row[2], 0x3ff0_0000_0000_0000);
+    test_support::settings(row[0], row[1], gain, Some(filter))
 }
 
 fn told(row: &Row) -> Told {
@@ -52,114 +47,57 @@ fn by_settings(row: &Row) -> bool {
     !told.is_accepted() && told.number != 4
 }
 
-fn opened_right(answer: Told, row: &Row) -> bool {
-    let right = if by_settings(row) {
+// The row's samples and reach, the clips of the first two channels, how far over they are, and their marks.
+fn holds(made: &Made, conv: Converter, row: &Row) -> bool {
+    let [first, second, ..] = stats(made.done).channels;
+    made.done.is_ok()
+        && channel_numbers(first) == [row[13], row[75], row[76], row[79] % 2]
+        && channel_numbers(second) == [row[14], row[77], row[78], row[79] / 2]
+        && of_samples(&made.samples) == [row[11], row[12]]
+        && scarletbook_pcm::context_bytes(conv) as u64 == row[10]
+}
+
+fn row_right(alloc: Global, row: &Row) -> io::Result<bool> {
+    let [route, channels, db, bytes, neighbours, pattern, seed, ..] = *row;
+    let head = [route, channels, db, bytes, neighbours, pattern, seed];
+    let input = Input::new(alloc, head, bytes as usize)?;
+    let opened = scarletbook_pcm::open(settings(row));
+    let wanted = if by_settings(row) {
         told(row)
     } else {
         Told::ACCEPTED
     };
-    answer == right
-}
-
-// The clips of the first two channels, how far over they are, lowest and highest, and their marks.
-fn counted(done: Converted, row: &Row) -> bool {
-    let [clipped, lowest, highest, empty] = test_support::to_numbers(test_support::stats(done));
-    [clipped[0], clipped[1]] == [row[13], row[14]]
-        && [lowest[0], highest[0], lowest[1], highest[1]] == [row[75], row[76], row[77], row[78]]
-        && [empty[0], empty[1]] == [row[79] % 2, row[79] / 2]
-}
-
-// The row's samples, clips, extremes and reach; a refused call counts nothing and keeps the output.
-fn converted_right(done: Converted, conv: Converter, row: &Row, out: &[i32]) -> bool {
-    if !told(row).is_accepted() {
-        return counted(done, row) && out.iter().all(|x| *x == 0);
+    if answered(opened) != wanted {
+        return Ok(false);
     }
-    counted(done, row)
-        && of_samples(out) == [row[11], row[12]]
-        && scarletbook_pcm::context_bytes(conv) as u64 == row[10]
-}
-
-// The other calls refuse a row's settings alike, before they look at a length.
-fn others_refuse(conv: Converter, row: &Row, frames: &[u8]) -> bool {
-    let mut out = [0u8; 1];
-    let mut counts = [0u64; 1];
-    let one = scarletbook_pcm::convert_frame_parts(
-        conv,
-        false,
-        frames,
-        frames,
-        false,
-        frames,
-        &mut [0i32; 1],
-    );
-    let bytes = scarletbook_pcm::convert_parts(
-        conv,
-        false,
-        frames,
-        frames,
-        false,
-        frames,
-        &mut out,
-        Some(&mut counts),
-    );
-    let desk = scarletbook_pcm::convert_desk_parts(
-        conv,
-        false,
-        frames,
-        frames,
-        false,
-        frames,
-        &mut out,
-        Some(&mut counts),
-    );
-    let file = wav::convert_parts(
-        conv,
-        false,
-        frames,
-        frames,
-        false,
-        frames,
-        &mut out,
-        Some(&mut counts),
-    );
-    [one, bytes, desk, file]
-        .iter()
-        .all(|done| test_support::answered(*done) == told(row))
-}
-
-// Bytes by the row's pattern and its seed; one and two after it for the neighbours.
-fn row_right(alloc: Global, row: &Row) -> io::Result<bool> {
-    let pattern = Pattern::of_row(row[5], row[1]);
-    let seed = row[6] % 0x1_0000_0000;
-    let frame = (row[1] as usize).saturating_mul(4704).min(9408);
-    let frames = input::made(alloc, pattern, seed, (row[3] as usize).min(9409))?;
-    let before = input::made(alloc, pattern, seed + 1, frame)?;
-    let after = input::made(alloc, pattern, seed + 2, frame)?;
-    let samples = call::samples(row[0], row[1], 1).min(9408);
-    let mut out = vec![in alloc; 0i32; samples]?;
-    let opened = scarletbook_pcm::open(settings(row));
     let conv = opened.unwrap_or(settings(row).converter());
-    let done = scarletbook_pcm::convert_run_parts(
-        conv,
-        row[4] % 2 == 1,
-        &before,
-        &frames,
-        row[4] / 2 == 1,
-        &after,
-        &mut out,
-    );
-    Ok(
-        opened_right(test_support::answered(opened), row)
-            && test_support::answered(done) == told(row)
-            && converted_right(done, conv, row, &out)
-            && (!by_settings(row) || others_refuse(conv, row, &frames)),
-    )
+    let samples = scarletbook_pcm::samples_per_frame(conv.rate);
+    let room = Room {
+        samples: samples.saturating_mul(conv.channels as usize),
+        bytes: 1,
+        counts: Some(1),
+    };
+    for way in WAYS {
+        let made = calls::called(alloc, way, conv, input.run(), room)?;
+        if !is_right(way.0, &made, conv, row) {
+            return Ok(false);
+        }
+    }
+    Ok(true)
 }
 
-// Every row of the file.
-pub fn own<R: Files + Print + AllocGlobal>(rt: &R) -> io::Result<()> {
+// A run is answered as the row says; every call refuses wrong settings alike, before it looks at a length.
+fn is_right(call: Call, made: &Made, conv: Converter, row: &Row) -> bool {
+    if by_settings(row) || told(row).number == 4 && call == Call::Run {
+        return made.is_refused(told(row));
+    }
+    call != Call::Run || holds(made, conv, row)
+}
+
+pub fn all<R: Files + Print + AllocGlobal>(rt: &R) -> io::Result<()> {
     let alloc = rt.alloc();
-    let numbers = test_support::numbers(rt, "filters")?;
-    let rows = numbers.as_chunks::<80>().0;
-    test_support::print_right(rt, "own filters", rows, |row| row_right(alloc, row))
+    let rows = numbers(rt, "filters")?;
+    print_right(rt, "own filters", rows.as_chunks::<80>().0, |row| {
+        row_right(alloc, row)
+    })
 }

@@ -1,18 +1,36 @@
-// Document 01's table: each place's number and data as the original gives them (data/), and nothing written. Number 5 is left to its proof: it
-// wants 2.5 GB of frames.
-use crate::call;
-use crate::call::Lengths;
-use reference::{Converter, Gain, Length, Settings};
-use std::alloc::{AllocError, Global};
+// Document 01's table: each place's number and data as the original gives them (data/), and nothing written. Number 5
+// is left to its proof: it wants 2.5 GB of frames.
+use crate::calls::{Call, Form, Room, WAYS, Way};
+use crate::{calls, input};
+use reference::{Converter, Length, Run, Settings};
+use std::alloc::Global;
 use std::io;
 use std::rt::Files;
-use test_support::{Converted, Told, float, refusal, up_to};
+use test_support::{Told, answered, gain, numbers, print_right, refusal, up_to};
 
-// Route, channels, decibels and factor as bits, and two zeros; or a conversion (1 convert_run, 2 convert_frame, 3
-// convert), and the lengths of before, run, after, output and counts. Then number and data.
+// A call (1 `convert_run`, 2 `convert_frame`, 3 `convert`, 4 `convert_desk`), lengths of before, run, after, output and
+// counts; number and data. Or settings: route, channels, decibels and factor as bits, and two zeros; number and data.
 type Row = [u64; 9];
 
-// A record whose factor is not its decibels' (-0 dB with the float after 1), as a row of settings: the original has no such refusal.
+// Calls in document 02's own numbers: over 8 frames at the desk, and the places before and after that one, each call
+// with more wrong further down; the same of the rack; neighbours that are present and empty; and no frames, which are
+// accepted.
+const OURS: [Row; 12] = [
+    [4, 0, 42337, 0, 1, 3, 4, 42337, 0],
+    [4, 0, 42336, 0, 1, 3, 16, 0, 0],
+    [4, 0, 37632, 0, 1, 3, 13, 0, 0],
+    [4, 4704, 37632, 1, 1, 3, 14, 1, 0],
+    [4, 4704, 37632, 4704, 28223, 3, 7, 28223, 28224],
+    [4, 4704, 37632, 4704, 28224, 3, 8, 3, 8],
+    [3, 0, 42336, 0, 1, 3, 13, 0, 0],
+    [1, 0, 4704, 4704, 1176, 0, 13, 0, 0],
+    [1, 4704, 4704, 0, 1176, 0, 14, 0, 0],
+    [1, 0, 4704, 0, 1176, 0, 13, 0, 0],
+    [1, 4704, 0, 4704, 0, 0, 0, 0, 0],
+    [3, 4704, 0, 4704, 0, 0, 0, 0, 0],
+];
+
+// A record whose factor is not its decibels' (-0 dB with the float after 1): the original has no such refusal.
 const FACTOR: Row = [
     0,
     1,
@@ -25,157 +43,79 @@ const FACTOR: Row = [
     0,
 ];
 
-#[derive(Clone, Copy)]
-enum Conversion {
-    Run,
-    Frame,
-    Bytes,
-}
-
-// The settings of a row.
-fn settings(row: &Row) -> Settings {
-    let gain = Gain {
-        db: float(row[2]),
-        linear: float(row[3]),
-    };
-    call::settings(row[0], row[1], gain)
-}
-
-// A refusal as the original has it: a wrong neighbour, 13 or 14, is its `InputLength`, one frame.
-fn as_original(told: Told) -> Told {
+// Whether an answer is the row's, where a wrong neighbour, 13 or 14, is the original's `InputLength`, one frame.
+fn is_told(told: Told, row: &Row) -> bool {
+    let right = refusal(row[6], row[7], row[8]);
     match told.number {
-        13 | 14 => refusal(4, told.first, Length::OneFrame.number()),
-        _ => told,
+        13 | 14 => { told == right || refusal(4, told.first, Length::OneFrame.number()) == right }
+        _ => told == right,
     }
 }
 
-// Whether an answer is the row's.
-fn is_told(told: Told, row: &Row) -> bool {
-    as_original(told) == refusal(row[6], row[7], row[8])
-}
-
-// What a conversion of lists of these lengths answers, with both neighbours present and the counts lent, and what is
-// left of lists of 7's.
-#[derive(Drop)]
-struct Made {
-    done: Converted,
-    out: Vec<i32>,
-    raw: Vec<u8>,
-    counts: Vec<u64>,
-}
-
-fn converted(
-    alloc: Global,
-    conversion: Conversion,
-    conv: Converter,
-    lengths: Lengths,
-) -> Result<Made, AllocError> {
-    let bytes = [0u8; 9408];
-    let before = up_to(&bytes, lengths.before);
-    let frames = up_to(&bytes, lengths.frames);
-    let after = up_to(&bytes, lengths.after);
-    let mut out = vec![in alloc; 7i32; lengths.out]?;
-    let mut raw = vec![in alloc; 7u8; lengths.out]?;
-    let mut counts = vec![in alloc; 7u64; lengths.counts]?;
-    let done = match conversion {
-        Conversion::Run => scarletbook_pcm::convert_run_parts(
-            conv, true, before, frames, true, after, &mut out,
-        ),
-        Conversion::Frame => scarletbook_pcm::convert_frame_parts(
-            conv, true, before, frames, true, after, &mut out,
-        ),
-        Conversion::Bytes => scarletbook_pcm::convert_parts(
-            conv,
-            true,
-            before,
-            frames,
-            true,
-            after,
-            &mut raw,
-            Some(&mut counts),
-        ),
-    };
-    Ok(Made {
-        done,
-        out,
-        raw,
-        counts,
-    })
-}
-
-// Whether it is refused as the row says, and writes nothing.
+// Whether a call with both neighbours of lists of these lengths, and the counts lent, is answered as the row says, and
+// writes nothing.
 fn refused(
     alloc: Global,
-    conversion: Conversion,
+    way: Way,
     conv: Converter,
-    lengths: Lengths,
+    lengths: [u64; 5],
     row: &Row,
 ) -> io::Result<bool> {
-    let made = converted(alloc, conversion, conv, lengths)?;
-    Ok(
-        is_told(test_support::answered(made.done), row)
-            && test_support::clips_are(made.done, 0)
-            && made.out.iter().all(|x| *x == 7)
-            && made.raw.iter().all(|b| *b == 7)
-            && made.counts.iter().all(|n| *n == 7),
-    )
-}
-
-// Wrong settings, with wrong lengths too.
-fn settings_refused(alloc: Global, conversion: Conversion, row: &Row) -> io::Result<bool> {
-    let conv = settings(row).converter();
-    let lengths = Lengths {
-        before: 1,
-        frames: 1,
-        after: 1,
-        out: 1,
-        counts: 3,
+    let [before, frames, after, out, counts] = lengths;
+    let bytes = [0u8; 42337];
+    let run = Run {
+        has_before: true,
+        before: up_to(&bytes, before),
+        frames: up_to(&bytes, frames),
+        has_after: true,
+        after: up_to(&bytes, after),
     };
-    refused(alloc, conversion, conv, lengths, row)
+    let room = Room {
+        samples: out as usize,
+        bytes: out as usize,
+        counts: Some(counts as usize),
+    };
+    let made = calls::called(alloc, way, conv, run, room)?;
+    Ok(is_told(made.told(), row) && made.is_refused(made.told()))
 }
 
-fn opening_refused(row: &Row) -> bool {
-    let opened = scarletbook_pcm::open(settings(row));
-    is_told(test_support::answered(opened), row)
-}
-
-// Mono at 88,200 Hz.
+// At 88,200 Hz, mono.
 fn lengths_refused(alloc: Global, row: &Row) -> io::Result<bool> {
-    let conversion = match row[0] {
-        1 => Conversion::Run,
-        2 => Conversion::Frame,
-        _ => Conversion::Bytes,
+    let call = match row[0] {
+        1 => Call::Run,
+        2 => Call::Frame,
+        3 => Call::Rack,
+        _ => Call::Desk,
     };
-    let lengths = Lengths {
-        before: row[1],
-        frames: row[2],
-        after: row[3],
-        out: row[4] as usize,
-        counts: row[5] as usize,
-    };
-    refused(alloc, conversion, call::standard(0), lengths, row)
+    let conv = input::converter(0, 1, 0.0);
+    let lengths = [row[1], row[2], row[3], row[4], row[5]];
+    let record = refused(alloc, (call, Form::Record), conv, lengths, row)?;
+    Ok(record && refused(alloc, (call, Form::Parts), conv, lengths, row)?)
 }
 
-pub fn refusals<R: Files + Print + AllocGlobal>(rt: &R) -> io::Result<()> {
+fn settings(row: &Row) -> Settings {
+    test_support::settings(row[0], row[1], gain(row[2], row[3]), None)
+}
+
+// Wrong settings, with wrong lengths too, at opening and at each call.
+fn settings_refused(alloc: Global, row: &Row) -> io::Result<bool> {
+    let opened = scarletbook_pcm::open(settings(row));
+    let mut right = is_told(answered(opened), row);
+    let conv = settings(row).converter();
+    for way in WAYS {
+        right = refused(alloc, way, conv, [1, 1, 1, 1, 3], row)? && right;
+    }
+    Ok(right)
+}
+
+pub fn all<R: Files + Print + AllocGlobal>(rt: &R) -> io::Result<()> {
     let alloc = rt.alloc();
-    let numbers = test_support::numbers(rt, "refused_settings")?;
-    let rows = numbers.as_chunks::<9>().0;
-    test_support::print_right(rt, "refused by open", rows, |row| Ok(opening_refused(row)))?;
-    test_support::print_right(rt, "refused by convert_run", rows, |row| {
-        settings_refused(alloc, Conversion::Run, row)
-    })?;
-    test_support::print_right(rt, "refused by convert_frame", rows, |row| {
-        settings_refused(alloc, Conversion::Frame, row)
-    })?;
-    test_support::print_right(rt, "refused by convert", rows, |row| {
-        settings_refused(alloc, Conversion::Bytes, row)
-    })?;
-    test_support::print_right(rt, "another factor refused", &[FACTOR], |row| {
-        settings_refused(alloc, Conversion::Bytes, row)
-    })?;
-    let numbers = test_support::numbers(rt, "refused_lengths")?;
-    let rows = numbers.as_chunks::<9>().0;
-    test_support::print_right(rt, "refused lengths", rows, |row| {
-        lengths_refused(alloc, row)
-    })
+    let wrong = |row: &Row| settings_refused(alloc, row);
+    let lengths = |row: &Row| lengths_refused(alloc, row);
+    let rows = numbers(rt, "refused_settings")?;
+    print_right(rt, "refused settings", rows.as_chunks::<9>().0, &wrong)?;
+    print_right(rt, "another factor refused", &[FACTOR], &wrong)?;
+    let rows = numbers(rt, "refused_lengths")?;
+    print_right(rt, "refused lengths", rows.as_chunks::<9>().0, &lengths)?;
+    print_right(rt, "lengths of document 02", &OURS, &lengths)
 }

@@ -1,5 +1,6 @@
-// The level report of each input in data/, one after the other. Inputs and stored reports are made by compare/reports.sh from the original.
-// From input 67 on the samples at full scale are chosen (frames of 1,176 samples but for 82 and 83), and overs are shown:
+// The level report of each input in data/, one after the other, and then the boards. Inputs and stored reports are made
+// by compare/reports.sh from the original. From input 67 on the samples at full scale are chosen (frames of 1,176
+// samples but for 82 and 83), and overs are shown:
 // 67 to 70  runs of 2, 3, 4 and 1,000 samples: none, then one each
 // 71 to 73  a run over a border, its third sample last in frame 0, first and second in frame 1
 // 74, 75    a run of three that ends at a border; a run of two over a border, which is none
@@ -9,6 +10,8 @@
 // 82, 83    a run over a border at 176,400 and at 352,800 Hz
 // 84        two channels, each with its own run over the border
 #![tactic(auto)]
+
+mod stored_boards;
 
 use std::fs::File;
 use std::io;
@@ -24,5 +27,6 @@ fn main(rt: HostRuntime) -> io::Result<()> {
         println!(rt; "input {k}")?;
         report_of(&rt, k)?;
     }
-    println!(rt; "inputs 84")
+    println!(rt; "inputs 84")?;
+    stored_boards::all(&rt)
 }

@@ -1,79 +1,68 @@
-// Stored answers: files of numbers, sixteen hexadecimal digits each, with a space or the line's end after them.
-ghost use Rattle.std.specs.Prelude.{◌≡◌, IfOk, ◌+◌, ◌*◌, ◌/◌, ◌≤◌, ◌<◌, length, get_or, vec_len};
-ghost use Rattle.numbers.specs.Lists.{Held};
-ghost use Rattle.test_support.specs.Answers as answers;
-ghost use Rattle.test_support.specs.Answers.{number_at, header_place, begins_as};
+// What a call answers, by numbers.
+use crate::{Converted, bits};
+use reference::{ConvertStats, PcmError};
 
-use crate::at;
-use std::alloc::{AllocError, Global};
-use std::rt::Files;
-use std::{fs, io};
+// A refusal's number and data as the stored rows have them: number 0, with zeros behind it, is no refusal. An `Option`
+// would say so too, but each row has the three numbers, and what a call answers is only compared with them.
+#[derive(Clone, Copy, PartialEq, Eq, Debug)]
+pub struct Told {
+    pub number: u64,
+    pub first: u64,
+    pub second: u64,
+}
 
-// What a hexadecimal digit stands for, by hand: `to_digit` takes capital letters too, which the stored files do not
-// have.
-#[tactic(auto, using(std::proofs::lemmas::Bool::Decides::nat_tests), unfolding(crate::specs::Answers::digit))]
-fn digit(b: u8) -> u64
-    ensures { (result ≡ answers.digit b) × (result < 16) }
-{
-    match b {
-        b'0'..=b'9' => (b - 48) as u64,
-        b'a'..=b'f' => (b - 87) as u64,
-        _ => 0,
+impl Told {
+    pub const ACCEPTED: Told = Told {
+        number: 0,
+        first: 0,
+        second: 0,
+    };
+
+    pub fn is_accepted(&self) -> bool {
+        self.number == 0
     }
 }
 
-// Number i of a text.
-fn number(text: &[u8], i: usize) -> u64
-    requires { 17 * i + 16 ≤ length text.now }
-    ensures { result ≡ number_at text.now i }
-{
-    let mut n = 0u64;
-    for k in 0..16 {
-        n = n % 0x1000_0000_0000_0000 * 16 + digit(text[17 * i + k]);
+pub fn refusal(number: u64, first: u64, second: u64) -> Told {
+    Told {
+        number,
+        first,
+        second,
     }
-    n
 }
 
-// The numbers of a text.
-fn numbers_of(alloc: Global, text: &[u8]) -> Result<Vec<u64>, AllocError>
-    ensures { IfOk result (λ v. (vec_len v ≡ length text.now / 17) × Held 0 (λ k. number_at text.now k) 0 (length text.now / 17) v.items) }
-{
-    let mut all = Vec::new(alloc);
-    for i in 0..text.len() / 17 {
-        all.push(number(text, i))?;
+// A refusal's number and data; of a gain the bits of its decibels.
+fn error(e: PcmError) -> Told {
+    let report = codes::Report::from(e);
+    let number = u64::from(report.number);
+    match e {
+        PcmError::Gain(db) => refusal(number, bits(db), 0),
+        _ => refusal(number, report.data[0], report.data[1]),
     }
-    Ok(all)
 }
 
-// The numbers of a file.
-pub fn numbers<R: Files + AllocGlobal>(rt: &R, path: &str) -> io::Result<Vec<u64>> {
-    let text = fs::read(rt, path)?;
-    Ok(numbers_of(rt.alloc(), &text)?)
+// The number and data of what a call answers.
+pub fn answered<T: Drop>(made: Result<T, PcmError>) -> Told {
+    match made {
+        Ok(_) => Told::ACCEPTED,
+        Err(e) => error(e),
+    }
 }
 
-// Where the header stands that has this rate (0 to 2), 1 or 2 channels and 0 to 3 frames.
-fn place(rate: u64, channels: u64, frames: u64) -> usize
-    ensures { (result ≡ header_place rate channels frames) × (result ≤ 1012) }
-{
-    let which = rate % 3 * 8 + (1 - channels % 2) * 4 + frames % 4;
-    44 * which as usize
+// A conversion's statistics; where it is refused, those of no samples.
+pub fn stats(done: Converted) -> ConvertStats {
+    done.unwrap_or(reference::no_stats())
 }
 
-// Whether the first 44 bytes of a file are those stored from a place on.
-fn begins(headers: &[u64], start: usize, file: &[u8]) -> bool
-    requires { start ≤ 1012 }
-    ensures { result ≡ begins_as file.now headers.now start 44 }
-{
-    (0..44usize).all(
-        |k|
-            requires { (k < 44) × (start ≤ 1012) }
-        { at(file, k, 0) as u64 == at(headers, start + k, 0) },
-    )
+// The clips of the six channels.
+pub fn clipped(done: Converted) -> [u64; 6] {
+    let [a, b, c, d, e, f] = stats(done).channels;
+    [
+        a.clipped, b.clipped, c.clipped, d.clipped, e.clipped, f.clipped,
+    ]
 }
 
-// Whether a file begins with the header that Python writes, one of 24.
-pub fn begins_as_python(headers: &[u64], rate: u64, channels: u64, frames: u64, file: &[u8]) -> bool
-    ensures { result ≡ begins_as file.now headers.now (header_place rate channels frames) 44 }
-{
-    begins(headers, place(rate, channels, frames), file)
+// Whether channel 0 has this many clips and no other has any.
+pub fn clips_are(done: Converted, n: u64) -> bool {
+    clipped(done) == [n, 0, 0, 0, 0, 0]
 }

@@ -13,7 +13,7 @@ use denote.Triple.Clauses.{AtExit}
 use denote.Triple.Spec.{exits}
 use Rattle.std.specs.Prelude.{is_some}
 use Rattle.reference.specs.Frames.{run, run_of}
-use Rattle.scarletbook_pcm.specs.Calls.{listed, left}
+use Rattle.run_record.specs.Calls.{listed, left}
 use Rattle.wav.specs.Promises.{WavPromise}
 use Rattle.wav.specs.Joined.{WavCall}
 use Rattle.wav.proofs.convert_parts.Kinds as kinds

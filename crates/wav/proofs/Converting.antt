@@ -1,7 +1,7 @@
 -- What the converting writer leaves, from its places and from what `convert` leaves behind the header.
 use mathlib.Core.Path.{◌≡◌, sym, ap, ◌∙◌}
 use Rattle.std.specs.Prelude.{Err}
-use mathlib.Core.List.{List, [], ◌++◌}
+use mathlib.Core.List.{List, ◌++◌}
 use mathlib.Core.Bool.{Bool, false}
 use Prim.Native.Nat.{ℕ, ◌-◌, ◌*◌, ◌≤◌}
 use native.Mathlib.Omega.{arith}
@@ -12,19 +12,19 @@ use Rattle.numbers.proofs.Lists.{length_tabulate}
 use Rattle.reference.specs.Codes.{hertz}
 use Rattle.reference.specs.Frames.{Run}
 use Rattle.reference.specs.Output.{all_samples, samples, stats, per_frame_clips, s24le}
-use Rattle.reference.specs.Refusals.{Decision, accepted, error_decision, decide, is_accepted, if_present, rack, convert_places}
+use Rattle.reference.specs.Refusals.{Decision, accepted, error_decision, decide, is_accepted, rack, convert_places}
 use Rattle.reference.specs.Promises.{Converted, stats_told, if_lent, ConvertPromise}
 use Rattle.reference.specs.Statistics.{no_stats}
 use Rattle.reference.specs.declared.Converter.{Converter}
 use Rattle.reference.specs.declared.PcmError.{PcmError}
 use Rattle.reference.proofs.Refusals.{error_refuses}
 use Rattle.reference.proofs.Promises.{exit_accepted, exit_refused}
-use Rattle.wav_format.specs.Wav.{header, wav_file, most_data}
-use Rattle.wav_format.proofs.Reading.{length_header}
+use Rattle.wav_header.specs.Header.{header, most_data}
+use Rattle.wav_format.specs.Wav.{wav_file}
+use Rattle.wav_header.proofs.ThreeParts.{length_header}
 use Rattle.wav_format.proofs.Writing.{whole}
-use Rattle.wav_checks.specs.Places.{data_size, wav_lengths, wav_places}
+use Rattle.wav_checks.specs.Places.{data_size, wav_places}
 use Rattle.wav_checks.proofs.Accepted.{length_of, long_enough, two_channels, rest_told, convert_takes}
-use Rattle.scarletbook_pcm.proofs.Answers.{kept}
 use Rattle.wav.specs.Promises.{WavPromise}
 
 pub length_data : (conv : Converter) (r : Run) → length (s24le (samples conv r)) ≡ data_size conv r
@@ -96,8 +96,3 @@ module _ (conv : Converter) (r : Run) (lent : Bool) (out counts : List ℕ) wher
           let m : mid ≡ h ++ drop 44 out = put ∙ ap (λ (x : ℕ). header (hertz conv.rate) conv.channels x ++ drop 44 out) n in
           wav_promise part part' counts' a part_length p _
           (whole h mid out part' (length_header (hertz conv.rate) conv.channels (length (s24le (samples conv r)))) m ∙ ap (λ (l : List ℕ). h ++ l) (part_is part part' counts' a part_length p))
-
--- a call with no list promises of any list that it is not measured, and keeps its contents
-pub any_unlent : (conv : Converter) (r : Run) (out counts out' : List ℕ) (answer : Converted) → WavPromise conv r false out [] out' [] answer → WavPromise conv r false out counts out' counts answer
-unfolding wav_places wav_lengths if_present if_lent
-any_unlent conv r out counts out' answer p = record { answered = p.answered; written = p.written; per_frame = kept _ counts }

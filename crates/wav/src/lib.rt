@@ -5,8 +5,8 @@ ghost use Rattle.std.specs.Prelude.{◌≡◌, true, false, [], ◌++◌, ◌-�
 ghost use Rattle.reference.specs.Codes.{hertz};
 ghost use Rattle.reference.specs.Frames.{run, run_of};
 ghost use Rattle.reference.specs.Refusals.{decision, decide};
-ghost use Rattle.scarletbook_pcm.specs.Calls.{listed, left};
-ghost use Rattle.wav_format.specs.Wav.{header};
+ghost use Rattle.run_record.specs.Calls.{listed, left};
+ghost use Rattle.wav_header.specs.Header.{header};
 ghost use Rattle.wav_checks.specs.Places.{wav_places};
 ghost use Rattle.wav.specs.Promises.{WavPromise};
 

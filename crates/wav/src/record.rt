@@ -1,7 +1,7 @@
 // The call over the run record.
 ghost use Rattle.std.specs.Prelude.{is_some};
 ghost use Rattle.reference.specs.Frames.{run_of};
-ghost use Rattle.scarletbook_pcm.specs.Calls.{listed, left};
+ghost use Rattle.run_record.specs.Calls.{listed, left};
 ghost use Rattle.wav.specs.Promises.{WavPromise};
 
 use crate::{counted, uncounted};

@@ -11,8 +11,8 @@ use Rattle.reference.specs.Frames.{Run, frame_count}
 use Rattle.reference.specs.Refusals.{Decision, accepted, decide, if_present, lent_length, rack, held_places, input_places, byte_lengths, convert_places}
 use Rattle.reference.specs.declared.Converter.{Converter}
 use Rattle.reference.proofs.Refusals.{at_next, pass, decide_first, decide_skip}
-use Rattle.wav_format.specs.Wav.{most_data}
-use Rattle.byte_lists.proofs.Same.{and_left, and_right}
+use Rattle.wav_header.specs.Header.{most_data}
+use Rattle.text.proofs.Same.{and_left, and_right}
 use Rattle.wav_checks.specs.Places.{too_large, data_size, wav_lengths, wav_places}
 
 module _ (conv : Converter) (r : Run) (out : List ℕ) (lent : Bool) (counts : List ℕ) where

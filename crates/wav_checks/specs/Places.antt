@@ -4,7 +4,7 @@ use Rattle.reference.specs.Frames.{Run, frame_count}
 use Rattle.reference.specs.Output.{all_samples}
 use Rattle.reference.specs.Refusals.{Place, place, lent_length, if_present, rack, held_places, input_places}
 use Rattle.reference.specs.declared.Converter.{Converter}
-use Rattle.wav_format.specs.Wav.{sample_bytes, most_data}
+use Rattle.wav_header.specs.Header.{sample_bytes, most_data}
 
 -- more than two channels, or more data than the header can tell
 unfoldable pub too_large : ℕ → ℕ → Place

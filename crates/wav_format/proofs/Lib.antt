@@ -1,4 +1,3 @@
-pub mod ThreeParts
 pub mod Reading
 pub mod Writing
 pub mod Theorems

@@ -10,7 +10,7 @@ use borrow.Author.Tests.{eqb-true, leb-true, le-leb, not-false}
 use lib.Dec.{eqb, leb}
 use lib.ListN.{length, get_or, take, drop, take-append-drop, length-append, length-drop}
 use lib.Seq.{take_at, drop_at, get_or-take}
-use Rattle.level_lines.specs.Text.{text, joined}
+use Rattle.text.specs.Text.{text, joined}
 use Rattle.reference.specs.Codes.{hertz}
 use Rattle.reference.specs.Output.{samples_per_frame}
 use Rattle.reference.specs.Refusals.{accepted, refused, decide}
@@ -18,13 +18,16 @@ use Rattle.reference.specs.declared.PcmRate.{PcmRate}
 use Rattle.reference.specs.declared.PcmRate.TheVariants.{Hz88200, Hz176400, Hz352800}
 use Rattle.reference.specs.declared.PcmError.TheVariants.{NotWav}
 use Rattle.reference.proofs.Refusals.{at_first, at_next, at_end, pass}
-use Rattle.wav_format.specs.Wav.{bytes, fields, header, wav_file, frame_size, most_data, Right, Taken, right_data, is_file}
+use Rattle.text.specs.Bytes.{bytes}
+use Rattle.wav_header.specs.Header.{fields, header, most_data}
+use Rattle.wav_header.proofs.ThreeParts.{length_header}
+use Rattle.wav_format.specs.Wav.{wav_file, frame_size, Right, Taken, right_data, is_file}
 use Rattle.wav_format.specs.Places.{at_rate, takes, read_places}
 use Rattle.wav_format.specs.Promises.{ReadPromise}
 use Rattle.wav_format.specs.Deciding.{rate_of, channels_of}
 use Rattle.std.specs.Prelude.{Ok, Err}
-use Rattle.byte_lists.specs.Lists.{same}
-use Rattle.byte_lists.proofs.Same.{and_left, and_right, and_not, and_false, and_both, no_true, same_self, same_is}
+use Rattle.text.specs.Lists.{same}
+use Rattle.text.proofs.Same.{and_left, and_right, and_not, and_false, and_both, no_true, same_self, same_is}
 
 or_left : (a b : Bool) → a ≡ true → a || b ≡ true
 or_left a b e = rw e refl
@@ -36,10 +39,6 @@ or_right false b e = e
 or_elim : (a b : Bool) → a || b ≡ true → (a ≡ true) ⊎ (b ≡ true)
 or_elim true b e = inl refl
 or_elim false b e = inr e
-
-pub length_header : (rate channels n : ℕ) → length (header rate channels n) ≡ 44
-unfolding header fields joined text bytes
-length_header rate channels n = refl
 
 -- ---- the data's length
 

@@ -2,18 +2,16 @@
 #![tactic(auto)]
 
 ghost use Rattle.std.specs.Prelude.{◌≡◌, ◌++◌, ◌+◌, ◌*◌, ◌-◌, ◌≤◌, ◌<◌, length, take, drop};
-ghost use Rattle.byte_lists.specs.Lists.{same};
+ghost use Rattle.text.specs.Lists.{same};
 ghost use Rattle.reference.specs.Codes as codes;
 ghost use Rattle.wav_format.specs.Wav as wav;
-ghost use Rattle.wav_format.specs.Wav.{right_data, most_data};
+ghost use Rattle.wav_format.specs.Wav.{right_data};
+ghost use Rattle.wav_header.specs.Header.{header, most_data};
 ghost use Rattle.wav_format.specs.Deciding as deciding;
 ghost use Rattle.wav_format.specs.Promises.{ReadPromise, file_samples, WritePromise};
 
 use reference::{MOST_FRAMES, PcmError, PcmRate};
-
-mod header;
-
-pub use header::put_header;
+pub use wav_header::put_header;
 
 // What the header of a file tells.
 #[derive(Clone, Copy, PartialEq, Eq)]
@@ -71,7 +69,7 @@ fn channels_of(x: u8) -> u8
 // Whether a file begins with the header of this format and so many bytes of data.
 fn has_header(file: &[u8], format: WavFormat, n: usize) -> bool
     requires { (44 ≤ length file.now) × (format.channels ≤ 2) × (n ≤ most_data) }
-    ensures { result ≡ same (take 44 file.now) (wav.header (codes.hertz format.rate) format.channels n) }
+    ensures { result ≡ same (take 44 file.now) (header (codes.hertz format.rate) format.channels n) }
 {
     let mut head = [0u8; 44];
     put_header(format.rate, format.channels, n, &mut head);

@@ -14,6 +14,7 @@ ghost use Rattle.routes.specs.Routes.{halves_of};
 use stages::Buffers;
 
 // At 176,400: h has the even taps, then the odd ones.
+#[inline(always)]
 pub fn wide176(tables: &[i32], h: &[i64], bytes: &[u8], buffers: &mut Buffers, y: &mut [i64])
     requires byte_tables { ByteTables S1_WIDE 12 tables.now }
     requires h_value { h.now ≡ halves_of F80 }
@@ -27,6 +28,7 @@ pub fn wide176(tables: &[i32], h: &[i64], bytes: &[u8], buffers: &mut Buffers, y
 }
 
 // At 352,800.
+#[inline(always)]
 pub fn wide352(tables: &[i32], h: &[i64], bytes: &[u8], buffers: &mut Buffers, y: &mut [i64])
     requires byte_tables { ByteTables S1_WIDE 12 tables.now }
     requires h_value { h.now ≡ F40 }

@@ -8,7 +8,7 @@ use lib.IntN.{ℤ}
 use lib.ListN.{length, take, length-append}
 use lib.Seq.{take_at}
 use Rattle.numbers.specs.Sums.{at0}
-use Rattle.filters.specs.Filters.{Filled}
+use Rattle.lanes.specs.Lanes.{Filled}
 use Rattle.filters.proofs.Signals.{is_even, is_odd}
 use Rattle.routes.specs.Routes.{FirstTables, last_of, halves_of, lent_taps}
 use mathlib.Core.Logic.{◌⊎◌, inl, inr}

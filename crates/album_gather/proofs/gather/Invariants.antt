@@ -1,7 +1,7 @@
 -- The first k frames are written, one after the other.
 use Rattle.std.proofs.Common.{◌≡◌, ◌*◌, length}
 use Rattle.dsf_frames.specs.Reading.{window_frame}
-use Rattle.level_lines.specs.Text.{Printed}
+use Rattle.text.specs.Text.{Printed}
 use Rattle.album_gather.specs.Steps.{frames_from}
 use Rattle.album_gather.proofs.gather.Given as goal
 

@@ -1,7 +1,7 @@
 -- `digits`: those of n / 10, and one more.
 use Rattle.std.proofs.Common.{◌≡◌, ◌+◌, arith, ap, length, length-append}
-use Rattle.level_lines.specs.Text.{decimal}
-use Rattle.level_lines.proofs.Numerals.{places, one_digit, last_digit}
+use Rattle.text.specs.Text.{decimal}
+use Rattle.text.proofs.Numerals.{places, one_digit, last_digit}
 use Rattle.columns.proofs.+digits.Goals as goal
 
 pub returns-then-n-lt10 : goal.returns-then-n-lt10

@@ -1,7 +1,7 @@
 -- `put_blanks`: the part that is filled is as many blanks.
 use Rattle.std.proofs.Common.{◌≡◌, ◌+◌, ◌-◌, ℕ, refl, arith, rules, length, replicate}
 use lib.ListN.{length-replicate}
-use Rattle.level_lines.proofs.Printing.{overwritten}
+use Rattle.text.proofs.Printing.{overwritten}
 use Rattle.columns.proofs.put_blanks.Goals as goal
 
 pub returns : goal.returns

@@ -1,11 +1,11 @@
 use Rattle.std.proofs.Common.{rules, arith, ◌≡◌, ◌+◌, ◌-◌, ◌*◌, ◌^◌, length, to_z, of_z, w64}
 use Rattle.numbers.specs.Sums.{at0}
 use Rattle.reference.specs.Stages.{tap}
-use Rattle.filters.specs.Filters.{half_rate, seconds, Small}
-use Rattle.filters.specs.Lanes.{Raised}
+use Rattle.lanes.specs.Lanes.{Small}
+use Rattle.filters.specs.Filters.{half_rate, seconds}
+use Rattle.filters.specs.Lifts.{Raised}
 use Rattle.filters.proofs.Bias.{half_sums, filled_sums, filled_round}
-use Rattle.filters.proofs.Ops.{raised_size}
-use Rattle.filters.proofs.Pairs.{centre_size, arms_size}
+use Rattle.lanes.proofs.Pairs.{raised_size, centre_size, arms_size}
 use Rattle.filters.proofs.Places.{low_zeros, filled_small, gained_small, length_seconds}
 use Rattle.filters.proofs.dec2.Goals as goal
 

@@ -3,7 +3,7 @@ use Rattle.numbers.specs.Sums.{at0}
 use Rattle.reference.specs.Stages.{tap}
 use Rattle.filters.specs.Filters.{same_rate}
 use Rattle.filters.proofs.Bias.{same_sums, filled_sums, filled_round}
-use Rattle.filters.proofs.Pairs.{centre_size}
+use Rattle.lanes.proofs.Pairs.{centre_size}
 use Rattle.filters.proofs.Places.{low_zeros, filled_small}
 use Rattle.filters.proofs.fir1.Goals as goal
 

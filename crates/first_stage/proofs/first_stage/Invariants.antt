@@ -3,5 +3,8 @@ use Rattle.numbers.specs.Lists.{Held}
 use Rattle.first_stage.specs.Windows.{window_sum}
 use Rattle.first_stage.proofs.first_stage.Given as goal
 
-abbrev pub invariant-loop-pair : goal.invariant-loop-pair
-invariant-loop-pair l = Held (pos 0) (λ i. window_sum l.tables l.half l.bytes (l.start + l.step * i)) 0 (2 * l.pair) l.out
+abbrev pub invariant-loop-turn : goal.invariant-loop-turn
+invariant-loop-turn l = Held (pos 0) (λ i. window_sum l.tables l.half l.bytes (l.start + l.step * i)) 0 (4 * l.turn) l.out
+
+abbrev pub invariant-loop-k : goal.invariant-loop-k
+invariant-loop-k l = Held (pos 0) (λ i. window_sum l.tables l.half l.bytes (l.start + l.step * i)) 0 l.k l.out

@@ -1,9 +1,9 @@
 -- `refused_line` is its texts, one after another.
 use Rattle.std.proofs.Common.{rules}
-use Rattle.level_lines.specs.Text.{text, joined}
+use Rattle.text.specs.Text.{text, joined}
 use Rattle.level_lines.specs.Lines.{refused_line}
-use Rattle.level_lines.proofs.Printing.{line}
-use Rattle.level_lines.proofs.Writing.{both, ended}
+use Rattle.text.proofs.Printing.{line}
+use Rattle.text.proofs.Writing.{both, ended}
 use Rattle.level_lines.proofs.refused_line.Goals as goal
 
 pub returns-clause-printed : goal.returns-clause-printed

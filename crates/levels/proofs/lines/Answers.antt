@@ -1,11 +1,11 @@
 use Rattle.std.proofs.Common.{arith, ap, slice_index_or}
 use Rattle.numbers.specs.Lists.{tabulate}
 use Rattle.reference.specs.Statistics.{no_samples, channel_of}
-use Rattle.level_lines.specs.Text.{joined}
+use Rattle.text.specs.Text.{joined}
 use Rattle.level_lines.specs.Lines.{level_line}
-use Rattle.level_lines.proofs.Printing.{none_printed, more}
+use Rattle.text.proofs.Printing.{none_printed, more}
 use Rattle.overs.specs.Overs.{none}
-use Rattle.levels.specs.Levels.{level_of}
+use Rattle.channel_levels.specs.Channels.{level_of}
 use Rattle.levels.proofs.States.{states_none, states_more}
 use Rattle.levels.proofs.lines.Goals as goal
 

@@ -1,10 +1,11 @@
 use Rattle.std.proofs.Common.{◌≡◌, ◌*◌, ◌≤◌, slice_index_or}
 use Rattle.numbers.specs.Lists.{tabulate}
 use Rattle.reference.specs.Statistics.{channel_of}
-use Rattle.level_lines.specs.Text.{joined, Printed}
+use Rattle.text.specs.Text.{joined, Printed}
 use Rattle.level_lines.specs.Lines.{level_line}
 use Rattle.overs.specs.Overs.{none}
-use Rattle.levels.specs.Levels.{level_of, states_after}
+use Rattle.channel_levels.specs.Channels.{level_of}
+use Rattle.levels.specs.Levels.{states_after}
 use Rattle.levels.proofs.lines.Given as goal
 
 abbrev pub invariant-loop-c : goal.invariant-loop-c

@@ -11,9 +11,10 @@ use lib.ListN.{length}
 use Rattle.reference.specs.Refusals.{decide}
 use Rattle.reference.specs.Promises.{by_decision}
 use Rattle.numbers.proofs.Lists.{held_none, held_more, is_tabulate}
-use Rattle.schedule.specs.Turns.{Board, finish_in, lateness_in}
+use Rattle.boards.specs.Boards.{Board}
+use Rattle.finishes.specs.Turns.{finish_in, lateness_in}
 use Rattle.schedule.specs.Promise.{simulate_places}
-use Rattle.schedule.proofs.Ranges.{ranges, fits}
+use Rattle.boards.proofs.Ranges.{ranges, fits}
 use Rattle.schedule.proofs.simulate.Goals as goal
 
 measured : (s : Board) (order : List ℕ) (a f : ℕ) (r : ℤ) → r ≡ pos f -ℤ pos (s.due a) → f ≡ finish_in s order a → r ≡ lateness_in s order a

@@ -2,8 +2,9 @@
 use lib.IntN.{pos}
 use lib.ListN.{length}
 use Rattle.numbers.specs.Lists.{Held}
-use Rattle.schedule.specs.Turns.{board, finish_in, lateness_in, simulated}
-use Rattle.schedule.proofs.Ranges.{Fits}
+use Rattle.boards.specs.Boards.{board}
+use Rattle.finishes.specs.Turns.{finish_in, lateness_in, simulated}
+use Rattle.boards.proofs.Ranges.{Fits}
 use Rattle.schedule.proofs.simulate.Given as goal
 
 abbrev pub invariant-loop-a : goal.invariant-loop-a

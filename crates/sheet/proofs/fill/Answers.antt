@@ -1,7 +1,7 @@
 -- The channels' lines and the last line fill the list.
 use Rattle.std.proofs.Common.{rules, arith}
-use Rattle.level_lines.proofs.Printing.{filled}
-use Rattle.level_lines.proofs.Writing.{both, ended}
+use Rattle.text.proofs.Printing.{filled}
+use Rattle.text.proofs.Writing.{both, ended}
 use Rattle.sheet.specs.Sheet.{sheet}
 use Rattle.sheet.specs.Promises.{sheet_length}
 use Rattle.sheet.proofs.Widths.{channels_fit, sum_fits, sum_small}

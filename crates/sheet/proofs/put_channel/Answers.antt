@@ -1,8 +1,8 @@
 -- The line's entries, one after another.
 use Rattle.std.proofs.Common.{arith, ap, length}
-use Rattle.level_lines.specs.Text.{joined, text}
-use Rattle.level_lines.proofs.Numerals.{one_digit}
-use Rattle.level_lines.proofs.Writing.{both}
+use Rattle.text.specs.Text.{joined, text}
+use Rattle.text.proofs.Numerals.{one_digit}
+use Rattle.text.proofs.Writing.{both}
 use Rattle.columns.specs.Columns.{line}
 use Rattle.sheet.specs.Sheet.{figures}
 use Rattle.sheet.proofs.Widths.{clips_fit, lowest_fits, highest_fits}

@@ -1,6 +1,6 @@
 use Rattle.std.proofs.Common.{arith, refl, sym, ◌∙◌}
 use Rattle.reference.specs.Statistics.{no_samples, channel_of}
-use Rattle.level_lines.specs.Text.{joined}
+use Rattle.text.specs.Text.{joined}
 use Rattle.numbers.specs.Lists.{tabulate}
 use Rattle.sheet.specs.Sheet.{channel_line}
 use Rattle.sheet.proofs.Widths.{channel_wide, none_of}

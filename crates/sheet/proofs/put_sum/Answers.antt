@@ -1,6 +1,6 @@
 -- The line's entries, one after another.
-use Rattle.level_lines.specs.Text.{joined, text}
-use Rattle.level_lines.proofs.Writing.{both}
+use Rattle.text.specs.Text.{joined, text}
+use Rattle.text.proofs.Writing.{both}
 use Rattle.columns.specs.Columns.{line}
 use Rattle.sheet.specs.Sheet.{sum_line}
 use Rattle.sheet.proofs.Lines as lines

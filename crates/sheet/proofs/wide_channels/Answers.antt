@@ -1,18 +1,19 @@
-use Rattle.std.proofs.Common.{rules, ap, refl, sym, arith, ◌∙◌}
-use Rattle.std.proofs.lemmas.Iterator.{YieldsList-from_slice}
-use Rattle.std.proofs.lemmas.Iterator.Search.{any_from_yields_List}
-use Rattle.std.specs.List.{list_any}
-use Rattle.columns.specs.Columns.{too_wide}
-use Rattle.reference.specs.declared.ChannelStats.{ChannelStats}
+use Rattle.std.proofs.Common.{refl, sym, arith, ◌∙◌}
 use Rattle.reference.specs.Statistics.{no_samples, channel_of}
-use Rattle.sheet.specs.Sheet.{figures}
-use Rattle.sheet.proofs.Widths.{channel_wide, some_taken, some_same}
+use Rattle.sheet.specs.Sheet.{some_below}
+use Rattle.sheet.proofs.Widths.{channel_wide, found_before, found_here}
 use Rattle.sheet.proofs.wide_channels.Goals as goal
+use Rattle.sheet.proofs.wide_channels.Goals.{then-found, else-found}
 
-pub returns : goal.returns
+pub loop-c-init : goal.loop-c-init
+unfolding some_below
+loop-c-init c = refl
+
+pub loop-c-preserved : goal.loop-c-preserved
 unfolding channel_of no_samples
-returns c =
-    any_from_yields_List (λ (x : ChannelStats). too_wide (figures x)) c.any.new.self _ _ c.any.ensures.ran (YieldsList-from_slice c.iter.result.rest.now refl) (λ x b q k. search rules)
-    ∙ ap (list_any (λ (x : ChannelStats). too_wide (figures x))) c.iter.ensures.rest
-    ∙ some_taken (λ (x : ChannelStats). too_wide (figures x)) no_samples c.args.stats.channels c.args.channels (omega (arith, c.requires))
-    ∙ some_same _ _ c.args.channels (λ k l. sym (channel_wide c.args.stats k (omega (arith, l, c.requires))))
+loop-c-preserved c =
+    let l = c.loop-c in
+    elim c.if-found.branch [
+      | then-found w ↦ w.found-is ∙ w.if-found.true ∙ found_before _ l.c (sym l.invariant ∙ w.if-found.true)
+      | else-found w ↦ w.found-is ∙ found_here _ l.c (sym l.invariant ∙ w.if-found.false) (w.wide_channel-found.ensures ∙ sym (channel_wide c.args.stats l.c (omega arith)))
+    ]

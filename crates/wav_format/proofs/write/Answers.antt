@@ -1,7 +1,9 @@
 use Rattle.std.proofs.Common.{length, sym, ap, ◌∙◌, ◌++◌, List, ℕ, arith}
 use Rattle.reference.specs.Codes.{hertz}
-use Rattle.wav_format.specs.Wav.{header, wav_file}
-use Rattle.wav_format.proofs.Reading.{length_header, right_is}
+use Rattle.wav_header.specs.Header.{header}
+use Rattle.wav_format.specs.Wav.{wav_file}
+use Rattle.wav_header.proofs.ThreeParts.{length_header}
+use Rattle.wav_format.proofs.Reading.{right_is}
 use Rattle.wav_format.proofs.Writing.{whole, none_taken, wrong_output, writes}
 use Rattle.wav_format.proofs.write.Goals as goal
 

@@ -1,7 +1,7 @@
 use Rattle.std.proofs.Common.{ℕ, length, ap, ◌∙◌, arith, length-take}
-use Rattle.dsf.specs.Dsf.{number_of, number_at}
+use Rattle.text.specs.Bytes.{number_of, number_at}
 use Rattle.dsf.proofs.Alike.{piece_is}
-use Rattle.dsf.proofs.Numbers.{number_filled}
+use Rattle.text.proofs.Bytes.{number_filled}
 use Rattle.dsf.proofs.bytes.number.Goals as goal
 
 pub returns : goal.returns

@@ -1,6 +1,6 @@
 use Rattle.std.proofs.Common.{◌≡◌, ℕ, ◌+◌, ◌*◌, ◌/◌, ◌<◌, length, get_or}
 use Rattle.dsf_frames.specs.Reading.{lesser}
-use Rattle.dsf_frames.specs.Columns.{column_byte}
+use Rattle.dsf_columns.specs.Columns.{column_byte}
 use Rattle.dsf_frames.proofs.frames.frame_from_window.Given as goal
 
 abbrev pub invariant-loop-number : goal.invariant-loop-number

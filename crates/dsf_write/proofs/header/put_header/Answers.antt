@@ -1,8 +1,8 @@
 use Rattle.std.proofs.Common.{ℕ, [], ◌∷◌, ap, refl, ◌∙◌}
-use Rattle.level_lines.specs.Text.{text}
-use Rattle.dsf.specs.Dsf.{bytes}
+use Rattle.text.specs.Text.{text}
+use Rattle.text.specs.Bytes.{bytes}
 use Rattle.dsf.specs.Headers.{header}
-use Rattle.dsf.proofs.Numbers.{eight_bytes}
+use Rattle.text.proofs.Bytes.{eight_bytes}
 use Rattle.dsf_write.proofs.Writing.{then, put_as, pair_is}
 use Rattle.dsf_write.proofs.header.put_header.Goals as goal
 

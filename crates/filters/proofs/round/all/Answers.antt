@@ -1,6 +1,6 @@
 use Rattle.std.proofs.Common.{rules, arith}
-use Rattle.filters.specs.Lanes.{rounded}
-use Rattle.filters.proofs.Places.{written_more}
+use Rattle.filters.specs.Lifts.{rounded}
+use Rattle.lanes.proofs.Places.{written_more}
 use Rattle.filters.proofs.round.all.Goals as goal
 
 pub loop-place-preserved : goal.loop-place-preserved

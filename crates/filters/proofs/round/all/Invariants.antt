@@ -1,4 +1,5 @@
-use Rattle.filters.specs.Lanes.{rounded, Written}
+use Rattle.lanes.specs.Lanes.{Written}
+use Rattle.filters.specs.Lifts.{rounded}
 use Rattle.filters.proofs.round.all.Given as goal
 
 abbrev pub invariant-loop-place : goal.invariant-loop-place

@@ -1,6 +1,6 @@
 use Rattle.std.proofs.Common.{rules, arith}
-use Rattle.filters.specs.Lanes.{raised}
-use Rattle.filters.proofs.Places.{written_more}
+use Rattle.lanes.specs.Lanes.{raised}
+use Rattle.lanes.proofs.Places.{written_more}
 use Rattle.filters.proofs.start.centre.Goals as goal
 
 pub loop-k-preserved : goal.loop-k-preserved

@@ -48,7 +48,9 @@ overflow_add-clipped c =
     let p : ℕ → Bool = λ k. clips (scaled c.args.factor (at0 c.args.ys.now k)) in
     let y = at0 c.args.ys.now c.loop-i.i in
     let small : nat_abs y < 2 ^ 31 = c.requires.by_index c.loop-i.i (omega arith) in
-    let told = rw (to_z-of_z {w = w64} (sfits_abs {z = y} (omega arith))) at c.scale-scaled.ensures in
+    let back : to_z w64 (of_z w64 y) ≡ y = to_z-of_z {w = w64} (sfits_abs (omega arith)) in
+    let short : to_z w32 (of_z w32 y) ≡ y = to_z-of_z {w = w32} (sfits_abs small) in
+    let told = rw (back, short, back) at c.scale-scaled.ensures in
     let next = few_more p c.loop-i.i c.loop-i.invariant.counted (c.from-clipped.ensures ∙ byte_is c.scale-scaled.result.clipped ∙ ap (λ (b : Bool). cond b 1 0) told.is_clipped) in
     record { fits = omega (arith, count_few p 0 (c.loop-i.i + 1), next) }
 
@@ -60,8 +62,9 @@ loop-i-preserved c =
     let y = at0 ys i in
     let small : nat_abs y < 2 ^ 31 = c.requires.by_index i (omega arith) in
     let back : to_z w64 (of_z w64 y) ≡ y = to_z-of_z {w = w64} (sfits_abs (omega arith)) in
-    let short : to_z w32 (of_z w32 (to_z w64 (of_z w64 y))) ≡ y = rw back (to_z-of_z {w = w32} (sfits_abs small)) in
-    let told = rw back at c.scale-scaled.ensures in
+    let short : to_z w32 (of_z w32 y) ≡ y = to_z-of_z {w = w32} (sfits_abs small) in
+    let once : to_z w32 (of_z w32 (to_z w64 (of_z w64 y))) ≡ y = rw back short in
+    let told = rw (back, short, back) at c.scale-scaled.ensures in
     let v = to_z w32 (of_z w32 c.scale-scaled.result.sample) in
     let v_is : v ≡ clamp (f i) = ap (λ (z : ℤ). to_z w32 (of_z w32 z)) told.is_sample ∙ to_z-of_z (clamp_fits (f i)) in
     record {
@@ -70,9 +73,9 @@ loop-i-preserved c =
           (get_or-set_same c.loop-i.out i v (pos 0) (omega arith) ∙ v_is);
       counted = few_more (λ k. clips (f k)) i c.loop-i.invariant.counted (c.from-clipped.ensures ∙ byte_is c.scale-scaled.result.clipped ∙ ap (λ (b : Bool). cond b 1 0) told.is_clipped);
       low = to_z-of_z {w = w32} (record { sfits = c.min-least.type_inv })
-          ∙ picked_more lesser (pos 2147483647) ys i c.loop-i.invariant.low short (c.min-least.ensures.value ∙ lesser_is _ _);
+          ∙ picked_more lesser (pos 2147483647) ys i c.loop-i.invariant.low once (c.min-least.ensures.value ∙ lesser_is _ _);
       high = to_z-of_z {w = w32} (record { sfits = c.max-greatest.type_inv })
-          ∙ picked_more greater (negsuc 2147483647) ys i c.loop-i.invariant.high short (c.max-greatest.ensures.value ∙ greater_is _ _);
+          ∙ picked_more greater (negsuc 2147483647) ys i c.loop-i.invariant.high once (c.max-greatest.ensures.value ∙ greater_is _ _);
     }
 
 pub returns : goal.returns

@@ -1,7 +1,7 @@
 -- `below`: the size after a minus sign.
 use Rattle.std.proofs.Common.{◌≡◌, arith}
 use mathlib.Core.Logic.{⊎_elim}
-use Rattle.level_settings.proofs.Digits.{no_some, some_is}
+use Rattle.text.proofs.Options.{no_some, some_is}
 use Rattle.level_settings.proofs.Gains.{no_minus, minus}
 use Rattle.level_settings.proofs.Negated.{negated_is}
 use Rattle.level_settings.proofs.reading.below.Goals as goal

@@ -1,7 +1,7 @@
 -- `decibels` without a minus sign.
 use Rattle.std.proofs.Common.{◌≡◌, ◌<◌, arith, w32}
 use mir.Facts.{to_z_pos}
-use Rattle.level_settings.proofs.Digits.{no_some, some_is}
+use Rattle.text.proofs.Options.{no_some, some_is}
 use Rattle.level_settings.proofs.Gains.{no_plus, plus}
 use Rattle.level_settings.proofs.Words.{no_sign}
 use Rattle.level_settings.proofs.reading.decibels.Goals as goal

@@ -1,0 +1,5 @@
+use Rattle.c_dsf.proofs.Done.{read_done}
+use Rattle.c_dsf.proofs.read.Goals as goal
+
+pub returns : goal.returns
+returns c = read_done _ _ c.read.result c.read.ensures c.tell_header.ensures.told_data c.tell_header.ensures.header_after

@@ -1,0 +1,131 @@
+-- A call leaves nothing free: two answers to it are the same, and so is what they leave in each lent list.
+use mathlib.Core.Path.{◌≡◌, refl, sym, ◌∙◌}
+use Rattle.std.specs.Prelude.{List, Bool, true, false, ℕ, ℤ, Float}
+use Rattle.reference.specs.Frames.{Run}
+use Rattle.reference.specs.Refusals.{Decision}
+use Rattle.reference.specs.declared.Converter.{Converter}
+use Rattle.codes.specs.Told.{ToldWhole, ToldWritten}
+use Rattle.codes.specs.Calls.{Call}
+use Rattle.c_converter.specs.Blocks.{Block, Input}
+use Rattle.c_stats.specs.Conversions.{Results, ConversionDone}
+use Rattle.c_calls.specs.Calls.{GainCall, OpenCall, CWanted, ChangeCall, SamplesCall, BytesCall}
+use Rattle.c_calls.specs.declared.conversions.Samples.{Samples}
+use Rattle.c_calls.specs.declared.conversions.Bytes.{Bytes}
+use Rattle.c_studio.specs.Calls.{JoinCall, SheetCall, OversCall, TurnsCall}
+use Rattle.text.specs.Bytes.{Bytes as AreBytes}
+use Rattle.wav_format.proofs.Theorems.{read_exact}
+use Rattle.dsf_upload.proofs.Early.{one_answer}
+use Rattle.c_wav.specs.Calls.{ReadCall as WavReadCall, HeaderCall}
+use Rattle.c_dsf.specs.Calls.{WhyCall, GiveUpCall}
+use Rattle.c_album.specs.declared.Asked.{Asked}
+use Rattle.c_album.specs.Calls.{OpenCall as AlbumCall, PieceCall, Lists, StepCall}
+
+-- the answers are equal, and what R says holds, if both follow in either case of the call
+call_exact : (u : Bool) {a a' : ℕ} {K K' D D' R : Type 0} → Call u a K D → Call u a' K' D' → (K → K' → R) → (D → D' → (a ≡ a') × R) → (a ≡ a') × R
+call_exact false p q kept done = let x = p.unclear refl in let y = q.unclear refl in (x.0 ∙ sym y.0, kept x.1 y.1)
+call_exact true p q kept done = done (p.done refl) (q.done refl)
+
+module _ {d : Decision} {a a' : ℕ} where
+  whole_exact : {n n' : List ℕ} {f f' : List Float} → ToldWhole d a n f → ToldWhole d a' n' f' → (a ≡ a') × ((n ≡ n') × (f ≡ f'))
+  whole_exact p q = (p.told.number ∙ sym q.told.number, (p.told.numbers ∙ sym q.told.numbers, p.decibels ∙ sym q.decibels))
+
+  conversion_exact : {conv : Converter} {r : Run} {old n n' : Results} → ConversionDone d conv r old n a → ConversionDone d conv r old n' a' → (a ≡ a') × (n ≡ n')
+  conversion_exact p q =
+      let t = whole_exact p.told q.told in
+      let c = p.counted ∙ sym q.counted in
+      (t.0, λ i. record { stats = c i; «data» = t.1.0 i; decibels = t.1.1 i })
+
+  -- so each call about a DSF file that gives data, and the second entry of WAV files
+  pub written_exact : {whole l m m' k k' : List ℕ} → ToldWritten d whole l m k a → ToldWritten d whole l m' k' a' → (a ≡ a') × ((m ≡ m') × (k ≡ k'))
+  written_exact p q = (p.told.number ∙ sym q.told.number, (p.written ∙ sym q.written, p.told.numbers ∙ sym q.told.numbers))
+
+-- ---- with a converter
+
+module _ (db : Float) (gain g g' f f' : List Float) (a a' : ℕ) where
+  pub gain_exact : GainCall db gain g f a → GainCall db gain g' f' a' → (a ≡ a') × ((g ≡ g') × (f ≡ f'))
+  gain_exact p q = (p.told.number ∙ sym q.told.number, (p.written ∙ sym q.written, p.told.decibels ∙ sym q.told.decibels))
+
+module _ (b : Block) (o o' k n n' : List ℕ) (decibels f f' : List Float) (a a' : ℕ) where
+  pub open_exact : OpenCall b o k n decibels f a → OpenCall b o' k n' decibels f' a' → (a ≡ a') × ((o ≡ o') × (n ≡ n') × (f ≡ f'))
+  open_exact p q =
+      call_exact _ p q (λ x y. (x.0 ∙ sym y.0, x.1 ∙ sym y.1, x.2 ∙ sym y.2))
+      (λ x y. let t = whole_exact x.told y.told in (t.0, (x.written ∙ sym y.written, t.1.0, t.1.1)))
+
+  pub change_exact : (w : CWanted) (g g' : List Float) → ChangeCall b w o g k n decibels f a → ChangeCall b w o' g' k n' decibels f' a'
+      → (a ≡ a') × ((o ≡ o') × (g ≡ g') × (n ≡ n') × (f ≡ f'))
+  change_exact w g g' p q =
+      call_exact _ p q (λ x y. (x.0 ∙ sym y.0, x.1 ∙ sym y.1, x.2 ∙ sym y.2, x.3 ∙ sym y.3))
+      (λ x y. let t = whole_exact x.told y.told in (t.0, (x.written ∙ sym y.written, x.amplified ∙ sym y.amplified, t.1.0, t.1.1)))
+
+module _ (b : Block) (i : Input) (old n n' : Results) (a a' : ℕ) where
+  pub samples_exact : (kind : Samples) (out o o' : List ℤ) → SamplesCall kind b i out o old n a → SamplesCall kind b i out o' old n' a' → (a ≡ a') × ((o ≡ o') × (n ≡ n'))
+  samples_exact kind out o o' p q =
+      call_exact _ p q (λ x y. (x.0 ∙ sym y.0, x.1 ∙ sym y.1)) (λ x y. let t = conversion_exact x.done y.done in (t.0, (x.written ∙ sym y.written, t.1)))
+
+  pub bytes_exact : (kind : Bytes) (out o o' counts c c' : List ℕ) → BytesCall kind b i out counts o c old n a → BytesCall kind b i out counts o' c' old n' a'
+      → (a ≡ a') × ((o ≡ o') × (c ≡ c') × (n ≡ n'))
+  bytes_exact kind out o o' counts c c' p q =
+      call_exact _ p q (λ x y. (x.0 ∙ sym y.0, x.1 ∙ sym y.1, x.2 ∙ sym y.2))
+      (λ x y. let t = conversion_exact x.done y.done in (t.0, (x.written ∙ sym y.written, x.per_frame ∙ sym y.per_frame, t.1)))
+
+-- ---- of the studio
+
+module _ (s t x y : List ℕ) (a a' : ℕ) where
+  pub join_exact : JoinCall s t x a → JoinCall s t y a' → (a ≡ a') × (x ≡ y)
+  join_exact p q = call_exact _ p q (λ k l. k ∙ sym l) (λ k l. (k.0 ∙ sym l.0, k.1 ∙ sym l.1))
+
+  pub overs_exact : (samples : List ℤ) (n c : ℕ) → OversCall samples n c s x a → OversCall samples n c s y a' → (a ≡ a') × (x ≡ y)
+  overs_exact samples n c p q = call_exact _ p q (λ k l. k ∙ sym l) (λ k l. (k.0 ∙ sym l.0, k.1 ∙ sym l.1))
+
+  pub sheet_exact : (channels : ℕ) (out k k' : List ℕ) → SheetCall channels s out x t k a → SheetCall channels s out y t k' a' → (a ≡ a') × ((x ≡ y) × (k ≡ k'))
+  sheet_exact channels out k k' p q = call_exact _ p q (λ u v. (u.0 ∙ sym v.0, u.1 ∙ sym v.1)) (λ u v. written_exact u v)
+
+module _ (frames dues : List ℕ) (turn : ℕ) (finishes f f' : List ℕ) (late l l' : List ℤ) (a a' : ℕ) where
+  pub turns_exact : TurnsCall frames dues turn finishes late f l a → TurnsCall frames dues turn finishes late f' l' a' → (a ≡ a') × ((f ≡ f') × (l ≡ l'))
+  turns_exact p q =
+      call_exact _ p q (λ k m. (k.0 ∙ sym m.0, k.1 ∙ sym m.1)) (λ x y. (x.number ∙ sym y.number, (x.finished ∙ sym y.finished, x.measured ∙ sym y.measured)))
+
+-- ---- about an album
+
+module _ (w : Asked) (head : List ℕ) (n : ℕ) (a a' : ℕ) where
+  pub album_exact : (album x y said s s' : List ℕ) → AlbumCall w head n album x said s a → AlbumCall w head n album y said s' a' → (a ≡ a') × ((x ≡ y) × (s ≡ s'))
+  album_exact album x y said s s' p q =
+      call_exact _ p q (λ k m. (k.0 ∙ sym m.0, k.1 ∙ sym m.1)) (λ k m. (k.number ∙ sym m.number, (k.written ∙ sym m.written, k.said ∙ sym m.said)))
+
+  pub step_exact : (first count : ℕ) (window : List ℕ) (start : ℕ) (l m m' : Lists) (old r r' : Results) → StepCall w head n first count window start l m old r a
+      → StepCall w head n first count window start l m' old r' a' → (a ≡ a') × ((m ≡ m') × (r ≡ r'))
+  step_exact first count window start l m m' old r r' p q =
+      call_exact _ p q (λ x y. (x.0 ∙ sym y.0, x.1 ∙ sym y.1))
+      (λ x y.
+      let t = conversion_exact x.done y.done in
+      let o = x.written ∙ sym y.written in
+      let b = x.in_before ∙ sym y.in_before in
+      let f = x.in_frames ∙ sym y.in_frames in
+      let g = x.in_after ∙ sym y.in_after in
+      (t.0, ((λ i. record { before = b i; frames = f i; after = g i; out = o i }), t.1)))
+
+module _ (rate channels samples i : ℕ) (told x y : List ℕ) (a a' : ℕ) where
+  pub piece_exact : PieceCall rate channels samples i told x a → PieceCall rate channels samples i told y a' → (a ≡ a') × (x ≡ y)
+  piece_exact p q = call_exact _ p q (λ k l. k ∙ sym l) (λ k l. (k.0 ∙ sym l.0, k.1 ∙ sym l.1))
+
+-- ---- about files
+
+module _ (file told t t' : List ℕ) (a a' : ℕ) where
+  pub wav_read_exact : WavReadCall file told t a → WavReadCall file told t' a' → (a ≡ a') × (t ≡ t')
+  wav_read_exact p q =
+      let e = read_exact file p.made q.made p.promise q.promise in
+      (rw (p.number, e) (sym q.number), rw (p.written, e) (sym q.written))
+
+module _ (rate channels n : ℕ) (out o o' : List ℕ) (a a' : ℕ) where
+  pub header_exact : HeaderCall rate channels n out o a → HeaderCall rate channels n out o' a' → (a ≡ a') × (o ≡ o')
+  header_exact p q = (p.number ∙ sym q.number, p.written ∙ sym q.written)
+
+module _ (head : List ℕ) (n : ℕ) (t t' : List ℕ) (a a' : ℕ) where
+  pub why_exact : WhyCall head n t a → WhyCall head n t' a' → (a ≡ a') × (t ≡ t')
+  why_exact p q = (p.0 ∙ sym q.0, p.1 ∙ sym q.1)
+
+module _ (file : List ℕ) (bytes : AreBytes file) (place x y : List ℕ) (a a' : ℕ) where
+  pub upload_exact : GiveUpCall file place x a → GiveUpCall file place y a' → (a ≡ a') × (x ≡ y)
+  upload_exact p q =
+      let e = one_answer file bytes p.made q.made p.promise q.promise in
+      (rw (p.number, e) (sym q.number), rw (p.written, e) (sym q.written))

@@ -1,0 +1,2 @@
+// Laws of the calls for C; no code.
+#![tactic(auto)]

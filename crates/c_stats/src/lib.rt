@@ -1,0 +1,92 @@
+// Statistics as C holds them, read and told: 24 numbers, six of a kind.
+#![tactic(auto)]
+
+ghost use Rattle.std.specs.Prelude.{◌≡◌, ◌<◌};
+ghost use Rattle.reference.specs.Refusals.{decision};
+ghost use Rattle.codes.specs.Codes.{if_known};
+ghost use Rattle.codes.specs.Told.{if_ok, ToldWhole};
+ghost use Rattle.c_stats.specs.Stats as stats;
+ghost use Rattle.c_stats.specs.Stats.{known_stats, held_channel, held_stats, channel_number, stat_numbers};
+
+use reference::{ChannelStats, ConvertStats, Extremes, PcmError};
+use std::array;
+
+// Whether every mark is a flag.
+fn known(block: &[u64; 24]) -> bool
+    ensures { result ≡ known_stats block.now }
+{
+    let b = block;
+    b[18] < 2 && b[19] < 2 && b[20] < 2 && b[21] < 2 && b[22] < 2 && b[23] < 2
+}
+
+// What is held of a channel.
+#[tactic(auto, unfolding(crate::specs::Stats::held_channel))]
+fn channel(block: &[u64; 24], c: usize) -> ChannelStats
+    requires { c < 6 }
+    ensures { result ≡ held_channel block.now c }
+{
+    let ends = Extremes {
+        lowest: block[6 + c].cast_signed(),
+        highest: block[12 + c].cast_signed(),
+    };
+    let extremes = if block[18 + c] == 1 { None } else { Some(ends) };
+    ChannelStats {
+        clipped: block[c],
+        extremes,
+    }
+}
+
+// The statistics that the numbers hold, where each mark is a flag.
+#[tactic(auto, unfolding(codes::specs::Codes::if_known, crate::specs::Stats::held_stats))]
+pub fn stats_of(block: &[u64; 24]) -> Option<ConvertStats>
+    ensures { result ≡ if_known (known_stats block.now) (held_stats block.now) }
+{
+    if !known(block) {
+        return None;
+    }
+    Some(ConvertStats {
+        channels: array::from_fn(|c| channel(block, c)),
+    })
+}
+
+// Number k of a channel.
+fn number(channel: ChannelStats, k: usize) -> u64
+    ensures { result ≡ channel_number channel k }
+{
+    let none = Extremes {
+        lowest: 0,
+        highest: 0,
+    };
+    let ends = channel.extremes.unwrap_or(none);
+    match k {
+        0 => channel.clipped,
+        1 => ends.lowest.cast_unsigned(),
+        2 => ends.highest.cast_unsigned(),
+        _ => u64::from(channel.extremes.is_none()),
+    }
+}
+
+// Statistics are written.
+#[tactic(auto, unfolding(crate::specs::Stats::stat_numbers))]
+pub fn put_stats(stats: ConvertStats, block: &mut [u64; 24])
+    ensures { block.new ≡ stat_numbers stats }
+{
+    let numbers = array::from_fn(|k| number(stats.channels[k % 6], k / 6));
+    *block = numbers;
+}
+
+// A conversion's decision is told, and its statistics are written where it was accepted.
+pub fn tell_conversion(
+    made: Result<ConvertStats, PcmError>,
+    stats: &mut [u64; 24],
+    data: &mut [u64; 2],
+    decibels: &mut [f64; 1],
+) -> u8
+    ensures told_whole { ToldWhole (decision made) result «data».new decibels.new }
+    ensures stats_after { stats.new ≡ if_ok stat_numbers made stats.old }
+{
+    if let Ok(s) = made {
+        put_stats(s, stats);
+    }
+    codes::tell(&made, data, decibels)
+}

@@ -1,0 +1,3 @@
+pub mod Steps
+mod Changes
+mod Opened

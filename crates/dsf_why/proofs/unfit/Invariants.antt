@@ -1,0 +1,10 @@
+-- The fields so far have a value.
+use Rattle.std.proofs.Common.{◌≡◌, true, map, drop}
+use Rattle.dsf_why.specs.Fields.{field_of}
+use Rattle.dsf_why.specs.Why.{first_unfit, all_readable}
+use Rattle.dsf_why.proofs.unfit.Given as goal
+
+abbrev pub invariant-loop-field : goal.invariant-loop-field
+invariant-loop-field l =
+    (first_unfit l.head (map field_of l.fields) ≡ first_unfit l.head (map field_of (drop l.field-index l.fields)))
+    × (all_readable (map field_of (drop l.field-index l.fields)) ≡ true)

@@ -1,9 +1,0 @@
-use Rattle.std.proofs.Common.{◌≡◌, ◌+◌, ◌+ℤ◌, ◌*ℤ◌, length}
-use Rattle.numbers.specs.Sums.{at0}
-use Rattle.filters.specs.Lanes.{raised, Written}
-use Rattle.filters.proofs.lane.two.Given as goal
-
-abbrev pub invariant-loop-l : goal.invariant-loop-l
-invariant-loop-l g l =
-    (length l.s ≡ g.row.L)
-    × Written (λ k. at0 l.initial.s k +ℤ (l.a *ℤ (raised l.v (l.down + 2 + k) +ℤ raised l.v (l.up + k)) +ℤ l.b *ℤ (raised l.v (l.down + k) +ℤ raised l.v (l.up + 2 + k)))) 0 l.l l.initial.s l.s

@@ -1,0 +1,5 @@
+pub mod Counts
+pub mod DueFirst
+pub mod Orders
+pub mod Best
+mod Examples

@@ -1,6 +1,0 @@
-pub mod Codes
-pub mod Settings
-pub mod Told
-pub mod Files
-pub mod Progress
-pub mod Statistics

@@ -1,7 +1,0 @@
--- `put`: the part that is written is the word.
-use Rattle.std.proofs.Common.{refl, arith, rules}
-use Rattle.level_lines.proofs.Printing.{overwritten}
-use Rattle.level_lines.proofs.text.Text.put.Goals as goal
-
-pub returns : goal.returns
-returns c = record { same_reference = refl; same_length = search rules; printed = overwritten _ _ _ c.copy_from_slice.ensures.after (omega arith) }

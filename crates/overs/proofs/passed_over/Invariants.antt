@@ -1,9 +1,0 @@
-use Rattle.std.proofs.Common.{◌-◌, ◌*◌, ◌+◌, ◌≤◌, get_or, pos}
-use Rattle.overs.specs.Overs.{Passed}
-use Rattle.overs.proofs.passed_over.Given as goal
-
-abbrev pub invariant-loop-at : goal.invariant-loop-at
-invariant-loop-at l = (l.at ≤ l.m) × Passed (λ j. get_or l.items (j * l.n + l.c) (pos 0)) l.fn.p l.k l.at
-
-abbrev pub decreases-loop-at : goal.decreases-loop-at
-decreases-loop-at l = l.m - l.at

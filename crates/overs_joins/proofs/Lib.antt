@@ -1,0 +1,3 @@
+mod Examples
+pub mod Signal
+pub mod Joins

@@ -1,4 +1,0 @@
-use Rattle.scarletbook_pcm.proofs.record.convert_desk.Goals as goal
-
-pub returns-in-Some : goal.returns-in-Some
-returns-in-Some c = rw c.in-Some.is c.counted.ensures

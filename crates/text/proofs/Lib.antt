@@ -1,0 +1,9 @@
+pub mod Options
+pub mod Same
+pub mod Cuts
+pub mod Printing
+pub mod Numerals
+pub mod Signs
+pub mod Writing
+pub mod Digits
+pub mod Bytes

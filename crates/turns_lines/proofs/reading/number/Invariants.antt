@@ -1,7 +1,0 @@
-use Rattle.std.proofs.Common.{◌+◌, Some, take}
-use Rattle.turns_lines.specs.Steps.{NumberRead}
-use Rattle.turns_lines.proofs.reading.number.Given as goal
-
--- what was read so far is a number
-abbrev pub invariant-loop-byte : goal.invariant-loop-byte
-invariant-loop-byte l = NumberRead (take (l.byte-index + 1) l.text) (Some l.n)
