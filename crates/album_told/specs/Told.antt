@@ -21,8 +21,9 @@ frames_of = frames_in
 abbrev pub both : ℕ → ℕ → Said
 both a b = record { first = a; second = b }
 
--- the numbers that a refusal's sentence tells (command/describe.c), of a file with these first bytes and this length: 5 its frames; 10 its frequency and a
--- channel's samples; 11 the length that it states and its length; 12 its channels and the bytes of the data. Others tell none
+-- the numbers that are told with a refusal of a file with these first bytes and this length: 5 its frames; 10 its
+-- frequency and a channel's samples; 11 the length that it states and its length; 12 its channels and the bytes of the
+-- data. Others tell none
 unfoldable pub said_of : List ℕ → ℕ → PcmRate → ℕ → Said
 said_of head n rate number =
     cond (eqb number 5) (both (frames head) 0)
