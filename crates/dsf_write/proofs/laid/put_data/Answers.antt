@@ -1,10 +1,9 @@
-use Rattle.std.proofs.Common.{◌≡◌, ◌+◌, ◌*◌, ◌-◌, length, arith, refl}
+use Rattle.std.proofs.Common.{◌≡◌, ◌+◌, ◌*◌, length, arith, refl, subst}
+use Rattle.numbers.specs.Lists.{Wrote}
+use Rattle.dsf_write.specs.Written.{written_byte}
 use Rattle.numbers.proofs.Lists.{wrote_none}
 use Rattle.dsf_write.proofs.Writing.{wrote_then, whole_blocks, block_args}
-use Rattle.dsf_write.proofs.data.put_data.Goals as goal
-
-pub overflow_sub-blocks : goal.overflow_sub-blocks
-overflow_sub-blocks c = omega (arith, c.requires.lent)
+use Rattle.dsf_write.proofs.laid.put_data.Goals as goal
 
 pub loop-k-init : goal.loop-k-init
 loop-k-init c = wrote_none
@@ -16,10 +15,11 @@ pub loop-k-preserved : goal.loop-k-preserved
 loop-k-preserved c =
     let l = c.loop-k in
     let e : l.k * 4096 + 4096 ≡ (l.k + 1) * 4096 = omega arith in
-    rw e at (wrote_then l.invariant c.put_block.ensures (λ i h. refl))
+    let z : l.k * 4096 ≡ 0 + l.k * 4096 = omega arith in
+    rw e at (wrote_then l.invariant (subst (λ at. Wrote 0 (λ i. written_byte c.args.channels c.args.frames.now (l.k * 4096 + i)) at 4096 l.out c.put_block.new.out) z c.put_block.ensures) (λ i h. refl))
 
 pub returns : goal.returns
 returns c =
     let l = c.loop-k in
-    let e : l.k * 4096 ≡ length c.args.out.now - 92 = omega (arith, whole_blocks c.requires) in
+    let e : l.k * 4096 ≡ length c.args.out.now = omega (arith, whole_blocks c.requires) in
     rw e at l.invariant

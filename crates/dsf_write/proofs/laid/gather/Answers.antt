@@ -1,6 +1,6 @@
 use Rattle.std.proofs.Common.{◌≡◌, ◌+◌, length, arith, refl}
 use Rattle.numbers.proofs.Lists.{wrote_none, wrote_more}
-use Rattle.dsf_write.proofs.data.gather.Goals as goal
+use Rattle.dsf_write.proofs.laid.gather.Goals as goal
 
 pub loop-k-init : goal.loop-k-init
 loop-k-init c = wrote_none

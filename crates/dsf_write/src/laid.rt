@@ -30,24 +30,23 @@ fn put_block(
     out: &mut [u8],
 )
     requires { Ordering LowestFirst table.now × BlockArgs channels frames.now bytes block (length out.old) }
-    ensures { Wrote 0 (λ i. written_byte channels frames.now (block * 4096 + i)) (92 + block * 4096) 4096 out.old out.new }
+    ensures { Wrote 0 (λ i. written_byte channels frames.now (block * 4096 + i)) (block * 4096) 4096 out.old out.new }
 {
     let first = block / channels * 4096;
     let live = (bytes - first).min(4096);
     let from = first * channels + block % channels;
-    let at = 92 + block * 4096;
+    let at = block * 4096;
     gather(frames, table, from, channels, &mut out[at..at + live]);
     out[at + live..at + 4096].fill(0);
 }
 
-// The data, after the header.
+// The data.
 pub fn put_data(frames: &[u8], channels: usize, bytes: usize, out: &mut [u8])
     requires { DataArgs channels frames.now bytes (length out.old) }
-    ensures { Wrote 0 (written_byte channels frames.now) 92 (length out.old - 92) out.old out.new }
+    ensures { Wrote 0 (written_byte channels frames.now) 0 (length out.old) out.old out.new }
 {
     let table = order_table(BitOrder::LowestFirst);
-    let blocks = (out.len() - 92) / 4096;
-    for k in 0..blocks {
+    for k in 0..out.len() / 4096 {
         put_block(frames, &table, channels, bytes, k, out);
     }
 }

@@ -1,6 +1,6 @@
 use Rattle.std.proofs.Common.{◌+◌, ◌*◌, ◌-◌, [], arith}
 use Rattle.dsf_write.proofs.Writing.{in_frames, start_small, block_wrote, piece_long, gathered, zeroed}
-use Rattle.dsf_write.proofs.data.put_block.Goals as goal
+use Rattle.dsf_write.proofs.laid.put_block.Goals as goal
 
 pub overflow_mul-from : goal.overflow_mul-from
 overflow_mul-from c = omega (arith, start_small c.requires.1, c.requires.1.lent)
@@ -10,14 +10,14 @@ overflow_add-from c = omega (arith, in_frames c.requires.1 0 (omega arith), c.re
 
 pub gather-requires : goal.gather-requires
 gather-requires c =
-    let at = 92 + c.args.block * 4096 in
+    let at = c.args.block * 4096 in
     let live = c.min-live.result in
     let size = piece_long at live (at + live - at) c.args.out.now [] (omega (arith, c.requires.1.lent)) (omega arith) in
     (rw size (in_frames c.requires.1 live (omega arith)), c.requires.1.room)
 
 pub returns : goal.returns
 returns c =
-    let at = 92 + c.args.block * 4096 in
+    let at = c.args.block * 4096 in
     let live = c.min-live.result in
     let data' = gathered at live _ c.args.out.now _ (omega (arith, c.requires.1.lent)) (omega arith) c.gather.ensures in
     block_wrote c.requires.1 c.requires.0 (λ i. (c.type_inv.frames i).fits) (omega (arith, c.min-live.ensures)) data'
