@@ -187,11 +187,13 @@ static void *record_sheet(void *p) {
     return said(puigneht_join_stats(&s, &s) || puigneht_level_sheet(&s, c->channels, text, sizeof text, NULL));
 }
 
-/* An album of the run, in memory, and its one piece. */
-static uint8_t album_file[92 + 2 * 4096 * (FRAMES * PUIGNEHT_CHANNEL_BYTES / 4096 + 1)];
+/* An album of three tracks, each the run, in memory; its one piece, its frames, its header. */
+static uint8_t album_file[92 + 6 * 4096 * (FRAMES * PUIGNEHT_CHANNEL_BYTES / 4096 + 1)];
 static puigneht_album album;
-static puigneht_memory album_memory;
+static puigneht_source sources[3];
 static puigneht_piece piece;
+static puigneht_frames album_frames;
+static puigneht_wave wave;
 static int read_album(void *context, uint64_t place, uint8_t *bytes, size_t count) {
     (void)context;
     return place > sizeof album_file || count > sizeof album_file - place || (memcpy(bytes, album_file + place, count), 0);
@@ -199,15 +201,26 @@ static int read_album(void *context, uint64_t place, uint8_t *bytes, size_t coun
 static void *album_open(void *p) {
     struct call *c = p;
     uint64_t length;
-    if (c->channels > 2 || c->numbers.own) return NULL;
     if (puigneht_dsf_length(c->channels, c->length[RUN], &length, NULL)) return p;
     if (puigneht_dsf_write(c->channels, c->list[RUN], c->length[RUN], album_file, length, NULL)) return p;
-    puigneht_source source = {read_album, NULL, length};
-    return said(puigneht_album_open(&album, &source, (uint32_t)c->numbers.rate, (uint32_t)c->numbers.cutoff, 0, NULL));
+    puigneht_settings settings = settings_of(c);
+    for (int k = 0; k < 3; k++) sources[k] = (puigneht_source){read_album, NULL, length};
+    return said(puigneht_album_open(&album, sources, 3, &settings, NULL));
+}
+static puigneht_memory room_of_album(void) {
+    static uint8_t room[1 << 24];
+    return (puigneht_memory){room, sizeof room};
 }
 static void *album_piece(void *p) {
-    struct call *c = p;
-    return c->channels > 2 || c->numbers.own ? NULL : said(puigneht_album_piece(&album, 0, &album_memory, &piece, NULL));
+    puigneht_memory memory = room_of_album();
+    return (void)p, said(puigneht_album_piece(&album, 0, &memory, &piece, NULL));
+}
+static void *album_gather(void *p) {
+    puigneht_memory memory = room_of_album();
+    return (void)p, said(puigneht_album_frames(&album, 0, &memory, &album_frames, NULL));
+}
+static void *album_header(void *p) {
+    return (void)p, said(puigneht_album_header(&album, PUIGNEHT_FORMAT_AUTO, 1, &wave, NULL));
 }
 
 static const struct {
@@ -218,7 +231,8 @@ static const struct {
              {"convert_frame", convert_frame, 1}, {"convert", convert, 1}, {"convert_desk", convert_desk, 1}, {"wav_convert", wav_convert, 1},
              {"pack_s24le", pack, 0}, {"overs", overs, 0}, {"level_sheet", level_sheet, 0}, {"join_stats", join_stats, 0}, {"dsf calls", dsf, 0},
              {"opened with records", record_open, 0}, {"changed with records", record_change, 0}, {"converted with records", record_convert, 0},
-             {"sheet with records", record_sheet, 0}, {"album opened", album_open, 0}, {"album's piece", album_piece, 0}};
+             {"sheet with records", record_sheet, 0}, {"album opened", album_open, 0}, {"album's piece", album_piece, 0},
+             {"album's frames", album_gather, 0}, {"album's header", album_header, 0}};
 enum { CALLS = sizeof calls / sizeof *calls };
 
 /* The call with each list in turn at each offset; gives how many calls were compared. */

@@ -9,41 +9,22 @@
 #include "ends.h"
 #include "puigneht.h"
 
-#define USES \
-    "puigneht [convert] [-r RATE] [-c CUTOFF] [-g DB] [-s SHEET] [-j JOBS] [-f | -n] [--] IN.dsf OUT.wav\n" \
-    "       puigneht check [FILE]\n" \
-    "       puigneht turns TURN FRAMES:DUE..\n" \
-    "       puigneht gains\n"
-
-static const char help[] =
-    "usage: " USES "\n"
-    "convert: a DSF file (DSD64, one or two channels) into a WAV file of 24 bits\n"
-    "  -r, --rate RATE      88200 (as if not given), 176400 or 352800\n"
-    "  -c, --cutoff CUTOFF  standard (as if not given), low or wide; wide is for 176400 and 352800\n"
-    "  -g, --gain DB        whole decibels, -120 to 24; 0 as if not given\n"
-    "  -s, --sheet SHEET    writes the level sheet to SHEET; - is standard output\n"
-    "  -j, --jobs JOBS      processes that share the work, 1 to 64; as many as there are processors as if not given\n"
-    "  -f, --force          replaces OUT.wav and SHEET where they are there\n"
-    "  -n, --skip           passes over an album whose OUT.wav, and SHEET, are there already\n"
-    "check: an upload, a DSF file or standard input as it arrives: `give up at N` at the first byte after which\n"
-    "  no continuation is acceptable, or `unfinished`, or `accepted`\n"
-    "turns: on one board, TURN frames each, which go to the album that is due first. Of each album its FRAMES and the\n"
-    "  turn after which it is DUE; prints the turn in which it finishes and how late that is, and the latest\n"
-    "gains: the factor of each whole number of decibels, to six digits\n\n"
-    "  -h, --help; -V, --version\n"
-    "A file that is named like a command is written with its folder: ./check\n\n"
-    "Exit status: 0 done or accepted, 1 the system failed, 2 usage, 3 refused (give up), 4 the output is there\n"
-    "  already, 5 unfinished.\n";
+/* ---- what is said of a word */
 
 _Noreturn void misused(const char *word) {
-    if (!word) stop(USAGE, "a word is missing at the end\nusage: " USES "(puigneht --help says more)");
-    stop(USAGE, "'%.1000s' is not understood at its place\nusage: " USES "(puigneht --help says more)", word);
+    stop(USAGE, "'%.1000s' is not understood at its place", word);
+}
+
+_Noreturn void not_taken(const char *word, const char *taken) {
+    stop(USAGE, "'%.1000s': %s", word, taken);
 }
 
 static _Noreturn void tell(const char *text) {
     print(text);
     exit(DONE);
 }
+
+/* ---- values */
 
 bool is_number(const char *text, int64_t *number) {
     bool below = *text == '-';
@@ -56,114 +37,198 @@ bool is_number(const char *text, int64_t *number) {
     return true;
 }
 
-/* ---- the options of a conversion */
-
-/* A number from `least` to `most`. */
-static int64_t within(const char *word, int64_t least, int64_t most) {
-    int64_t n;
-    if (!is_number(word, &n) || n < least || n > most) misused(word);
-    return n;
+/* Digits, perhaps behind a minus sign, perhaps with a dot and digits behind them; no zero in front of another digit,
+ * and no minus sign in front of 0. */
+static bool is_decimal(const char *text, double *number) {
+    bool below = *text == '-';
+    const char *digits = text + below;
+    size_t whole = strspn(digits, "0123456789");
+    bool dotted = digits[whole] == '.';
+    size_t parts = dotted ? strspn(digits + whole + 1, "0123456789") : 0;
+    if (!whole || dotted != (parts > 0) || digits[whole + dotted + parts]) return false;
+    if (*digits == '0' && whole > 1) return false;
+    if (below && !digits[strspn(digits, "0.")]) return false;
+    *number = strtod(text, NULL);
+    return true;
 }
 
-static uint32_t rate_of(const char *word) {
-    int64_t n = within(word, 88200, 352800);
-    if (n != 88200 && n != 176400 && n != 352800) misused(word);
+/* The number of the name that a word is. */
+static uint32_t choice_of(const char *word, const char *const *names, const char *taken) {
+    for (uint32_t k = 0; names[k]; k++)
+        if (!strcmp(word, names[k])) return k;
+    not_taken(word, taken);
+}
+
+static uint32_t rate_of(const char *word, const char *taken) {
+    int64_t n;
+    if (!is_number(word, &n) || (n != 88200 && n != 176400 && n != 352800)) not_taken(word, taken);
     return (uint32_t)n;
 }
 
-static uint8_t cutoff_of(const char *word) {
-    static const char *const names[] = {"standard", "low", "wide"};
-    for (uint8_t k = PUIGNEHT_STANDARD; k <= PUIGNEHT_WIDE; k++)
-        if (!strcmp(word, names[k])) return k;
-    misused(word);
+static double decibels_of(const char *word, const char *taken) {
+    double db;
+    if (!is_decimal(word, &db) || db < -120 || db > 24) not_taken(word, taken);
+    return db;
 }
 
-static const char *name_of(const char *word) {
-    if (!*word) misused(word);
+static uint64_t jobs_of(const char *word, const char *taken) {
+    int64_t n;
+    if (!is_number(word, &n) || n < 1 || n > MOST_JOBS) not_taken(word, taken);
+    return (uint64_t)n;
+}
+
+static const char *name_of(const char *word, const char *taken) {
+    if (!*word) not_taken(word, taken);
     return word;
 }
 
-static void take(int option, const char *word, struct asked *a) {
-    switch (option) {
-    case 'r': a->rate = rate_of(word); break;
-    case 'c': a->cutoff = cutoff_of(word); break;
-    case 'g': a->db = (int32_t)within(word, -120, 24); break;
-    case 's': a->sheet = name_of(word); break;
-    case 'j': a->jobs = (uint64_t)within(word, 1, MOST_JOBS); break;
+/* ---- the options */
+
+/* The capital letters stand for options that have a long name alone. */
+static const struct known {
+    int letter;
+    const char *name, *taken; /* the values that are taken; NULL: it has none */
+} options[] = {{'r', "rate", "rates are 88200, 176400, 352800"},
+               {'c', "cutoff", "cutoffs are standard, low, wide"},
+               {'g', "gain", "gains are -120 to 24 decibels, as -6 or 1.5"},
+               {'T', "taps", "the taps are a file of whole numbers, one a line"},
+               {'F', "format", "formats are auto, wav, rf64"},
+               {'s', "sheet", "the sheet is a file, or - for standard output"},
+               {'j', "jobs", "jobs are 1 to 64"},
+               {'o', "folder", "the WAV files go to a folder"},
+               {'a', "album", "the WAV of all tracks is a file, or - for standard output"},
+               {'E', "each", NULL},
+               {'B', "by", "lines are by frame, second, minute"},
+               {'J', "json", NULL},
+               {'f', "force", NULL},
+               {'n', "skip", NULL},
+               {'q', "quiet", NULL},
+               {'v', "verbose", NULL},
+               {'h', "help", NULL},
+               {'V', "version", NULL}};
+enum { OPTIONS = sizeof options / sizeof *options };
+static const char letters[] = ":r:c:g:s:j:o:a:fnqvhV";
+
+static const struct known *known_of(int letter) {
+    for (int k = 0; k < OPTIONS; k++)
+        if (options[k].letter == letter) return &options[k];
+    return NULL;
+}
+
+static const char *const cutoffs[] = {"standard", "low", "wide", NULL};
+static const char *const stretches[] = {"frame", "second", "minute", NULL};
+static const char *const formats[] = {"auto", "wav", "rf64", NULL};
+
+static void take(int letter, const char *word, struct asked *a) {
+    const char *taken = known_of(letter)->taken;
+    switch (letter) {
+    case 'r': a->rate = rate_of(word, taken); break;
+    case 'c': a->cutoff = choice_of(word, cutoffs, taken); break;
+    case 'g': a->decibels = decibels_of(word, taken); break;
+    case 'T': a->taps = name_of(word, taken); break;
+    case 'F': a->format = choice_of(word, formats, taken); break;
+    case 's': a->sheet = name_of(word, taken); break;
+    case 'j': a->jobs = jobs_of(word, taken); break;
+    case 'o': a->folder = name_of(word, taken); break;
+    case 'a': a->all = name_of(word, taken); break;
+    case 'E': a->each = true; break;
+    case 'B': a->by = (enum by)choice_of(word, stretches, taken); break;
+    case 'J': a->json = true; break;
     case 'f': a->there = REPLACE; break;
     case 'n': a->there = SKIP; break;
+    case 'q': a->quiet = true; break;
+    case 'v': a->verbose = true; break;
     }
 }
 
-/* ---- options, one by one */
-
-#define HELP {"help", no_argument, NULL, 'h'}, {"version", no_argument, NULL, 'V'}, {NULL, 0, NULL, 0}
-
-static const char letters[] = ":r:c:g:s:j:fnhV";
-static const struct option names[] = {
-    {"rate", required_argument, NULL, 'r'}, {"cutoff", required_argument, NULL, 'c'},
-    {"gain", required_argument, NULL, 'g'}, {"sheet", required_argument, NULL, 's'},
-    {"jobs", required_argument, NULL, 'j'}, {"force", no_argument, NULL, 'f'},
-    {"skip", no_argument, NULL, 'n'},       HELP};
-static const char other_letters[] = ":hV";
-static const struct option other_names[] = {HELP};
-
 /* The word of an option that is none: one of several letters in a word is not the last of it. */
-static const char *word_at_fault(int count, char **line, const char *known) {
+static const char *word_at_fault(int count, char **line) {
     const char *next = optind < count ? line[optind] : "";
-    bool inside = optopt && !strchr(known, optopt) && next[0] == '-' && next[1] != '-';
+    bool inside = optopt && !strchr(letters, optopt) && next[0] == '-' && next[1] != '-';
     const char *letter = inside ? strchr(next + 1, optopt) : NULL;
     return letter && letter[1] ? next : line[optind - 1];
 }
 
-static void read_options(int count, char **line, enum does does, struct asked *a) {
-    const char *known = does == CONVERT ? letters : other_letters;
-    int option;
+static void fill(struct option *named) {
+    for (int k = 0; k < OPTIONS; k++)
+        named[k] = (struct option){options[k].name, options[k].taken ? required_argument : no_argument, NULL, options[k].letter};
+    named[OPTIONS] = (struct option){NULL, 0, NULL, 0};
+}
+
+static void read_options(const struct command *c, int count, char **line, struct asked *a) {
+    struct option named[OPTIONS + 1];
+    int letter;
+    fill(named);
     opterr = 0;
-    while ((option = getopt_long(count, line, known, does == CONVERT ? names : other_names, NULL)) != -1) {
-        if (option == 'h') tell(help);
-        if (option == 'V') tell("puigneht " PUIGNEHT_VERSION "\n");
-        if (option == ':') misused(NULL);
-        if (option == '?') misused(word_at_fault(count, line, known));
-        take(option, optarg, a);
+    while ((letter = getopt_long(count, line, letters, named, NULL)) != -1) {
+        if (letter == 'h') tell(help);
+        if (letter == 'V') tell("puigneht " PUIGNEHT_VERSION "\n");
+        if (letter == '?') misused(word_at_fault(count, line));
+        int option = letter == ':' ? optopt : letter;
+        if (!strchr(c->takes, option)) stop(USAGE, "%s takes no --%s", c->name, known_of(option)->name);
+        if (letter == ':') stop(USAGE, "a value is missing behind %.1000s: %s", line[count - 1], known_of(option)->taken);
+        take(letter, optarg, a);
     }
 }
 
 /* ---- the words */
 
-static bool named(const char *word, enum does *does) {
-    static const char *const commands[] = {"convert", "check", "turns", "gains"};
-    for (int k = CONVERT; k <= GAINS; k++)
-        if (!strcmp(word, commands[k])) return *does = (enum does)k, true;
-    return false;
+static const struct command *named(const struct command *commands, const char *word) {
+    for (const struct command *c = commands; c->name; c++)
+        if (!strcmp(word, c->name)) return c;
+    return NULL;
 }
 
-/* There are so many words at least and at most. */
-static void few(const struct words *w, int least, int most) {
-    if (w->count < least) misused(NULL);
-    if (w->count > most) misused(w->at[most]);
+/* There are so many words at least and at most; what is missing is named. */
+static void few(const struct words *w, int least, int most, const char *const *names) {
+    if (w->count + 1 < least) stop(USAGE, "%s and %s are missing", names[w->count], names[w->count + 1]);
+    if (w->count < least) stop(USAGE, "%s is missing", names[w->count]);
+    if (w->count > most) stop(USAGE, "'%.1000s' is one word too many", w->at[most]);
 }
 
-static void count_words(enum does does, const struct words *w) {
-    switch (does) {
-    case CONVERT: few(w, 2, 2); break;
-    case CHECK: few(w, 0, 1); break;
-    case TURNS: few(w, 1, w->count); break;
-    case GAINS: few(w, 0, 0); break;
-    }
-}
-
-enum does understood(int count, char **line, struct asked *asked, struct words *words) {
-    enum does does = CONVERT;
-    *asked = (struct asked){.rate = 88200, .cutoff = PUIGNEHT_STANDARD};
-    if (count < 2) misused(NULL);
-    bool first = named(line[1], &does);
-    count -= first, line += first; /* the command's word stands where the program's name does */
-    read_options(count, line, does, asked);
+const struct command *understood(const struct command *commands, int count, char **line, struct asked *a,
+                                 struct words *words) {
+    *a = (struct asked){.cutoff = PUIGNEHT_STANDARD};
+    const struct command *c = count > 1 ? named(commands, line[1]) : NULL;
+    count -= c != NULL, line += c != NULL; /* the command's word stands where the program's name does */
+    c = c ? c : commands;
+    if (count > 0) read_options(c, count, line, a);
     *words = (struct words){.count = count - optind, .at = line + optind};
-    count_words(does, words);
-    if (does != CONVERT) return does;
-    asked->in = name_of(words->at[0]);
-    asked->out = name_of(words->at[1]);
-    return does;
+    few(words, c->least, c->most, c->names);
+    return c;
+}
+
+/* ---- the files of a conversion */
+
+static void check_options(const struct asked *a) {
+    if (a->folder && a->all) stop(USAGE, "-o is a WAV file a track, -a one of all: both were given");
+    if (a->each && !a->folder) stop(USAGE, "--each needs -o FOLDER");
+    if (a->each && a->sheet) stop(USAGE, "--each has no sheet: -s is an album's");
+    if (a->taps && a->cutoff != PUIGNEHT_STANDARD) stop(USAGE, "--taps is for the cutoff standard");
+    if (a->quiet && a->verbose) stop(USAGE, "-q says less, -v more: both were given");
+}
+
+void take_tracks(struct asked *a, const struct words *words) {
+    check_options(a);
+    a->all = "-"; /* no WAV file */
+    a->tracks = words->at;
+    a->count = words->count;
+    for (int k = 0; k < words->count; k++)
+        if (!*words->at[k]) misused(words->at[k]);
+    if (a->count > MOST_TRACKS)
+        stop(USAGE, "'%.1000s' is track 100: an album has at most 99", a->tracks[MOST_TRACKS]);
+}
+
+void take_files(struct asked *a, const struct words *words) {
+    static const char *const pair[] = {"IN.dsf", "OUT.wav"}, *const track[] = {"TRACK1.dsf"};
+    bool tracks = a->folder || a->all;
+    check_options(a);
+    few(words, tracks ? 1 : 2, tracks ? words->count : 2, tracks ? track : pair);
+    a->tracks = words->at;
+    a->count = tracks ? words->count : 1;
+    for (int k = 0; k < words->count; k++)
+        if (!*words->at[k]) misused(words->at[k]);
+    if (!tracks) a->all = words->at[1];
+    if (!a->each && a->count > MOST_TRACKS)
+        stop(USAGE, "'%.1000s' is track 100: an album has at most 99", a->tracks[MOST_TRACKS]);
 }

@@ -9,6 +9,7 @@
 #include <unistd.h>
 #include "bytes.h"
 #include "ends.h"
+#include "input.h"
 #include "others.h"
 #include "puigneht.h"
 
@@ -43,6 +44,9 @@ static int ended(uint8_t answer) {
 static int watch(int file, const char *path) {
     struct upload u = {.known = 0};
     uint8_t bytes[4096];
+    struct stat is;
+    if (fstat(file, &is)) failed("look at", path);
+    spare(path, &is);
     for (;;) {
         uint64_t place = 0;
         size_t count = read_some(file, path, bytes, sizeof bytes);
@@ -53,7 +57,9 @@ static int watch(int file, const char *path) {
     }
 }
 
-int check(const char *path) {
+int check(const struct asked *a, const struct words *words) {
+    const char *path = words->count ? words->at[0] : NULL;
+    (void)a;
     if (!path || !strcmp(path, "-")) return watch(STDIN_FILENO, "standard input");
     int file = open(path, O_RDONLY);
     if (file < 0) failed("open", path);

@@ -1,29 +1,28 @@
-/* A DSF album into a WAV file and its level sheet.
+/* DSF files into WAV files and a level sheet.
  *
- * Both are made beside the places that they are for, and take their names when they are whole and on the disk, IN is
- * as it was, and no signal can come between. What fails before the end is taken back. */
+ * All are made beside the places that they are for, and take their names when they are whole and on the disk, the
+ * tracks are as they were, and no signal can come between. What fails before the end is taken back. */
 #define _POSIX_C_SOURCE 200809L
 #include "convert.h"
-#include <stdio.h>
 #include <stdlib.h>
 #include <string.h>
 #include <unistd.h>
-#include "album.h"
 #include "bytes.h"
 #include "ends.h"
-#include "input.h"
 #include "jobs.h"
-#include "made.h"
+#include "names.h"
 #include "places.h"
 #include "signals.h"
+#include "terminal.h"
+#include "told.h"
 
-static struct made wav, sheet;
+static struct outputs outputs;
 
 /* Also called where a signal is handled. */
 static void clean(void) {
+    clear_progress();
     end_jobs();
-    unmake(&wav);
-    unmake(&sheet);
+    unmake_all(&outputs);
 }
 
 static _Noreturn void clean_and_exit(int status) {
@@ -32,76 +31,65 @@ static _Noreturn void clean_and_exit(int status) {
     exit(status);
 }
 
-static void open_and_check(struct album *album, struct input *in) {
-    uint64_t length = (uint64_t)open_input(in, album->asked->in);
-    open_album(album, in, length);
-    check_places(album->asked, in);
+/* Two WAV files of one name are refused before anything is read. */
+static void check_names(const struct asked *a) {
+    if (!a->folder) return;
+    check_folder(a->folder);
+    check_alike(a->tracks, a->count);
 }
 
-/* Fails here where they would at the end: their folders may not be written, or standard output is shut. */
-static void make_outputs(const struct asked *a) {
-    make(&wav, a->out);
-    if (has_sheet_file(a)) make(&sheet, a->sheet);
-    if (a->sheet && !has_sheet_file(a)) check_standard_output();
+static void open_and_check(struct album *album, const struct asked *a, struct inputs *in) {
+    open_inputs(in, a);
+    open_album(album, a, in);
+    name_outputs(&outputs, a);
+    head_outputs(&outputs, album);
+    check_places(&outputs, a, in);
 }
 
-static void write_all(const struct album *album, const struct input *in) {
-    const struct asked *a = album->asked;
-    uint8_t head[PUIGNEHT_WAV_HEADER];
+static void write_sheet(const struct album *album, const puigneht_stats *s) {
     char text[PUIGNEHT_SHEET_ROOM];
-    wav_head(album, head);
-    write_at(wav.file, a->out, head, sizeof head, 0);
-    puigneht_stats s = convert_all(album, wav.file);
-    watched = false;
-    settle(&wav);
-    check_unchanged(in);
-    if (!a->sheet) return;
-    sheet_of(album, &s, text);
-    if (has_sheet_file(a)) {
-        write_at(sheet.file, a->sheet, (const uint8_t *)text, strlen(text), 0);
-        settle(&sheet);
+    const char *path = album->asked->sheet;
+    if (!path || outputs.sheet_kept) return;
+    sheet_of(album, s, text);
+    if (has_sheet_file(album->asked)) {
+        write_at(outputs.sheet.file, path, (const uint8_t *)text, strlen(text), 0);
+        settle(&outputs.sheet);
     } else {
-        write_on(STDOUT_FILENO, "standard output", text, strlen(text));
+        print(text);
     }
 }
 
-/* What came meanwhile is looked at as what was there before. */
-static void take_name(struct made *m, const struct asked *a, const struct input *in) {
-    if (name_new(m)) return;
-    if (m == &sheet) check_sheet_again(a, in);
-    if (m == &wav) check_out_again(a, in);
-    name_over(m);
+static void write_all(const struct album *album) {
+    write_heads(&outputs);
+    struct gave all = convert_all(album, &outputs);
+    settle_all(&outputs);
+    check_unchanged(album->in);
+    write_sheet(album, &all.stats);
 }
 
-/* From the first name on signals wait, and until the end it can be taken back. */
-static void take_names(const struct asked *a, const struct input *in) {
-    hold_signals();
-    if (sheet.path) take_name(&sheet, a, in);
-    take_name(&wav, a, in);
-    if (sheet.path) settle_folder(&sheet);
-    settle_folder(&wav);
-    keep(&sheet);
-    keep(&wav);
-}
-
-/* An album that ends inside a frame. */
-static void tell_filled(const struct album *album) {
-    unsigned long long filled = album->opened.numbers.filled;
-    if (filled)
-        fprintf(stderr,
-                "puigneht: the album ends inside a frame: %llu bytes of each channel are filled up with 0x69 (%s)\n",
-                filled, album->asked->in);
-}
-
-void convert(const struct asked *a) {
-    struct album album = {.asked = a};
-    struct input in;
+int convert_album(const struct asked *a) {
+    struct album album;
+    struct inputs in;
+    double began = seconds();
+    check_names(a);
     catch_signals(clean);
     leave = clean_and_exit;
-    watched = isatty(STDERR_FILENO);
-    open_and_check(&album, &in);
-    make_outputs(a);
-    write_all(&album, &in);
-    take_names(a, &in);
+    open_and_check(&album, a, &in);
+    make_all(&outputs, a);
+    tell_order(a);
+    tell_headers(&outputs, &album);
+    tell_settings(&album);
+    begin_progress(album_name(a).name, album.opened.numbers.frames);
+    write_all(&album);
+    hold_signals(); /* from the first name on */
+    name_all(&outputs, a, &in);
     tell_filled(&album);
+    tell_speed(&album, began);
+    return DONE;
+}
+
+int convert(const struct asked *a, const struct words *words) {
+    struct asked album = *a;
+    take_files(&album, words);
+    return album.each ? convert_each(&album) : convert_album(&album);
 }

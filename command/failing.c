@@ -166,5 +166,6 @@ FAILS(int, "poll", poll, (struct pollfd *files, nfds_t count, int wait), (files,
 FAILS(pid_t, "waitpid", waitpid, (pid_t process, int *status, int how), (process, status, how))
 FAILS(int, "sched_getaffinity", sched_getaffinity, (pid_t process, size_t size, cpu_set_t *set), (process, size, set))
 FAILS(int, "kill", kill, (pid_t process, int signal), (process, signal))
+FAILS(int, "prctl", prctl, (int what, unsigned long with), (what, with))
 FAILS(int, "sigaction", sigaction, (int n, const struct sigaction *to, struct sigaction *was), (n, to, was))
 FAILS(int, "sigprocmask", sigprocmask, (int how, const sigset_t *to, sigset_t *was), (how, to, was))

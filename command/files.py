@@ -16,12 +16,12 @@ MIRROR = bytes(int(f"{b:08b}"[::-1], 2) for b in range(256))
 TYPES = {1: 1, 2: 2, 3: 3, 4: 4, 5: 6, 6: 7}
 
 
-def head(channels, bits, samples, data, metadata):
+def head(channels, bits, samples, data, metadata, kind=None):
     length = 92 + data + metadata
     n4 = lambda v: v.to_bytes(4, "little")
     n8 = lambda v: v.to_bytes(8, "little")
     return (b"DSD " + n8(28) + n8(length) + n8(92 + data if metadata else 0)
-            + b"fmt " + n8(52) + n4(1) + n4(0) + n4(TYPES[channels]) + n4(channels) + n4(2822400) + n4(bits) + n8(samples) + n4(BLOCK)
+            + b"fmt " + n8(52) + n4(1) + n4(0) + n4(kind or TYPES[channels]) + n4(channels) + n4(2822400) + n4(bits) + n8(samples) + n4(BLOCK)
             + n4(0) + b"data" + n8(12 + data))
 
 
@@ -29,21 +29,21 @@ def groups_of(samples):
     return -(-samples // (8 * BLOCK))
 
 
-def header(channels, bits, samples, metadata=0):
+def header(channels, bits, samples, metadata=0, kind=None):
     """Of a file whose data are just what its samples need."""
-    return head(channels, bits, samples, groups_of(samples) * channels * BLOCK, metadata)
+    return head(channels, bits, samples, groups_of(samples) * channels * BLOCK, metadata, kind)
 
 
 def stated(file):
     return int.from_bytes(file[12:20], "little")
 
 
-def laid_out(sounds, bits, samples, metadata=0):
+def laid_out(sounds, bits, samples, metadata=0, kind=None):
     """A file of the channels' bytes, which are the same for both bit orders: the earliest bit highest, mirrored where the lowest is the
     earliest. It ends where its metadata begin."""
     sounds = [s.translate(MIRROR) if bits == 1 else s for s in sounds]
     blocks = [s[g * BLOCK:(g + 1) * BLOCK].ljust(BLOCK, b"\0") for g in range(groups_of(samples)) for s in sounds]
-    return header(len(sounds), bits, samples, metadata) + b"".join(blocks)
+    return header(len(sounds), bits, samples, metadata, kind) + b"".join(blocks)
 
 
 def write(path, channels, bits, samples, fill, metadata=0):

@@ -16,8 +16,9 @@ static int decimals_of(double factor) {
     return 5 - atoi(strchr(text, 'e') + 1);
 }
 
-int gains(void) {
+int gains(const struct asked *a, const struct words *words) {
     char text[LONGEST_LINE * (HIGHEST - LOWEST + 1)], *to = text;
+    (void)a, (void)words;
     for (int db = LOWEST; db <= HIGHEST; db++) {
         puigneht_gain_record gain = {0, 0};
         uint8_t answer = puigneht_gain(db, &gain, NULL);

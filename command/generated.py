@@ -69,7 +69,9 @@ def digest(data):
 
 def stored():
     """The cases with the digests of their files and their sheets."""
-    for text in open(STORED).read().split("\n\n"):
+    with open(STORED) as file:
+        texts = file.read().split("\n\n")
+    for text in texts:
         line, *sheet = text.rstrip("\n").split("\n")
         *numbers, file, wav = line.split()
         yield Case(*map(int, numbers)), file, wav, "".join(row + "\n" for row in sheet)

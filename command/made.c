@@ -90,7 +90,7 @@ static bool is_unknown(void) {
 /* A second name, and the first one taken away. The file is there then, whether or not that can be done. */
 static int link_alone(const char *name, const char *path) {
     if (link(name, path)) return -1;
-    if (unlink(name)) fprintf(stderr, "puigneht: cannot remove %s: %s\n", name, strerror(errno));
+    if (unlink(name)) warn("cannot remove %s: %s", name, strerror(errno));
     return 0;
 }
 
@@ -135,7 +135,7 @@ void settle_folder(const struct made *m) {
 
 void keep(struct made *m) {
     if (m->taken == EXCHANGED && unlink(m->name))
-        fprintf(stderr, "puigneht: cannot remove %s, which was %s: %s\n", m->name, m->path, strerror(errno));
+        warn("cannot remove %s, which was %s: %s", m->name, m->path, strerror(errno));
     m->taken = NOT_YET;
 }
 
@@ -146,11 +146,11 @@ static bool exchanged_back(const struct made *m) {
 void unmake(struct made *m) {
     enum taken taken = m->taken;
     m->taken = NOT_YET;
-    if (taken == REPLACED) fprintf(stderr, "puigneht: %s is new by now\n", m->path);
+    if (taken == REPLACED) warn("%s is new by now", m->path);
     if (taken == ALONE && unlink(m->path))
-        fprintf(stderr, "puigneht: %s is made by now, and cannot be removed: %s\n", m->path, strerror(errno));
+        warn("%s is made by now, and cannot be removed: %s", m->path, strerror(errno));
     if (taken == EXCHANGED && !exchanged_back(m))
-        fprintf(stderr, "puigneht: %s is new by now, and what it was is %s\n", m->path, m->name);
+        warn("%s is new by now, and what it was is %s", m->path, m->name);
     else if (taken == EXCHANGED || m->there)
         unlink(m->name);
     m->there = 0;

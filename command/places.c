@@ -1,4 +1,4 @@
-/* Where OUT and SHEET may be made. */
+/* Where the outputs may be made. */
 #define _DEFAULT_SOURCE
 #define _FILE_OFFSET_BITS 64
 #include "places.h"
@@ -10,10 +10,11 @@
 #include <unistd.h>
 #include "bytes.h"
 #include "ends.h"
-#include "made.h"
 
-bool has_sheet_file(const struct asked *a) {
-    return a->sheet && strcmp(a->sheet, "-");
+void check_folder(const char *path) {
+    struct stat is;
+    if (stat(path, &is)) failed("look at the folder", path);
+    if (!S_ISDIR(is.st_mode)) stop(REFUSED, "%s is no folder", path);
 }
 
 /* ---- what is no place for an output */
@@ -36,10 +37,16 @@ static bool is_dsf(const char *path, bool replaced) {
     return count == sizeof head && !memcmp(head, "DSD ", sizeof head);
 }
 
-/* Gives whether a file is there: a regular one that may be replaced if that is asked for. */
-static bool is_taken(const char *path, const char *end, const struct asked *a, const struct input *in) {
+static void check_input(const char *path, const struct inputs *in) {
     struct stat is;
-    if (is_input(in, path)) stop(REFUSED, "%s is the input, %s: the output must be another file", path, in->path);
+    const struct input *same = stat(path, &is) ? NULL : input_of(in, &is);
+    if (same) stop(REFUSED, "%s is the input, %s: the output must be another file", path, same->path);
+}
+
+/* Gives whether a file is there: a regular one that may be replaced if that is asked for. */
+static bool is_taken(const char *path, const char *end, const struct asked *a, const struct inputs *in) {
+    struct stat is;
+    check_input(path, in);
     check_name(path, end);
     if (lstat(path, &is)) {
         if (errno != ENOENT) failed("look at", path);
@@ -51,38 +58,80 @@ static bool is_taken(const char *path, const char *end, const struct asked *a, c
     return true;
 }
 
-static bool is_out_taken(const struct asked *a, const struct input *in) {
-    return is_taken(a->out, ".wav", a, in);
+static bool is_out_taken(const struct output *o, const struct asked *a, const struct inputs *in) {
+    return o->way == MADE && is_taken(o->path, ".wav", a, in);
 }
 
-static bool is_sheet_taken(const struct asked *a, const struct input *in) {
+static bool is_sheet_taken(const struct asked *a, const struct inputs *in) {
     return has_sheet_file(a) && is_taken(a->sheet, ".sheet", a, in);
+}
+
+/* ---- standard output */
+
+static void check_pipe(void) {
+    check_standard_output();
+    if (isatty(STDOUT_FILENO)) stop(REFUSED, "- is a terminal, and no WAV file is written to one: name a file, or a pipe");
+}
+
+static void check_two(const struct output *o, const struct asked *a, const struct inputs *in) {
+    bool printed = a->sheet && !has_sheet_file(a);
+    if (o->way == PIPED) check_pipe();
+    if (o->way == PIPED || printed) spare_inputs(in);
+    if (!a->sheet) return;
+    if (has_sheet_file(a) ? o->way == MADE && same_place(a->sheet, o->path) : o->way == PIPED)
+        stop(REFUSED, "%s is to be the sheet and the output: they must be two files", a->sheet);
 }
 
 /* ---- what is there already */
 
-/* Where all that is asked for is there, it may be passed over. */
-static void check_there(const struct asked *a, bool out, bool sheet) {
-    const char *path = out ? a->out : a->sheet, *other = out ? a->sheet : a->out;
+/* Of one WAV file: where all that is asked for is there, it may be passed over. */
+static void check_there(const struct output *o, const struct asked *a, bool out, bool sheet) {
+    const char *path = out ? o->path : a->sheet, *other = out ? a->sheet : o->path;
     if (a->there == REPLACE || (!out && !sheet)) return;
     if (a->there == SAY) stop(THERE, "%s is there already: -f replaces it", path);
     if (has_sheet_file(a) && out != sheet)
         stop(THERE, "%s is there already, and %s is not: -f makes both", path, other);
-    stop(DONE, "%s is there already: it is left as it is", path);
+    finish("%s is there already: it is left as it is", path);
 }
 
-void check_places(const struct asked *a, const struct input *in) {
-    bool out = is_out_taken(a, in), sheet = is_sheet_taken(a, in);
-    if (has_sheet_file(a) && same_place(a->sheet, a->out))
-        stop(REFUSED, "%s is to be the sheet and the output: they must be two files", a->sheet);
-    check_there(a, out, sheet);
+/* Of tracks: each that is there is passed over, or the run ends. */
+static bool is_kept(const char *path, const struct asked *a) {
+    if (a->there == REPLACE) return false;
+    if (a->there == SAY) stop(THERE, "%s is there already: -f replaces it, -n makes what is missing", path);
+    note("%s is there already: it is left as it is", path);
+    return true;
 }
 
-void check_out_again(const struct asked *a, const struct input *in) {
-    check_there(a, is_out_taken(a, in), false);
+static void check_tracks_there(struct outputs *o, const struct asked *a, const struct inputs *in) {
+    int left = 0;
+    for (int k = 0; k < o->count; k++) {
+        if (is_out_taken(&o->of[k], a, in) && is_kept(o->of[k].path, a)) o->of[k].way = KEPT;
+        left += o->of[k].way != KEPT;
+    }
+    o->sheet_kept = is_sheet_taken(a, in) && is_kept(a->sheet, a);
+    if (!left && (!a->sheet || o->sheet_kept)) finish("all is there already");
 }
 
-void check_sheet_again(const struct asked *a, const struct input *in) {
-    bool sheet = is_sheet_taken(a, in);
-    check_there(a, is_out_taken(a, in), sheet);
+void check_places(struct outputs *o, const struct asked *a, const struct inputs *in) {
+    for (int k = 0; k < o->count; k++) check_two(&o->of[k], a, in);
+    if (has_tracks(a)) {
+        check_tracks_there(o, a, in);
+    } else {
+        bool out = is_out_taken(&o->of[0], a, in), sheet = is_sheet_taken(a, in);
+        check_there(&o->of[0], a, out, sheet);
+    }
+}
+
+bool look_again(struct output *output, const struct asked *a, const struct inputs *in) {
+    bool there = is_out_taken(output, a, in);
+    if (has_tracks(a)) return !there || !is_kept(output->path, a);
+    check_there(output, a, there, false);
+    return true;
+}
+
+bool look_at_sheet_again(const struct outputs *o, const struct asked *a, const struct inputs *in) {
+    bool there = is_sheet_taken(a, in);
+    if (has_tracks(a)) return !there || !is_kept(a->sheet, a);
+    check_there(&o->of[0], a, is_out_taken(&o->of[0], a, in), there);
+    return true;
 }

@@ -1,19 +1,19 @@
-/* Where OUT and SHEET may be made. */
+/* Where the outputs may be made. */
 #ifndef PLACES_H
 #define PLACES_H
 
-#include "args.h"
-#include "input.h"
+#include "outputs.h"
 
-/* SHEET is a file, and no text to standard output. */
-bool has_sheet_file(const struct asked *a);
+/* No two of the outputs are one file, none is an input or a DSF file, and none is there unless it may be replaced or
+ * passed over, which is noted; else the run ends. */
+void check_places(struct outputs *o, const struct asked *a, const struct inputs *in);
 
-/* OUT and SHEET are two files, neither is IN or a DSF file, and none is there unless it may be replaced; else the run
- * ends. */
-void check_places(const struct asked *a, const struct input *in);
+/* The same where something has come to an output, or to the sheet, meanwhile: whether it is to be replaced; else it is
+ * passed over, or the run ends. A sheet that is named by then is this run's. */
+bool look_again(struct output *output, const struct asked *a, const struct inputs *in);
+bool look_at_sheet_again(const struct outputs *o, const struct asked *a, const struct inputs *in);
 
-/* The same where something has come to SHEET, or to OUT, meanwhile; a sheet that is there by then is this run's. */
-void check_sheet_again(const struct asked *a, const struct input *in);
-void check_out_again(const struct asked *a, const struct input *in);
+/* The folder is there. */
+void check_folder(const char *path);
 
 #endif

@@ -1,6 +1,7 @@
+#!/usr/bin/env python3
 """The command beside stored answers, which come from outside our code: those that compare/ wrote for the tests of the crates, and command/stored.
 
-stored.py PROGRAM     It works in a folder of its own.
+Usage: command/stored.py [PROGRAM]        (target/puigneht if it is not given)
 """
 import os
 import struct
@@ -8,11 +9,15 @@ import subprocess
 import sys
 import tempfile
 
+sys.dont_write_bytecode = True
+sys.path.append(os.path.join(os.path.dirname(os.path.abspath(__file__)), "..", "compare"))
 import files
+import filters
 import generated
 
 HERE = os.path.dirname(os.path.abspath(__file__))
 DATA = os.path.join(HERE, "..", "crates")
+PROGRAM = os.path.abspath(sys.argv[1]) if len(sys.argv) > 1 else os.path.abspath(os.path.join(HERE, "..", "target", "puigneht"))
 FRAME, HEAD = 4704, 92
 DONE, USAGE, REFUSED, UNFINISHED = 0, 2, 3, 5
 
@@ -101,11 +106,12 @@ def uploads(command):
 
 def cases():
     """Rate, cutoff, decibels, the file's bytes, its length, refusal with its numbers, WAV file, sheet, sentence."""
-    data = held(DATA, "test_album", "data", "album_bytes")
-    for row in rows("test_album", "data", "albums"):
-        rate, cutoff, db, length, *refusal = row[:7]
-        file, *parts = (data[at:at + n] for at, n in zip(row[14::2], row[15::2]))
-        yield rate, cutoff, db - 120, file, length, tuple(refusal), *parts
+    data = held(DATA, "test_tracks", "data", "single_bytes")
+    for row in rows("test_tracks", "data", "singles"):
+        rate, cutoff, db, _, length, *refusal = row[:8]
+        decibels, = struct.unpack("<d", struct.pack("<Q", db))
+        file, *parts = (data[at:at + n] for at, n in zip(row[16::2], row[17::2]))
+        yield rate, cutoff, int(decibels), file, length, tuple(refusal), *parts
 
 
 def put_file(path, data, length):
@@ -133,12 +139,12 @@ def albums(command):
     tried = 0
     for rate, cutoff, db, data, length, (number, first, second), wav, sheet, text in cases():
         put_file("a.dsf", data, length)
-        options = ["-r", str(rate), "-c", ["standard", "low", "wide"][cutoff], f"--gain={db}"]
+        options = ["-r", str(rate), "-c", ["standard", "low", "wide"][cutoff], f"--gain={db}", "--format=wav"]
         tried += 1
         if number == 0:
             converts(command, options, wav, sheet)
         elif number == 3:    # the arguments have no such gain
-            command.expect([*options, "a.dsf", "b.wav"], USAGE, b"", b"puigneht: '%d' is not understood" % db)
+            command.expect([*options, "a.dsf", "b.wav"], USAGE, b"", b"puigneht: '%d': gains are" % db)
         else:
             command.expect([*options, "a.dsf", "b.wav"], REFUSED, b"", b"puigneht: " + begins(number, first, second, text))
         if os.path.exists("b.wav"):
@@ -165,6 +171,48 @@ def long_albums(command):
     return tried
 
 
+# ---- labels' own filters
+
+
+def put_taps(taps):
+    with open("taps", "w") as file:
+        file.writelines(f"{tap}\n" for tap in taps)
+
+
+def label_album(pattern, seed, neighbours, channels):
+    """The frame of a row, and the frames next to it, which are the same bytes from another seed. Gives how many are before it."""
+    made = [filters.bytes_by(pattern, seed + past, channels) for past in (1, 0, 2)]
+    held = [made[k] for k in range(3) if (neighbours % 2, 1, neighbours // 2)[k]]
+    sounds = [bytes(b for frame in held for b in frame[c::channels]) for c in range(channels)]
+    put_file("a.dsf", files.laid_out(sounds, 1, 8 * len(sounds[0])), None)
+    return neighbours % 2
+
+
+def label_filters(command):
+    """Rows of compare/filters.py: routes of Standard, one frame; and what 17 and 18 refuse."""
+    tried = 0
+    for route, channels, _, length, neighbours, pattern, seed, refusal, *rest in rows("test_conversions", "data", "filters"):
+        count = rest[7]
+        if route > 2 or channels not in (1, 2) or length != FRAME * channels or refusal not in (0, 17, 18) or count > 1 << 10:
+            continue
+        pairs = [(n >> 32, n & 0xFFFFFFFF) for n in rest[8:67]]
+        taps = [half if half < 1 << 31 else (1 << 31) - 1 - half for pair in pairs for half in pair][:count]
+        put_taps(taps + [1] * (count - len(taps)))
+        words = ["-r", str((88200, 176400, 352800)[route]), "--taps", "taps", "-f", "a.dsf", "a.wav"]
+        before = label_album(pattern, seed, neighbours, channels)
+        tried += 1
+        if refusal:
+            command.expect(words, REFUSED, b"", b"puigneht: refused %d: " % refusal)
+            continue
+        command.expect(words, DONE, b"")
+        size = 3 * filters.PER_FRAME[route] * channels
+        data = held("a.wav")[44 + before * size:][:size]
+        items = [int.from_bytes(data[at:at + 3], "little", signed=True) for at in range(0, size, 3)]
+        if filters.digests([x + (1 << 31) for x in items]) != rest[3:5]:
+            sys.exit(f"stored: the filter of row {tried}: other samples")
+    return tried
+
+
 # ---- raw frames as an album: the line RATE CUTOFF CHANNELS DB, and the channels' bytes in turn
 
 
@@ -179,14 +227,21 @@ def frames(command):
         command.expect(["convert", "-f", "-s", "-", "-r", rate, "-c", cutoff, "-g", db, "a.dsf", "a.wav"], DONE, stored("frames.sheet"))
 
 
+def in_a_folder(tests):
+    """The tests work in a folder of their own."""
+    with tempfile.TemporaryDirectory() as room:
+        os.chdir(room)
+        tests()
+
+
 def main():
-    command = Command(os.path.abspath(sys.argv[1]))
-    os.chdir(tempfile.mkdtemp(dir="."))
+    command = Command(PROGRAM)
     command.expect(["gains"], DONE, stored("gains"))
     frames(command)
-    print(f"{boards(command)} boards, {uploads(command)} uploads, {albums(command)} albums, {long_albums(command)} times a longer album", end="")
+    print(f"{boards(command)} boards, {uploads(command)} uploads, {albums(command)} albums, {long_albums(command)} times a longer album, "
+          f"{label_filters(command)} filters of labels", end="")
     print(", the gains and the sheet of raw frames: as stored")
 
 
 if __name__ == "__main__":
-    main()
+    in_a_folder(main)

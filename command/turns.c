@@ -41,11 +41,12 @@ static void print_lines(const puigneht_board *b) {
     print(text);
 }
 
-int turns(int count, char **words) {
+int turns(const struct asked *a, const struct words *words) {
     puigneht_board b = {.albums = 0};
     uint64_t turn;
-    if (!count_of(words[0], &turn)) misused(words[0]);
-    for (int k = 1; k < count; k++) read_album(words[k], &b);
+    (void)a;
+    if (!count_of(words->at[0], &turn)) misused(words->at[0]);
+    for (int k = 1; k < words->count; k++) read_album(words->at[k], &b);
     uint8_t answer = puigneht_turns(&b, turn, NULL);
     if (answer == PUIGNEHT_REFUSED_SCHEDULE) {
         print("refused 19\n");

@@ -1,19 +1,20 @@
 #!/usr/bin/env python3
-"""Albums for crates/test_album/data: DSF files, and the WAV files, sheets, plans and sentences that they are to give.
+"""Albums of one file for crates/test_tracks/data: DSF files, and the WAV files, sheets and sentences that they are to give.
 
 Usage: compare/albums.py SRC, in the repository's folder; SRC is the original's repository (its tap tables are read). It says how
 many of each it wrote. The files are laid out from Sony's document by command/files.py's `head`; the samples are worked out
 from document 01's formulas over whole numbers by compare/filters.py's `Channel`, tap by tap, the factor by Python's floats; the WAV file is
 written by Python's `wave`, the sheet by compare/sheets.py's formatting, sentences by Python's. Nothing of it is the library's.
 
-A case is a line of hexadecimal numbers. `albums`: rate, cutoff, decibels above -120, the file's length; the answer of
-opening, two numbers of its sentence; channels, samples, frames, bytes of data, bytes of a frame, bytes filled up, pieces;
-then where the stored bytes of the file, the WAV file, the sheet and the sentence stand in `album_bytes`, each with its
-length. `parts`: frames, jobs, part, its first piece and the one after its last. `pieces`: rate, channels, samples, piece,
-and the seven numbers of a piece.
+A case is a line of hexadecimal numbers. `singles`: rate, cutoff, decibels and factor (their bits), the file's length; the
+answer (12 is the header's, where a plain WAV file is asked for), two numbers of its sentence; what an album that opens has:
+channels, channel type, bytes of each channel, frames, bytes of data, bytes of a frame, bytes filled up, pieces; then where the
+stored bytes of the file, the WAV file, the sheet and the sentence stand in `single_bytes`, each with its length. `shares`:
+frames, jobs, part, its first piece and the one after its last.
 """
 import io
 import random
+import struct
 import sys
 import wave
 
@@ -23,7 +24,7 @@ import files
 import filters
 import sheets
 
-FOLDER = "crates/test_album/data"
+FOLDER = "crates/test_tracks/data"
 FRAME, BLOCK, PIECE = 4704, 4096, 128
 RATES = [88200, 176400, 352800]
 
@@ -66,13 +67,21 @@ def wav_file(rate, channels, items):
     return out.getvalue()
 
 
-def frames_of(samples):
-    return -(-(samples // 8) // FRAME)
+def numbers_of(rate, channels, count):
+    """What an album of so many bytes of each channel has."""
+    frames = -(-count // FRAME)
+    size = 3 * filters.PER_FRAME[rate] * channels
+    return channels, files.TYPES[channels], count, frames, frames * size, size, frames * FRAME - count, -(-frames // PIECE)
 
 
-def case(rate, cutoff, db, file, length, answer=0, said=(0, 0), numbers=(0,) * 7, wav=b"", sheet="", sentence=""):
+def double(x):
+    return struct.unpack("<Q", struct.pack("<d", x))[0]
+
+
+def case(rate, cutoff, db, file, length, answer=0, said=(0, 0), numbers=(0,) * 8, wav=b"", sheet="", sentence=""):
     """The numbers of a line without the places, and what is stored; of a file that the case before stored, nothing anew."""
-    return [RATES[rate], cutoff, db + 120, length, answer, *said, *numbers], (file, wav, sheet.encode(), sentence.encode())
+    asked = [RATES[rate], cutoff, double(float(db)), double(factor(db))]
+    return [*asked, length, answer, *said, *numbers], (file, wav, sheet.encode(), sentence.encode())
 
 
 # ---- albums that are accepted
@@ -93,13 +102,11 @@ def album(t, channels, bits, count, kinds, ways, metadata=0):
     sounds = [music(source, count, kinds[c]) for c in range(channels)]
     samples = 8 * count
     file = files.laid_out(sounds, bits, samples, metadata) + bytes(metadata)
-    frames = frames_of(samples)
     for k, (rate, cutoff, db) in enumerate(ways):
         items, stats = converted(t, sounds, rate, cutoff, db)
-        size = 3 * filters.PER_FRAME[rate] * channels
-        numbers = (channels, samples, frames, frames * size, size, frames * FRAME - count, -(-frames // PIECE))
+        numbers = numbers_of(rate, channels, count)
         wav = wav_file(rate, channels, items)
-        assert len(wav) == 44 + frames * size
+        assert len(wav) == 44 + numbers[4]
         yield case(rate, cutoff, db, None if k else file, len(file), numbers=numbers, wav=wav, sheet=sheets.sheet(channels, stats))
 
 
@@ -116,6 +123,13 @@ def albums(t):
 
 def refused(rate, cutoff, db, head, length, answer, said, sentence):
     return case(rate, cutoff, db, head, length, answer, said, sentence=sentence)
+
+
+def too_much(rate, channels, count, said, sentence):
+    """An album that opens and that a plain WAV file cannot hold."""
+    head = files.header(channels, 8, 8 * count)
+    numbers = numbers_of(rate, channels, count)
+    return case(rate, 0, 0, head, files.stated(head), 12, said, numbers, sentence=sentence)
 
 
 def says(stated, has):
@@ -142,46 +156,17 @@ def refusals():
     for db in (25, 2000):
         yield refused(0, 0, db, whole, long, 3, (0, 0), "refused 3: the gain is not -120 to 24 decibels")
     for channels in (3, 4, 5, 6):
-        head = files.header(channels, 8, 8 * 3 * FRAME)
         said = (channels, 3 * 3 * 1176 * channels)
-        yield refused(0, 0, 0, head, files.stated(head), 12, said, f"refused 12: {channels} channels: the WAV file takes one or two")
+        yield too_much(0, channels, 3 * FRAME, said, f"refused 12: {channels} channels: the WAV file takes one or two")
     for frames, rate in ((540001, 0), (600000, 2), (1234567, 0)):
         head = stereo(8 * FRAME * frames)
         yield refused(rate, 0, 0, head, files.stated(head), 5, (frames, 0), f"refused 5: {frames:,} frames: at most 540,000 (two hours) are converted")
     for frames in (152175, 200000):
-        head = stereo(8 * FRAME * frames)
         data = frames * 3 * 4704 * 2
-        yield refused(2, 0, 0, head, files.stated(head), 12, (2, data), f"refused 12: {data:,} bytes of samples: a WAV file holds at most 4,294,967,259")
+        yield too_much(2, 2, FRAME * frames, (2, data), f"refused 12: {data:,} bytes of samples: a WAV file holds at most 4,294,967,258")
 
 
-# ---- the plan
-
-
-def group_window(channels, samples, frame):
-    """The groups of blocks that hold a frame: where they begin in the data, and where they end."""
-    count = samples // 8
-    first, last = frame * FRAME, min((frame + 1) * FRAME, count)
-    return first // BLOCK * BLOCK * channels, -(-last // BLOCK) * BLOCK * channels
-
-
-def piece(rate, channels, samples, i):
-    frames = frames_of(samples)
-    if channels > 6 or frames > 540000 or i >= -(-frames // PIECE):
-        return [0] * 7
-    first = PIECE * i
-    count = min(PIECE, frames - first)
-    start = group_window(channels, samples, max(first - 1, 0))[0]
-    end = group_window(channels, samples, min(first + count, frames - 1))[1]
-    size = 3 * filters.PER_FRAME[rate] * channels
-    return [first, count, start, end - start, 44 + first * size, count * size, count * FRAME * channels]
-
-
-def pieces():
-    for channels in (1, 2, 6, 7):
-        for samples in (0, 8, 8 * FRAME, 8 * (127 * FRAME + 5), 8 * 128 * FRAME, 8 * (128 * FRAME + 1), 8 * (300 * FRAME + 4096), 8 * 540000 * FRAME, 8 * (540000 * FRAME + 1)):
-            rate = (channels + samples // 8) % 3
-            for i in (0, 1, 2, 3, 4218, 4219):
-                yield [RATES[rate], channels, samples, i] + piece(rate, channels, samples, i)
+# ---- parts of jobs
 
 
 def parts():
@@ -220,8 +205,7 @@ def write(name, rows):
 if __name__ == "__main__":
     tables = filters.tables(sys.argv[1])
     rows, stored = placed([*albums(tables), *refusals()])
-    write("albums", rows)
-    with open(f"{FOLDER}/album_bytes", "wb") as out:
+    write("singles", rows)
+    with open(f"{FOLDER}/single_bytes", "wb") as out:
         out.write(stored)
-    write("parts", parts())
-    write("pieces", pieces())
+    write("shares", parts())

@@ -80,4 +80,5 @@ def main():
     print(f"{len(texts)} albums, {os.path.getsize(generated.STORED)} bytes")
 
 
-main()
+if __name__ == "__main__":
+    main()

@@ -1,5 +1,5 @@
 #!/usr/bin/env python3
-"""Level sheets for crates/test_album/data: statistics, and the sheet or the refusal that they have by document 02.
+"""Level sheets for crates/test_tracks/data: statistics, and the sheet or the refusal that they have by document 02.
 
 The sheets are laid out here by Python's own formatting, and the joined statistics by Python's own numbers. A line of
 `statistics` has 31 numbers: channels, length of the output, six clip counts, six lowest, six highest, six marks, then the
@@ -9,7 +9,7 @@ says how many it wrote.
 """
 import random
 
-FOLDER = "crates/test_album/data"
+FOLDER = "crates/test_tracks/data"
 WIDTHS = (4, 14, 12)
 TOP = 2**64 - 1
 

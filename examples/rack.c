@@ -15,10 +15,11 @@ static struct job {
     const char *in, *out;
     int from, to;
     puigneht_album album;
+    puigneht_wave wave;   /* the file that it becomes */
     puigneht_stats stats; /* of the pieces that were converted */
     uint64_t next;        /* piece */
 } jobs[MOST];
-static size_t count, going; /* albums, and turns given out */
+static size_t count, going, room; /* albums, turns given out, and the memory that each piece fits */
 static pthread_mutex_t lock = PTHREAD_MUTEX_INITIALIZER;
 
 /* The whole number that a word is. */
@@ -40,22 +41,22 @@ static int read_at(void *context, uint64_t place, uint8_t *bytes, size_t length)
         if ((n = pread(*(int *)context, bytes, length, (off_t)place)) <= 0) return 1;
     return 0;
 }
-static void write_at(const struct job *j, const uint8_t *bytes, size_t length, uint64_t place) {
-    for (ssize_t n; length; place += (uint64_t)n, bytes += n, length -= (size_t)n)
-        if ((n = pwrite(j->to, bytes, length, (off_t)place)) <= 0) err(1, "%s", j->out);
+static void write_at(const struct job *j, puigneht_write w) {
+    for (ssize_t n; w.length; w.place += (uint64_t)n, w.bytes += n, w.length -= (size_t)n)
+        if ((n = pwrite(j->to, w.bytes, w.length, (off_t)w.place)) <= 0) err(1, "%s", j->out);
 }
 
-static void open_job(struct job *j, char **names, uint32_t rate, uint32_t cutoff, double db) {
+static void open_job(struct job *j, char **names, const puigneht_settings *settings) {
     puigneht_refusal refusal;
-    uint8_t head[PUIGNEHT_WAV_HEADER];
     off_t length;
     j->in = names[0], j->out = names[1], j->stats = puigneht_no_stats();
     if ((j->from = open(j->in, O_RDONLY)) < 0 || (length = lseek(j->from, 0, SEEK_END)) < 0) err(1, "%s", j->in);
     puigneht_source source = {read_at, &j->from, (uint64_t)length};
-    expect(puigneht_album_open(&j->album, &source, rate, cutoff, db, &refusal), j->in, &refusal);
-    expect(puigneht_album_header(&j->album, head, &refusal), j->in, &refusal);
+    expect(puigneht_album_open(&j->album, &source, 1, settings, &refusal), j->in, &refusal);
+    expect(puigneht_album_header(&j->album, PUIGNEHT_FORMAT_AUTO, PUIGNEHT_ALL, &j->wave, &refusal), j->in, &refusal);
+    if (room < puigneht_album_memory(&j->album)) room = puigneht_album_memory(&j->album);
     if ((j->to = open(j->out, O_RDWR | O_CREAT | O_EXCL, 0666)) < 0) err(1, "%s", j->out);
-    write_at(j, head, sizeof head, 0);
+    write_at(j, (puigneht_write){j->wave.head, j->wave.head_len, 0}); /* whole frames are even: there is no pad */
 }
 
 /* The next turn: an album and its piece. */
@@ -69,18 +70,17 @@ static struct job *turn(uint64_t *piece) {
 
 /* A thread takes turns until there is none. Statistics joined in any order are the album's. */
 static void *work(void *unused) {
-    puigneht_memory *memory = malloc(sizeof *memory); /* some 6 MB */
-    uint64_t number = 0;
-    if (!memory) err(1, "a thread");
-    for (struct job *j;;) {
+    puigneht_memory memory = {malloc(room), room}; /* some 6 MB */
+    if (!memory.bytes) err(1, "a thread");
+    for (uint64_t number = 0;;) {
         puigneht_refusal refusal;
         puigneht_piece piece;
         pthread_mutex_lock(&lock);
-        j = turn(&number);
+        struct job *j = turn(&number);
         pthread_mutex_unlock(&lock);
-        if (!j) return free(memory), unused;
-        expect(puigneht_album_piece(&j->album, number, memory, &piece, &refusal), j->in, &refusal);
-        write_at(j, piece.bytes, piece.length, piece.place);
+        if (!j) return free(memory.bytes), unused;
+        expect(puigneht_album_piece(&j->album, number, &memory, &piece, &refusal), j->in, &refusal);
+        write_at(j, puigneht_album_write(&j->album, &j->wave, &piece));
         pthread_mutex_lock(&lock);
         if (puigneht_join_stats(&j->stats, &piece.stats)) errx(1, "statistics that are none");
         pthread_mutex_unlock(&lock);
@@ -89,13 +89,13 @@ static void *work(void *unused) {
 
 /* The sheet, and the overs of the samples that were written. */
 static void report(struct job *j) {
-    static uint8_t bytes[3 << 16];
-    static int32_t samples[1 << 16];
-    const uint64_t channels = j->album.numbers.channels, end = puigneht_album_wav_bytes(&j->album);
+    static uint8_t bytes[180000]; /* whole turns of one to six channels */
+    static int32_t samples[sizeof bytes / 3];
+    const uint64_t channels = j->album.numbers.channels, end = j->wave.length;
     puigneht_overs overs = {{{0, 0, 0}}};
     puigneht_refusal refusal;
     char sheet[PUIGNEHT_SHEET_ROOM];
-    for (uint64_t at = PUIGNEHT_WAV_HEADER; at < end; at += sizeof bytes) {
+    for (uint64_t at = j->wave.head_len; at < end; at += sizeof bytes) {
         size_t n = end - at < sizeof bytes ? (size_t)(end - at) : sizeof bytes;
         if (read_at(&j->to, at, bytes, n)) err(1, "%s", j->out);
         puigneht_unpack_s24le(bytes, n, samples, n / 3);
@@ -111,7 +111,8 @@ int main(int argc, char **argv) {
     if (argc < 7 || argc % 2 == 0 || argc > 5 + 2 * MOST) errx(1, "RATE CUTOFF DB THREADS {IN.dsf OUT.wav}...");
     const uint32_t rate = (uint32_t)number_of(argv[1], 0, 999999), cutoff = (uint32_t)number_of(argv[2], 0, 9);
     const long db = number_of(argv[3], -999, 999), threads = number_of(argv[4], 1, MOST);
-    for (; 5 + 2 * count < (size_t)argc; count++) open_job(&jobs[count], argv + 5 + 2 * count, rate, cutoff, db);
+    const puigneht_settings s = {rate, cutoff, 0, (double)db, NULL, 0}; /* the channels are the files' */
+    for (; 5 + 2 * count < (size_t)argc; count++) open_job(&jobs[count], argv + 5 + 2 * count, &s);
     for (long k = 0; k < threads; k++)
         if (pthread_create(&started[k], NULL, work, NULL)) errx(1, "no thread");
     for (long k = 0; k < threads; k++) pthread_join(started[k], NULL);

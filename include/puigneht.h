@@ -12,8 +12,8 @@
  *
  * Answers: PUIGNEHT_ACCEPTED (0), the number of a refusal, or PUIGNEHT_NOT_UNDERSTOOD. Every other answer than 0 leaves
  * all that is lent as it was, but for `refusal`, which holds the number, its data and where it came from, and for the
- * memory of puigneht_album_piece. (puigneht_dsf_give_up answers no refusals: 1 and 2 are what it found, and with 2 it
- * writes `place`.) `refusal` and `stats` may be NULL.
+ * memory of puigneht_album_piece and puigneht_album_frames. (puigneht_dsf_give_up answers no refusals: 1 and 2 are what
+ * it found, and with 2 it writes `place`.) `refusal` and `stats` may be NULL.
  *
  * Lists: a pointer and its number of items; NULL with 0 items is an empty list. NULL with a number of items counts as a
  * list without items for a run's neighbours, counts and taps alone, which is then refused; puigneht_cut takes NULL
@@ -41,7 +41,7 @@
 #include <string.h>
 
 /* The version of this header; puigneht_version tells the library's. */
-#define PUIGNEHT_VERSION "0.2.0"
+#define PUIGNEHT_VERSION "0.3.0"
 
 #ifdef __cplusplus
 #define PUIGNEHT_HOLDS_(fact, text) static_assert(fact, text)
@@ -76,14 +76,16 @@ enum {
     PUIGNEHT_REFUSED_UNSUPPORTED = 2,   /* data: rate, cutoff: Wide at 88200 */
     PUIGNEHT_REFUSED_GAIN = 3,          /* decibels: not -120 to 24, or with a factor that is not theirs */
     PUIGNEHT_REFUSED_INPUT_LENGTH = 4,  /* data: bytes, kind: 0 not whole frames, 1 not one frame */
-    PUIGNEHT_REFUSED_FRAMES = 5,        /* data: frames, over 540000; or the number of a frame that is not there */
+    PUIGNEHT_REFUSED_FRAMES = 5,        /* data: frames, over 540000; or the number of a frame, piece or track that is
+                                           not there */
     PUIGNEHT_REFUSED_OUTPUT_LENGTH = 6, /* data: samples of room, samples needed */
     PUIGNEHT_REFUSED_OUTPUT_BYTES = 7,  /* data: bytes of room, bytes needed */
     PUIGNEHT_REFUSED_FRAME_COUNTS = 8,  /* data: counts of room, counts needed */
     PUIGNEHT_REFUSED_NOT_DSF = 9,       /* field: under 92 bytes, or a field against Sony's document */
     PUIGNEHT_REFUSED_DSF_FORMAT = 10,   /* field: another frequency than 2822400, or samples not a multiple of 8 */
     PUIGNEHT_REFUSED_DSF_LENGTH = 11,   /* field: a length that is not the file's; a window without the frame */
-    PUIGNEHT_REFUSED_NOT_WAV = 12,      /* not a file that puigneht_wav_read takes, or none that it would */
+    PUIGNEHT_REFUSED_NOT_WAV = 12,      /* not a file that puigneht_wav_read takes, or none that it would; of an album's
+                                           header data: channels, bytes, which the header asked for does not take */
     PUIGNEHT_REFUSED_BEFORE = 13,       /* data: bytes of `before`, which are not one frame */
     PUIGNEHT_REFUSED_AFTER = 14,        /* data: bytes of `after`, which are not one frame */
     PUIGNEHT_REFUSED_STORED = 15,       /* a converter's numbers are not those of its settings */
@@ -92,10 +94,10 @@ enum {
     PUIGNEHT_REFUSED_TAP_SUMS = 18,     /* centre plus twice the rest is not 16777216, or absolutely over 40000000 */
     PUIGNEHT_REFUSED_SCHEDULE = 19,     /* a number of a simulation of turns outside its range */
     PUIGNEHT_REFUSED_SHEET = 20,        /* a number too wide for its column of the level sheet */
-    PUIGNEHT_READ_FAILED = 254,         /* of puigneht/album.h: the caller's own `read` failed */
+    PUIGNEHT_READ_FAILED = 254,         /* of puigneht/album.h: the caller's own `read` of a track failed */
     /* An unknown rate, cutoff, end or mark; more than 255 channels; a converter's own flag that is not 0 or 1; samples
-     * that are no whole turns of the channels; statistics that nobody made; an album that was not opened, or with
-     * decibels that are not whole. */
+     * that are no whole turns of the channels; statistics that nobody made; an album that was not opened, or of 0 or
+     * more than 99 tracks; an unknown format of a header. */
     PUIGNEHT_NOT_UNDERSTOOD = 255
 };
 
@@ -112,6 +114,9 @@ enum {
     PUIGNEHT_DSF_HEADER = 92,  /* bytes of a DSF file before its samples */
     PUIGNEHT_SHEET_LINE = 43,  /* bytes of a line of the level sheet */
     PUIGNEHT_SHEET_ROOM = 302, /* of the longest sheet with a zero byte behind it */
+    PUIGNEHT_LINES_ROOM = 864,     /* bytes of the level report's lines of a frame */
+    PUIGNEHT_LAST_LINE_ROOM = 144, /* bytes of its last line */
+    PUIGNEHT_MOST_SAMPLES = 28224, /* of a frame over all channels */
     PUIGNEHT_DESCRIPTION_ROOM = 256
 };
 
@@ -138,7 +143,10 @@ enum {
     PUIGNEHT_CALL_WAV_READ,
     PUIGNEHT_CALL_WAV_WRITE,
     PUIGNEHT_CALL_ALBUM_OPEN,
-    PUIGNEHT_CALL_ALBUM_PIECE
+    PUIGNEHT_CALL_ALBUM_PIECE,
+    PUIGNEHT_CALL_ALBUM_FRAMES,
+    PUIGNEHT_CALL_ALBUM_HEADER,
+    PUIGNEHT_CALL_FRAME_LEVELS
 };
 
 /* Of 9, 10 and 11: the first wrong field of a DSF file. */
@@ -154,8 +162,10 @@ typedef struct puigneht_refusal {
     double decibels;                 /* of 3, as they came in, a NaN with its bits */
     puigneht_field field;            /* of 9, 10 and 11 */
     uint64_t rate, cutoff, channels; /* that the call was made with */
-    uint64_t length;                 /* of what it was given: bytes of frames, of a file or of samples, or taps */
+    uint64_t length;                 /* of what it was given: bytes of frames, of a file, of samples or of memory; taps;
+                                        tracks */
     uint8_t call, number;
+    uint8_t track; /* of an album, counted from 0: whose file it was, or whose frames are too many */
 } puigneht_refusal;
 
 /* The refusal as one plain sentence, with a zero byte behind it: PUIGNEHT_DESCRIPTION_ROOM bytes hold each. A longer
@@ -223,6 +233,20 @@ typedef struct puigneht_over {
     uint64_t overs, end, length;
 } puigneht_over;
 
+/* What is in progress in a channel: an end and a length as above. */
+typedef struct puigneht_standing {
+    uint64_t end, length;
+} puigneht_standing;
+
+/* A frame in the level report, and what is in progress behind it: all zeros before the first. */
+typedef struct puigneht_levels {
+    puigneht_standing standings[PUIGNEHT_MOST_CHANNELS];
+    uint64_t length;  /* of the lines */
+    uint64_t clipped; /* samples of all channels */
+    uint8_t lines[PUIGNEHT_LINES_ROOM];
+    int32_t samples[PUIGNEHT_MOST_SAMPLES]; /* the frame's, the channels in turn */
+} puigneht_levels;
+
 PUIGNEHT_HOLDS_(sizeof(double) == 8, "a double has 64 bits");
 PUIGNEHT_HOLDS_(sizeof(puigneht_gain_record) == 16, "two floats");
 PUIGNEHT_HOLDS_(sizeof(puigneht_numbers) == 64 && offsetof(puigneht_numbers, own) == 24 &&
@@ -236,10 +260,10 @@ PUIGNEHT_HOLDS_(sizeof(puigneht_refusal) == 88 && offsetof(puigneht_refusal, dec
                     offsetof(puigneht_refusal, field) == 24 && offsetof(puigneht_refusal, rate) == 48 &&
                     offsetof(puigneht_refusal, cutoff) == 56 && offsetof(puigneht_refusal, channels) == 64 &&
                     offsetof(puigneht_refusal, length) == 72 && offsetof(puigneht_refusal, call) == 80 &&
-                    offsetof(puigneht_refusal, number) == 81,
+                    offsetof(puigneht_refusal, number) == 81 && offsetof(puigneht_refusal, track) == 82,
                 "a refusal, as bindings/rust has it, too");
 PUIGNEHT_HOLDS_(sizeof(puigneht_dsf) == 40 && sizeof(puigneht_wav) == 32 && sizeof(puigneht_stretch) == 16 &&
-                    sizeof(puigneht_over) == 24 && sizeof(puigneht_field) == 24,
+                    sizeof(puigneht_over) == 24 && sizeof(puigneht_field) == 24 && sizeof(puigneht_standing) == 16,
                 "as many numbers as the calls write");
 
 /* ---- the proved calls. `presence` is 1 for a frame before + 2 for a frame after + 4 for a list of counts. */
@@ -271,6 +295,14 @@ uint8_t puigneht_level_sheet_call(uint8_t channels, const puigneht_stats *stats,
                                   uint64_t data[2]);
 uint8_t puigneht_overs_call(const int32_t *samples, size_t samples_len, size_t channels, size_t channel,
                             puigneht_over *told);
+/* Of one frame; `told` is the length of its lines and its clipped samples. */
+uint8_t puigneht_frame_levels_call(const puigneht_numbers *numbers, const puigneht_gain_record *gain,
+                                   const int32_t taps[PUIGNEHT_MOST_TAPS], uint8_t presence, const uint8_t *before,
+                                   size_t before_len, const uint8_t *frames, size_t frames_len, const uint8_t *after,
+                                   size_t after_len, uint64_t frame, puigneht_standing *standings, int32_t *samples,
+                                   size_t samples_len, uint8_t *lines, size_t lines_len, uint64_t told[2],
+                                   uint64_t data[2], double *decibels);
+size_t puigneht_last_line_call(uint64_t frames, uint64_t clipped, uint8_t line[PUIGNEHT_LAST_LINE_ROOM]);
 uint8_t puigneht_turns_call(const uint64_t *frames, size_t frames_len, const uint64_t *dues, size_t dues_len,
                             uint64_t turn, uint64_t *finishes, size_t finishes_len, int32_t *late, size_t late_len);
 
@@ -286,6 +318,9 @@ uint8_t puigneht_dsf_frame_call(const uint8_t *file, size_t file_len, uint64_t f
                                 uint64_t data[2]);
 uint8_t puigneht_dsf_write_call(uint8_t channels, const uint8_t *frames, size_t frames_len, uint8_t *out,
                                 size_t out_len, uint64_t data[2]);
+uint8_t puigneht_dsf_head_call(uint8_t channels, size_t bytes, uint8_t head[PUIGNEHT_DSF_HEADER], uint64_t data[2]);
+uint8_t puigneht_dsf_lay_out_call(uint8_t channels, const uint8_t *frames, size_t frames_len, uint8_t *out,
+                                  size_t out_len, uint64_t data[2]);
 uint8_t puigneht_dsf_length_call(uint8_t channels, size_t bytes, uint64_t *size, uint64_t data[2]);
 uint8_t puigneht_dsf_give_up_call(const uint8_t *file, size_t file_len, uint64_t *place);
 uint8_t puigneht_dsf_give_up_header_call(const uint8_t *head, size_t head_len, uint64_t length, uint64_t *place);
@@ -362,16 +397,11 @@ PUIGNEHT_LOOK_ static inline uint8_t puigneht_gain(double decibels, puigneht_gai
     return r->number = puigneht_gain_call(decibels, gain, &r->decibels);
 }
 
-/* Opens a converter: its gain is made, and then the settings are tried. Refused 3 for the gain; then 1, 2, 17, 18. A
- * filter is tried under every cutoff, also where Low and Wide do not use it. */
-PUIGNEHT_LOOK_ static inline uint8_t puigneht_open(puigneht_converter *converter, const puigneht_settings *settings,
-                                                   puigneht_refusal *refusal) {
-    puigneht_refusal spare,
-        *r = puigneht_begin_(refusal, &spare, PUIGNEHT_CALL_OPEN, settings->taps ? settings->taps_len : 0);
+/* The numbers and taps of some settings, without a gain. */
+static inline puigneht_converter puigneht_settled_(const puigneht_settings *settings) {
     puigneht_converter c;
     size_t held =
         settings->taps_len < PUIGNEHT_MOST_TAPS ? settings->taps_len : PUIGNEHT_AS_(size_t, PUIGNEHT_MOST_TAPS);
-    uint8_t number;
     memset(&c, 0, sizeof c);
     c.numbers.rate = settings->rate;
     c.numbers.cutoff = settings->cutoff;
@@ -379,7 +409,17 @@ PUIGNEHT_LOOK_ static inline uint8_t puigneht_open(puigneht_converter *converter
     c.numbers.own = settings->taps || settings->taps_len ? 1 : 0;
     c.numbers.taps = settings->taps ? settings->taps_len : 0;
     if (settings->taps) memcpy(c.taps, settings->taps, held * sizeof *c.taps);
-    number = puigneht_gain_call(settings->decibels, &c.gain, &r->decibels);
+    return c;
+}
+
+/* Opens a converter: its gain is made, and then the settings are tried. Refused 3 for the gain; then 1, 2, 17, 18. A
+ * filter is tried under every cutoff, also where Low and Wide do not use it. */
+PUIGNEHT_LOOK_ static inline uint8_t puigneht_open(puigneht_converter *converter, const puigneht_settings *settings,
+                                                   puigneht_refusal *refusal) {
+    puigneht_refusal spare,
+        *r = puigneht_begin_(refusal, &spare, PUIGNEHT_CALL_OPEN, settings->taps ? settings->taps_len : 0);
+    puigneht_converter c = puigneht_settled_(settings);
+    uint8_t number = puigneht_gain_call(settings->decibels, &c.gain, &r->decibels);
     if (number == PUIGNEHT_ACCEPTED) number = puigneht_open_call(&c.numbers, &c.gain, c.taps, r->data, &r->decibels);
     if (number == PUIGNEHT_ACCEPTED) *converter = c;
     return puigneht_told_(r, settings->rate, settings->cutoff, settings->channels, number);
@@ -631,6 +671,37 @@ static inline puigneht_overs puigneht_overs_from_here(const puigneht_overs *over
     return from;
 }
 
+/* ---- the level report */
+
+/* The lines of exactly one frame, under the number that it is given, from what is in progress before it: for each
+ * channel `frame N channel C clipped K low L high H over O`, its clipped samples, its lowest and highest sample, and
+ * the overs whose third sample falls in it. With the numbers from 0, and `levels` going from frame to frame, the lines
+ * of an album's frames and the last line are its level report.
+ *
+ * What is in progress behind a frame depends on the frame with its neighbours, and not on what was in progress before
+ * it. So whoever begins at frame N tells frame N - 1 first, from zeros, and leaves its lines.
+ *
+ * Refused as puigneht_convert_frame. Not understood for an end that is not 0, 1 or 2. */
+PUIGNEHT_LOOK_ static inline uint8_t puigneht_frame_levels(const puigneht_converter *c, const puigneht_run *run,
+                                                           uint64_t frame, puigneht_levels *levels,
+                                                           puigneht_refusal *refusal) {
+    puigneht_refusal spare, *r = puigneht_begin_(refusal, &spare, PUIGNEHT_CALL_FRAME_LEVELS, run->frames_len);
+    uint64_t told[2] = {0, 0};
+    const uint8_t number = puigneht_frame_levels_call(
+        PUIGNEHT_OF_(c, run, 0), frame, levels->standings, levels->samples, puigneht_samples_of(c, 1), levels->lines,
+        PUIGNEHT_LINES_ROOM, told, r->data, &r->decibels);
+    if (number == PUIGNEHT_ACCEPTED) {
+        levels->length = told[0];
+        levels->clipped = told[1];
+    }
+    return puigneht_told_(r, c->numbers.rate, c->numbers.cutoff, c->numbers.channels, number);
+}
+
+/* The report's last line, `frames N clipped M`; gives its length. */
+static inline size_t puigneht_last_line(uint64_t frames, uint64_t clipped, uint8_t line[PUIGNEHT_LAST_LINE_ROOM]) {
+    return puigneht_last_line_call(frames, clipped, line);
+}
+
 /* ---- turns on one board */
 
 /* Up to 8 albums of 1 to 540000 frames, due after turn 0 to 1000000. */
@@ -720,6 +791,25 @@ PUIGNEHT_LOOK_ static inline uint8_t puigneht_dsf_write(uint64_t channels, const
     return puigneht_told_(
         r, 0, 0, channels,
         puigneht_dsf_write_call(puigneht_channels_(channels), frames, frames_len, out, out_len, r->data));
+}
+
+/* The same file in parts, so that nobody holds it in memory: its first bytes, for `frames_len` bytes of frames; and the
+ * data of some frames, which are PUIGNEHT_DSF_HEADER bytes fewer than puigneht_dsf_length tells of them. The header and
+ * the data of stretches of PUIGNEHT_STRETCH_FRAMES frames (or a multiple; the last of as many as are left), end to end,
+ * are the file. Refused as it, by 1, 4, 5; the data then 7. */
+enum { PUIGNEHT_STRETCH_FRAMES = 128, PUIGNEHT_STRETCH_BYTES = 147 * 4096 /* of a channel, and of its blocks */ };
+PUIGNEHT_LOOK_ static inline uint8_t puigneht_dsf_head(uint64_t channels, size_t frames_len,
+                                                       uint8_t head[PUIGNEHT_DSF_HEADER], puigneht_refusal *refusal) {
+    puigneht_refusal spare, *r = puigneht_begin_(refusal, &spare, PUIGNEHT_CALL_DSF_WRITE, frames_len);
+    return puigneht_told_(r, 0, 0, channels,
+                          puigneht_dsf_head_call(puigneht_channels_(channels), frames_len, head, r->data));
+}
+PUIGNEHT_LOOK_ static inline uint8_t puigneht_dsf_lay_out(uint64_t channels, const uint8_t *frames, size_t frames_len,
+                                                          uint8_t *out, size_t out_len, puigneht_refusal *refusal) {
+    puigneht_refusal spare, *r = puigneht_begin_(refusal, &spare, PUIGNEHT_CALL_DSF_WRITE, frames_len);
+    return puigneht_told_(
+        r, 0, 0, channels,
+        puigneht_dsf_lay_out_call(puigneht_channels_(channels), frames, frames_len, out, out_len, r->data));
 }
 
 /* The length of that file for `frames_len` bytes of frames. Refused 1, 4, 5. */

@@ -79,13 +79,20 @@ static void say_bytes(struct said *s, const puigneht_refusal *r, const char *wha
                  r->channels, frame_bytes(r), 0);
 }
 
+static int is_piece(const puigneht_refusal *r) {
+    return r->call == PUIGNEHT_CALL_ALBUM_PIECE || r->call == PUIGNEHT_CALL_ALBUM_FRAMES;
+}
+
 static void say_frames(struct said *s, const puigneht_refusal *r) {
     if (r->call == PUIGNEHT_CALL_DSF_FRAME || r->call == PUIGNEHT_CALL_DSF_WINDOW_FRAME)
         put_with(s, "the file has no frame #: they are counted from 0", r->data[0], 0, 0);
-    else if (r->call == PUIGNEHT_CALL_ALBUM_PIECE)
-        put_with(s, "the album has no piece #: they are counted from 0", r->data[0], 0, 0);
+    else if (is_piece(r)) put_with(s, "the album has no piece #: they are counted from 0", r->data[0], 0, 0);
+    else if (r->call == PUIGNEHT_CALL_ALBUM_HEADER)
+        put_with(s, "the album has no track #: they are counted from 0", r->data[0], 0, 0);
     else if (r->call == PUIGNEHT_CALL_DSF_WRITE)
         put_with(s, "# frames: at most 540,000 (two hours) are written", r->data[0], 0, 0);
+    else if (r->call == PUIGNEHT_CALL_ALBUM_OPEN && r->track)
+        put_with(s, "# frames with the tracks before it: at most 540,000 (two hours) are converted", r->data[0], 0, 0);
     else put_with(s, "# frames: at most 540,000 (two hours) are converted", r->data[0], 0, 0);
 }
 
@@ -111,6 +118,34 @@ static const struct {
               {40, "the format version", 0},        {44, "the format ID", 0},
               {60, "the bits per sample", 0},       {72, "the block size", 0},
               {76, "the reserved field", 0},        {80, "the name of the data chunk", 1}};
+
+/* Sony's channel types. */
+static const struct {
+    const char *name;
+    uint64_t channels;
+} types[] = {{"none", 0}, {"mono", 1},       {"stereo", 2},     {"3 channels", 3},
+             {"quad", 4}, {"4 channels", 4}, {"5 channels", 5}, {"5.1 channels", 6}};
+
+/* Whether a number is a type, and above it, as they stand in a file, the channels that it has. */
+static int is_type(uint64_t found) {
+    const uint64_t type = found % 4294967296;
+    return type >= 1 && type <= 7 && found / 4294967296 == types[type].channels;
+}
+
+static int is_other_type(const puigneht_refusal *r) {
+    return r->number == PUIGNEHT_REFUSED_NOT_DSF && r->call == PUIGNEHT_CALL_ALBUM_OPEN && r->field.place == 48 &&
+           is_type(r->field.found) && is_type(r->field.asked);
+}
+
+/* 9 of an album: a file that has another type than the first. */
+static void say_other_type(struct said *s, const puigneht_field *f) {
+    const uint64_t found = f->found % 4294967296, asked = f->asked % 4294967296;
+    put_with(s, "its channel type is # (", found, 0, 0);
+    put(s, types[found].name);
+    put_with(s, "), and the first track's # (", asked, 0, 0);
+    put(s, types[asked].name);
+    put(s, ")");
+}
 
 /* 9: the first wrong field. */
 static void say_not_dsf(struct said *s, const puigneht_field *f) {
@@ -154,25 +189,28 @@ static void say_dsf_length(struct said *s, const puigneht_field *f) {
 /* ---- refusals of WAV files */
 
 /* How long an album may be, in minutes and seconds, where the file's length says it and not the number of frames. */
-static void say_too_long(struct said *s, const puigneht_refusal *r, uint64_t bytes) {
+static void say_too_long(struct said *s, const puigneht_refusal *r, uint64_t bytes, uint64_t room) {
     const uint64_t frame = r->rate / SECOND * 3 * r->channels;
-    const uint64_t most = frame ? PUIGNEHT_WAV_MOST_DATA / frame : 0, seconds = most / SECOND;
-    put_with(s, "# bytes of samples: a WAV file holds at most #", bytes, PUIGNEHT_WAV_MOST_DATA, 0);
+    const uint64_t most = frame ? room / frame : 0, seconds = most / SECOND;
+    put_with(s, "# bytes of samples: a WAV file holds at most #", bytes, room, 0);
     if (!most || most >= PUIGNEHT_MOST_FRAMES) return;
     put_with(s, seconds % 60 < 10 ? ", which are #:0# of " : ", which are #:# of ", seconds / 60, seconds % 60, 0);
     put_with(s, r->channels == 1 ? "# channel at #" : "# channels at #", r->channels, r->rate, 0);
 }
+
+/* The most data of a file in which a zero byte follows odd ones. */
+#define MOST_EVEN (PUIGNEHT_WAV_MOST_DATA - 1)
 
 /* 12 of a call that makes a file. */
 static void say_no_wav(struct said *s, const puigneht_refusal *r) {
     const uint64_t frame = r->rate / SECOND * 3 * r->channels;
     uint64_t bytes = r->length;
     if (r->call == PUIGNEHT_CALL_WAV_CONVERT && frame_bytes(r)) bytes = r->length / frame_bytes(r) * frame;
-    if (r->call == PUIGNEHT_CALL_ALBUM_OPEN) bytes = r->data[1];
     if (!is_rate(r->rate)) put_with(s, "a rate of #: a WAV file has 88,200, 176,400 or 352,800", r->rate, 0, 0);
     else if (r->channels < 1 || r->channels > 2)
         put_with(s, "# channels: the WAV file takes one or two", r->channels, 0, 0);
-    else if (bytes > PUIGNEHT_WAV_MOST_DATA) say_too_long(s, r, bytes);
+    else if (r->call == PUIGNEHT_CALL_ALBUM_HEADER) say_too_long(s, r, bytes, MOST_EVEN);
+    else if (bytes > PUIGNEHT_WAV_MOST_DATA) say_too_long(s, r, bytes, PUIGNEHT_WAV_MOST_DATA);
     else if (bytes % frame) put_with(s, "# bytes of samples are no whole frames of # bytes", bytes, frame, 0);
     else put_with(s, "# frames: a WAV file takes at most 540,000 (two hours)", bytes / frame, 0, 0);
 }
@@ -199,7 +237,11 @@ static void say_of_call(struct said *s, const puigneht_refusal *r) {
     case PUIGNEHT_REFUSED_OUTPUT_LENGTH:
         put_with(s, "room for # samples, where # are to be written", one, two, 0);
         break;
-    case PUIGNEHT_REFUSED_OUTPUT_BYTES: put_with(s, "room for # bytes, where # are to be written", one, two, 0); break;
+    case PUIGNEHT_REFUSED_OUTPUT_BYTES:
+        put_with(s,
+                 is_piece(r) ? "memory of # bytes, where # are needed" : "room for # bytes, where # are to be written",
+                 one, two, 0);
+        break;
     default: put_with(s, "room for the counts of # frames, where there are #", one, two, 0);
     }
 }
@@ -241,21 +283,22 @@ static void say_not_understood(struct said *s, const puigneht_refusal *r) {
     else if (rated && r->cutoff > PUIGNEHT_WIDE)
         put_with(s, ": cutoff #: there are 0 standard, 1 low and 2 wide", r->cutoff, 0, 0);
     else if (rated && r->channels > 255) put_with(s, ": # channels: there may be 1 to 6", r->channels, 0, 0);
-    else if (r->call == PUIGNEHT_CALL_ALBUM_OPEN) {
-        put(s, ": ");
-        put_decibels(s, r->decibels);
-        put(s, " decibels: an album takes whole ones");
-    } else put(s, ": a converter or an album that was not opened, or was written to since");
+    else if (r->call == PUIGNEHT_CALL_ALBUM_OPEN && (!r->length || r->length > 99))
+        put_with(s, ": # tracks: an album has 1 to 99", r->length, 0, 0);
+    else if (r->call == PUIGNEHT_CALL_ALBUM_HEADER && r->data[0] > 2)
+        put_with(s, ": format #: there are 0 auto, 1 WAV and 2 RF64", r->data[0], 0, 0);
+    else put(s, ": a converter or an album that was not opened, or was written to since");
 }
 
 static void say(struct said *s, const puigneht_refusal *r) {
     if (r->number == PUIGNEHT_ACCEPTED) put(s, "accepted");
-    else if (r->number == PUIGNEHT_READ_FAILED) put(s, "the album cannot be read");
+    else if (r->number == PUIGNEHT_READ_FAILED) put(s, "the file cannot be read");
     else if (r->number > PUIGNEHT_REFUSED_SHEET) say_not_understood(s, r);
     else {
         put_with(s, "refused #: ", r->number, 0, 0);
         if (r->number < PUIGNEHT_REFUSED_NOT_DSF) say_of_call(s, r);
         else if (r->number > PUIGNEHT_REFUSED_NOT_WAV) say_of_converter(s, r);
+        else if (is_other_type(r)) say_other_type(s, &r->field);
         else if (r->number == PUIGNEHT_REFUSED_NOT_DSF) say_not_dsf(s, &r->field);
         else if (r->number == PUIGNEHT_REFUSED_DSF_FORMAT) say_format(s, &r->field);
         else if (r->number == PUIGNEHT_REFUSED_DSF_LENGTH) say_dsf_length(s, &r->field);

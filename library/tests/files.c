@@ -1,6 +1,4 @@
-/* Tries the calls of puigneht.h and puigneht/album.h that take files, and the sentences of their refusals. As C and as
- * C++. */
-#include <math.h>
+/* Tries the calls of puigneht.h that take files, and the sentences of their refusals. As C and as C++. */
 #include "try.h"
 
 enum { FRAMES = 300, CHANNELS = 2, SIZE = 4704 * CHANNELS };
@@ -129,37 +127,18 @@ static const struct {
     {84, 8, 12, 11, "refused 11: the data chunk says 12 bytes, and the file's samples need 2,826,252: a damaged file?"},
 };
 
-static int reading(void *context, uint64_t place, uint8_t *bytes, size_t count) {
-    const puigneht_dsf_part *part = (const puigneht_dsf_part *)context;
-    if (place > part->window_len || count > part->window_len - place) return 1;
-    memcpy(bytes, part->window + place, count);
-    return 0;
-}
-
-static puigneht_source source_of(puigneht_dsf_part *part, uint8_t *bytes, size_t length) {
-    puigneht_source s = {reading, part, length};
-    part->window = bytes;
-    part->window_len = length;
-    return s;
-}
-
 static void broken_files(void) {
     uint8_t *bad = (uint8_t *)room_for(file_len), one[1];
-    puigneht_dsf_part part;
-    puigneht_album a;
     puigneht_dsf d, kept;
     puigneht_refusal r;
     memset(&d, 3, sizeof d), kept = d;
     for (size_t k = 0; k < sizeof broken / sizeof *broken; k++) {
-        puigneht_source s = source_of(&part, bad, file_len);
         memcpy(bad, file, file_len);
         put(bad + broken[k].place, broken[k].size, broken[k].value);
         REFUSED(puigneht_dsf_read(bad, file_len, &d, &r), broken[k].number, broken[k].sentence);
         EXPECT(r.field.place == (broken[k].place == 52 ? 48 : (uint64_t)broken[k].place));
         REFUSED(puigneht_dsf_read_header(bad, 92, file_len, &d, &r), broken[k].number, broken[k].sentence);
         REFUSED(puigneht_dsf_frame(bad, file_len, 0, one, 1, &r), broken[k].number, broken[k].sentence);
-        REFUSED(puigneht_album_open(&a, &s, 88200, 0, 0, &r), broken[k].number, broken[k].sentence);
-        EXPECT(r.call == PUIGNEHT_CALL_ALBUM_OPEN && r.length == file_len);
     }
     memcpy(bad, file, file_len);
     put(bad + 12, 8, file_len - 5000);
@@ -169,8 +148,6 @@ static void broken_files(void) {
             "refused 11: the file says 2,826,332 bytes and has 2,826,331: an incomplete upload?");
     REFUSED(puigneht_dsf_read(file, 40, &d, &r), 9, NOT "it has 40 bytes, and a header has 92");
     EXPECT(!memcmp(&d, &kept, sizeof d));
-    puigneht_source s = source_of(&part, file, 40);
-    REFUSED(puigneht_album_open(&a, &s, 88200, 0, 0, &r), 9, NOT "it has 40 bytes, and a header has 92");
     free(bad);
 }
 
@@ -244,171 +221,12 @@ static void long_wavs(void) {
     }
 }
 
-/* ---- albums */
-
-static uint64_t failing; /* the place at which the caller's `read` fails */
-static int read_or_fail(void *context, uint64_t place, uint8_t *bytes, size_t count) {
-    return place >= failing ? 1 : reading(context, place, bytes, count);
-}
-
-static void album_of(uint32_t rate, uint32_t cutoff, int32_t decibels, puigneht_source *source,
-                     puigneht_memory *memory) {
-    puigneht_settings s = puigneht_default_settings();
-    puigneht_converter c;
-    puigneht_album a;
-    puigneht_piece p;
-    puigneht_refusal r;
-    puigneht_stats all, joined = puigneht_no_stats();
-    uint64_t next = 0;
-    s.rate = rate, s.cutoff = cutoff, s.decibels = decibels;
-    EXPECT(puigneht_open(&c, &s, NULL) == 0 && puigneht_album_open(&a, source, rate, cutoff, decibels, &r) == 0 &&
-           r.number == 0);
-    puigneht_run run = puigneht_cut(&c, frames, (size_t)SIZE * FRAMES, 0, FRAMES);
-    const size_t length = puigneht_bytes_of(&c, FRAMES) + 44;
-    uint8_t *wav = (uint8_t *)room_for(length), *made = (uint8_t *)room_for(length);
-    puigneht_packed out = puigneht_into(wav, length);
-    EXPECT(puigneht_wav_convert(&c, &run, &out, &all, NULL) == 0 && puigneht_album_wav_bytes(&a) == length &&
-           puigneht_album_header(&a, made, &r) == 0);
-    EXPECT(a.numbers.channels == 2 && a.numbers.frames == FRAMES && a.numbers.filled == 0 && a.numbers.pieces == 3 &&
-           a.rate == rate && a.cutoff == cutoff);
-    for (uint64_t k = 0; k < a.numbers.pieces; k++) {
-        EXPECT(puigneht_album_piece(&a, k, memory, &p, &r) == 0 && p.first == next && p.place + p.length <= length &&
-               r.call == PUIGNEHT_CALL_ALBUM_PIECE);
-        EXPECT(p.length == puigneht_bytes_of(&c, (size_t)p.count) && puigneht_join_stats(&joined, &p.stats) == 0);
-        memcpy(made + p.place, p.bytes, p.length);
-        next += p.count;
-    }
-    EXPECT(next == FRAMES && !memcmp(made, wav, length) && !memcmp(&joined, &all, sizeof all));
-    REFUSED(puigneht_album_piece(&a, 3, memory, &p, &r), 5,
-            "refused 5: the album has no piece 3: they are counted from 0");
-    free(wav), free(made);
-}
-
-static const struct {
-    double decibels;
-    unsigned number;
-    const char *sentence;
-} no_gains[] = {{24.5, 3, "refused 3: the gain is not -120 to 24 decibels, but 24.5"},
-                {25, 3, "refused 3: the gain is not -120 to 24 decibels, but 25"},
-                {-120.25, 3, "refused 3: the gain is not -120 to 24 decibels, but -120.25"},
-                {4294967296, 3, "refused 3: the gain is not -120 to 24 decibels, but 4294967296"},
-                {-1e300, 3, "refused 3: the gain is not -120 to 24 decibels, but -1e+300"},
-                {HUGE_VAL, 3, "refused 3: the gain is not -120 to 24 decibels, but inf"},
-                {(double)NAN, 3, "refused 3: the gain is not -120 to 24 decibels, but nan"},
-                {-0.5, 255, "not understood: -0.5 decibels: an album takes whole ones"},
-                {23.75, 255, "not understood: 23.75 decibels: an album takes whole ones"},
-                {-119.5, 255, "not understood: -119.5 decibels: an album takes whole ones"}};
-
-/* An album whose rate was written after it was opened gives neither header nor piece. */
-static void written_albums(const puigneht_source *source, puigneht_memory *memory) {
-    static const uint32_t rates[] = {176400, 88200, 352801, 0};
-    static const char *sentence =
-        "not understood: a converter or an album that was not opened, or was written to since";
-    puigneht_album a;
-    puigneht_piece p, kept;
-    puigneht_refusal r;
-    uint8_t head[44], zeros[44] = {0};
-    memset(head, 0, sizeof head), memset(&p, 3, sizeof p), kept = p;
-    for (size_t k = 0; k < sizeof rates / sizeof *rates; k++) {
-        EXPECT(puigneht_album_open(&a, source, 352800, 1, 0, NULL) == 0);
-        a.rate = rates[k];
-        EXPECT(puigneht_album_piece(&a, 0, memory, &p, &r) == 255 && r.call == PUIGNEHT_CALL_ALBUM_PIECE);
-        EXPECT(puigneht_album_header(&a, head, &r) == 255 && r.number == 255 && r.rate == rates[k] && r.channels == 2);
-        if (k < 2) REFUSED(puigneht_album_header(&a, head, &r), 255, sentence);
-    }
-    a.rate = 352800, a.numbers.channels = 1;
-    REFUSED(puigneht_album_header(&a, head, &r), 255, sentence);
-    REFUSED(puigneht_album_piece(&a, 0, memory, &p, &r), 255, sentence);
-    memset(&a, 0, sizeof a);
-    EXPECT(puigneht_album_header(&a, head, NULL) == 255 && puigneht_album_header(&a, head, &r) == 255);
-    EXPECT(!memcmp(head, zeros, sizeof head) && !memcmp(&p, &kept, sizeof p));
-}
-
-static void albums(void) {
-    puigneht_memory *memory = (puigneht_memory *)room_for(sizeof *memory);
-    puigneht_dsf_part part;
-    puigneht_source source = source_of(&part, file, file_len), fails = source;
-    puigneht_album a, kept;
-    puigneht_piece p;
-    puigneht_refusal r;
-    album_of(88200, 0, 0, &source, memory);
-    album_of(176400, 2, -6, &source, memory);
-    album_of(352800, 1, 12, &source, memory);
-    EXPECT(puigneht_album_open(&a, &source, 352800, 1, 12, NULL) == 0);
-    kept = a;
-    REFUSED(puigneht_album_open(&a, &source, 88200, 2, 0, &r), 2, "refused 2: wide is for 176400 and 352800");
-    EXPECT(r.data[0] == 88200 && r.data[1] == 2);
-    for (size_t k = 0; k < sizeof no_gains / sizeof *no_gains; k++) {
-        REFUSED(puigneht_album_open(&a, &source, 88200, 0, no_gains[k].decibels, &r), no_gains[k].number,
-                no_gains[k].sentence);
-        EXPECT(!memcmp(&r.decibels, &no_gains[k].decibels, sizeof(double)));
-    }
-    for (int db = -120; db <= 24; db++)
-        EXPECT(puigneht_album_open(&a, &source, 352800, 1, db, NULL) == 0 && a.decibels == db);
-    EXPECT(puigneht_album_open(&a, &source, 352800, 1, -0.0, NULL) == 0 && a.decibels == 0);
-    a = kept;
-    REFUSED(puigneht_album_open(&a, &source, 48000, 0, 0, &r), 255,
-            "not understood: a rate of 48,000: there are 88,200, 176,400 and 352,800");
-    REFUSED(puigneht_album_open(&a, &source, 88200, 7, 0, &r), 255,
-            "not understood: cutoff 7: there are 0 standard, 1 low and 2 wide");
-    fails.read = read_or_fail, failing = 0;
-    REFUSED(puigneht_album_open(&a, &fails, 88200, 0, 0, &r), 254, "the album cannot be read");
-    EXPECT(!memcmp(&a, &kept, sizeof a));
-    failing = 2000000, a.source = fails, memset(&p, 3, sizeof p);
-    EXPECT(puigneht_album_piece(&a, 0, memory, &p, &r) == 0);
-    REFUSED(puigneht_album_piece(&a, 2, memory, &p, &r), 254, "the album cannot be read");
-    EXPECT(p.first == 0 && p.count == 128);
-    for (uint64_t parts = 1; parts <= 64; parts += 7) {
-        uint64_t next = 0;
-        for (uint64_t k = 0; k < parts; k++) {
-            puigneht_stretch s = puigneht_album_part(&a, parts, k);
-            EXPECT(s.begin == s.end || s.begin == next);
-            next = s.begin == s.end ? next : s.end;
-        }
-        EXPECT(next == 3 && puigneht_album_part(&a, parts, parts).end == 0);
-    }
-    memset(&a, 0, sizeof a), a.source = source;
-    REFUSED(puigneht_album_piece(&a, 0, memory, &p, &r), 255,
-            "not understood: a rate of 0: there are 88,200, 176,400 and 352,800");
-    a.numbers.channels = 3, a.rate = 88200, a.numbers.samples = 8 * 4704 * FRAMES, a.numbers.frame_bytes = 10584;
-    REFUSED(puigneht_album_piece(&a, 0, memory, &p, &r), 255,
-            "not understood: a converter or an album that was not opened, or was written to since");
-    written_albums(&source, memory);
-    free(memory);
-}
-
-/* Albums that a header alone tells: of other channels, and too long ones. */
-static void long_albums(void) {
-    static const struct {
-        uint64_t type, channels, frames;
-        uint32_t rate;
-        unsigned number;
-        const char *sentence;
-    } of[] = {{7, 6, 3, 88200, 12, "refused 12: 6 channels: the WAV file takes one or two"},
-              {2, 2, 540001, 88200, 5, "refused 5: 540,001 frames: at most 540,000 (two hours) are converted"},
-              {2, 2, 540000, 176400, 12,
-               "refused 12: 7,620,480,000 bytes of samples: a WAV file holds at most 4,294,967,259, which are 67:37 of "
-               "2 channels at 176,400"},
-              {2, 2, 540000, 88200, 0, "accepted"}};
-    for (size_t k = 0; k < sizeof of / sizeof *of; k++) {
-        const uint64_t bytes = of[k].frames * 4704, data = (bytes + 4095) / 4096 * 4096 * of[k].channels;
-        puigneht_dsf_part part;
-        puigneht_source s;
-        puigneht_album a;
-        puigneht_refusal r;
-        uint8_t head[92];
-        memcpy(head, file, 92);
-        put(head + 12, 8, 92 + data), put(head + 48, 4, of[k].type), put(head + 52, 4, of[k].channels),
-            put(head + 64, 8, 8 * bytes), put(head + 84, 8, 12 + data);
-        s = source_of(&part, head, 92), s.length = 92 + data;
-        REFUSED(puigneht_album_open(&a, &s, of[k].rate, 0, 0, &r), of[k].number, of[k].sentence);
-    }
-}
+/* ---- sentences */
 
 /* Any refusal has a sentence that fits, also in little room. */
 static void sentences(void) {
     char text[PUIGNEHT_DESCRIPTION_ROOM], small[12], whole[PUIGNEHT_DESCRIPTION_ROOM];
-    for (unsigned call = 0; call <= PUIGNEHT_CALL_ALBUM_PIECE; call++)
+    for (unsigned call = 0; call <= PUIGNEHT_CALL_ALBUM_HEADER; call++)
         for (unsigned n = 0; n < 256; n++)
             for (uint64_t place = 0; place < 93; place++) {
                 puigneht_refusal r;
@@ -433,8 +251,6 @@ int main(void) {
     uploads();
     wavs();
     long_wavs();
-    albums();
-    long_albums();
     sentences();
     free(frames), free(file);
     return done();

@@ -37,22 +37,37 @@ impl Stats {
             _ => self.empty[k - 18].into(),
         })
     }
-}
 
-/// The sheet of some statistics: a line for each of 1 to 6 channels (number, clips, lowest and highest before the clamp, or hyphens where there
-/// are no samples), and a line with the clips of these channels summed. Refused 20 where a number is too wide for its column.
-pub fn level_sheet(channels: u8, stats: &Stats) -> Result<String, Refusal> {
-    let mut out = vec![0; 43 * (usize::from(channels) + 1)];
-    let mut r = Refusal::of(Call::LevelSheet, out.len()).with(0, 0, channels);
-    let answer = calls::puigneht_level_sheet_call(channels, &stats.block(), &mut out, &mut r.data);
-    r.result(answer, out.into_iter().map(char::from).collect())
-}
+    /// Makes them those of both stretches: clips added, held at 2^64 - 1; the lowest and the highest of those that have
+    /// samples; the mark where neither has. Joined in whatever order, the pieces of a run have the run's own.
+    pub fn join(&mut self, more: &Stats) {
+        let mut joined = self.block();
+        let answer = calls::puigneht_join_stats_call(&mut joined, &more.block());
+        assert_eq!(answer, 0, "statistics with known marks are joined");
+        *self = Stats::of(joined);
+    }
 
-/// The statistics of two stretches as those of one: clips added, held at 2^64 - 1; the lowest and the highest of those that have samples; the mark
-/// where neither has. Joined in whatever order, the pieces of a run have the run's own statistics.
-pub fn join_stats(a: &Stats, b: &Stats) -> Stats {
-    let mut joined = a.block();
-    let answer = calls::puigneht_join_stats_call(&mut joined, &b.block());
-    assert_eq!(answer, 0, "statistics with known marks are joined");
-    Stats::of(joined)
+    /// Decibels, in tenths, by which a conversion is to be turned down so that no sample is clipped; 0 where none is.
+    pub fn turn_down(&self) -> f64 {
+        let over = |most: i64, end: i64| if most > end { (most as f64 + 0.5) / end as f64 } else { 1.0 };
+        let high = self.highest.into_iter().max().map_or(1.0, |most| over(most, 8_388_607));
+        let low = self.lowest.into_iter().min().map_or(1.0, |least| over(least.saturating_neg(), 8_388_608));
+        (200.0 * high.max(low).log10()).ceil() / 10.0
+    }
+
+    /// The level sheet: a line for each of 1 to 6 channels (number, clips, lowest and highest before the clamp, or hyphens
+    /// where there are no samples), and a line with the clips of these channels summed. Refused 1; 20 where a number is too
+    /// wide for its column.
+    ///
+    /// ```
+    /// let sheet = puigneht::Stats::default().sheet(1)?;
+    /// assert_eq!(sheet, "   0             0           -           -\n                 0                        \n");
+    /// # Ok::<(), puigneht::Refusal>(())
+    /// ```
+    pub fn sheet(&self, channels: u8) -> Result<String, Refusal> {
+        let mut out = vec![0; 43 * (usize::from(channels) + 1)];
+        let mut r = Refusal::of(Call::LevelSheet, out.len()).with(0, 0, channels.into());
+        let answer = calls::puigneht_level_sheet_call(channels, &self.block(), &mut out, &mut r);
+        r.result(answer, out.into_iter().map(char::from).collect())
+    }
 }

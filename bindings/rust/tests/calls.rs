@@ -1,115 +1,37 @@
-mod common;
-use common::{refused, refused_channels, refused_gain, unsupported};
-use puigneht::{
-    gain, pack_s24le, Converter, Cutoff, Refusal, Gain, PcmRate, Run, Settings, FRAME_BYTES,
-};
+use crate::common::{alone, noise, refused, refused_channels, refused_gain, unsupported, Open};
+use puigneht::{factor, pack_s24le, Cutoff, Rate, Refusal, Run, Settings, FRAME_BYTES};
 
-const RATES: [PcmRate; 3] = [PcmRate::Hz88200, PcmRate::Hz176400, PcmRate::Hz352800];
+const RATES: [Rate; 3] = [Rate::Hz88200, Rate::Hz176400, Rate::Hz352800];
 const CUTOFFS: [Cutoff; 3] = [Cutoff::Standard, Cutoff::Low, Cutoff::Wide];
 
 fn mono() -> Settings<'static> {
     Settings {
-        rate: PcmRate::Hz88200,
+        rate: Rate::Hz88200,
         cutoff: Cutoff::Standard,
         channels: 1,
-        gain: gain(0.0).unwrap(),
+        decibels: 0.0,
         taps: None,
     }
 }
 
-// A converter made by hand: the numbers of `mono` with any settings.
-fn by_hand(settings: Settings<'_>) -> Converter<'_> {
-    Converter {
-        settings,
-        ..mono().open().unwrap()
-    }
-}
-
-fn alone(frames: &[u8]) -> Run<'_> {
-    Run {
-        before: None,
-        frames,
-        after: None,
-    }
-}
-
-// Bytes without a pattern that matters.
-fn noise(n: usize) -> Vec<u8> {
-    let mut x = 1u32;
-    (0..n)
-        .map(|_| {
-            x = x.wrapping_mul(1664525).wrapping_add(1013904223);
-            (x >> 24) as u8
-        })
-        .collect()
-}
-
 #[test]
 fn gains() {
-    assert_eq!(
-        gain(0.0),
-        Ok(Gain {
-            db: 0.0,
-            linear: 1.0
-        })
-    );
-    assert!((gain(20.0).unwrap().linear - 10.0).abs() < 1e-9);
-    assert_eq!(gain(24.5), Err(refused_gain(24.5)));
-    assert_eq!(gain(f64::NEG_INFINITY), Err(refused_gain(f64::NEG_INFINITY)));
+    assert_eq!(factor(0.0), Ok(1.0));
+    assert!((factor(20.0).unwrap() - 10.0).abs() < 1e-9);
+    assert_eq!(factor(24.5), Err(refused_gain(24.5)));
+    assert_eq!(factor(f64::NEG_INFINITY), Err(refused_gain(f64::NEG_INFINITY)));
 }
 
-// Quiet, signalling and negative NaNs come back with their bits, from each call.
+// Quiet, signalling and negative NaNs come back with their bits.
 #[test]
 fn nans_keep_their_bits() {
-    let bits = |e: Refusal| {
-        assert_eq!((e.number, e.data), (3, [0; 2]));
-        e.decibels.to_bits()
-    };
-    let frames = noise(FRAME_BYTES);
-    for nan in [
-        0x7ff8_0000_0000_0000,
-        0x7ff0_0000_0000_0001,
-        0xfff8_0000_0000_0123,
-        0xfff0_0000_0000_0001,
-        0x7ff8_dead_0000_beef,
-    ] {
-        let db = f64::from_bits(nan);
-        assert_eq!(bits(gain(db).unwrap_err()), nan);
-        let settings = Settings {
-            gain: Gain { db, linear: 1.0 },
-            ..mono()
-        };
-        assert_eq!(bits(settings.open().unwrap_err()), nan);
-        let conv = by_hand(settings);
-        assert_eq!(
-            bits(
-                conv.convert_run(alone(&frames), &mut [0; 1176])
-                    .unwrap_err()
-            ),
-            nan
-        );
-        assert_eq!(
-            bits(
-                conv.convert_frame(alone(&frames), &mut [0; 1176])
-                    .unwrap_err()
-            ),
-            nan
-        );
-        assert_eq!(
-            bits(
-                conv.convert(alone(&frames), &mut [0; 3528], None)
-                    .unwrap_err()
-            ),
-            nan
-        );
-        let settings = Settings {
-            gain: Gain {
-                db: -0.0,
-                linear: db,
-            },
-            ..mono()
-        };
-        assert_eq!(bits(settings.open().unwrap_err()), (-0.0f64).to_bits());
+    for nan in [0x7ff8_0000_0000_0000, 0x7ff0_0000_0000_0001, 0xfff8_0000_0000_0123, 0xfff0_0000_0000_0001, 0x7ff8_dead_0000_beef] {
+        let decibels = f64::from_bits(nan);
+        let mut conv = mono().open().unwrap();
+        let opened = Settings { decibels, ..mono() }.open();
+        for e in [factor(decibels).unwrap_err(), opened.unwrap_err(), conv.change(Rate::Hz88200, Cutoff::Low, decibels).unwrap_err()] {
+            assert_eq!((e.number, e.data, e.decibels.to_bits()), (3, [0; 2], nan));
+        }
     }
 }
 
@@ -123,39 +45,30 @@ fn openings() {
                 ..mono()
             }
             .open();
-            if rate == PcmRate::Hz88200 && cutoff == Cutoff::Wide {
+            if rate == Rate::Hz88200 && cutoff == Cutoff::Wide {
                 assert_eq!(opened, Err(unsupported(rate, cutoff)));
             } else {
-                assert_eq!(opened.unwrap().samples_per_frame, samples_per_frame);
+                assert_eq!(opened.unwrap().samples_per_frame(), samples_per_frame);
             }
         }
     }
     let settings = Settings {
-        rate: PcmRate::Hz352800,
+        rate: Rate::Hz352800,
         cutoff: Cutoff::Low,
         channels: 6,
         ..mono()
     };
-    assert_eq!(
-        settings.open(),
-        Ok(Converter {
-            settings,
-            samples_per_frame: 4704,
-            reach: 195,
-            frame_length: 28224
-        })
-    );
+    let opened = settings.open().unwrap();
+    assert_eq!((opened.samples_per_frame(), opened.reach(), opened.frame_bytes()), (4704, 195, 28224));
+    assert_eq!((opened.rate(), opened.cutoff(), opened.channels()), (Rate::Hz352800, Cutoff::Low, 6));
+    assert_eq!((opened.decibels(), opened.factor(), opened.taps()), (0.0, 1.0, None));
     for channels in [0, 7, 255] {
         assert_eq!(
             Settings { channels, ..mono() }.open(),
             Err(refused_channels(channels))
         );
     }
-    let gain = Gain {
-        db: 1.0,
-        linear: 1.0,
-    };
-    assert_eq!(Settings { gain, ..mono() }.open(), Err(refused_gain(1.0)));
+    assert_eq!(Settings { decibels: 25.0, channels: 7, ..mono() }.open(), Err(refused_gain(25.0)));
 }
 
 // A refused call tells its lengths and writes nothing.
@@ -226,7 +139,7 @@ fn sentences() {
         "refused 2: wide is for 176400 and 352800"
     );
     assert_eq!(
-        gain(24.5).unwrap_err().to_string(),
+        factor(24.5).unwrap_err().to_string(),
         "refused 3: the gain is not -120 to 24 decibels, but 24.5"
     );
     assert_eq!(
@@ -275,7 +188,7 @@ fn sentences() {
 #[test]
 fn desk() {
     let conv = Settings {
-        gain: gain(6.0).unwrap(),
+        decibels: 6.0,
         ..mono()
     }
     .open()
@@ -289,7 +202,7 @@ fn desk() {
         let (mut a, mut b) = (vec![7; n * 3528], vec![9; n * 3528]);
         let (mut c, mut d) = (vec![7; n], vec![9; n]);
         let stats = conv.convert(run, &mut a, Some(&mut c)).unwrap();
-        assert_eq!(conv.convert_desk(run, &mut b, Some(&mut d)), Ok(stats));
+        assert_eq!(conv.desk(run, &mut b, Some(&mut d)), Ok(stats));
         assert_eq!((a, c), (b, d));
     }
     let mut out = [7; 9 * 3528];
@@ -298,14 +211,14 @@ fn desk() {
         ..alone(&nine)
     };
     assert_eq!(
-        conv.convert_desk(alone(&nine[1..]), &mut out, None),
+        conv.desk(alone(&nine[1..]), &mut out, None),
         Err(refused(4, 9 * FRAME_BYTES - 1, 0))
     );
-    assert_eq!(conv.convert_desk(wrong, &mut out, None), Err(refused(16, 0, 0)));
+    assert_eq!(conv.desk(wrong, &mut out, None), Err(refused(16, 0, 0)));
     assert_eq!(conv.convert(wrong, &mut out, None), Err(refused(13, 0, 0)));
     assert!(out.iter().all(|&b| b == 7));
     assert_eq!(
-        conv.convert_desk(wrong, &mut out, None).unwrap_err().to_string(),
+        conv.desk(wrong, &mut out, None).unwrap_err().to_string(),
         "refused 16: 9 frames: at most 8 at the listening desk"
     );
 }
@@ -331,11 +244,11 @@ fn pieces_join() {
                 rate,
                 cutoff,
                 channels: 2,
-                gain: gain(6.0).unwrap(),
+                decibels: 6.0,
                 taps: None,
             };
             let Ok(conv) = settings.open() else { continue };
-            let per = 2 * conv.samples_per_frame;
+            let per = 2 * conv.samples_per_frame();
             let mut whole = vec![0; 5 * per];
             let stats = conv.convert_run(alone(&frames), &mut whole).unwrap();
             let mut bytes = vec![0; 15 * per];
@@ -402,13 +315,13 @@ fn own_filters() {
     };
     let reach = |taps: &[i32], rate| {
         let taps = Some(taps);
-        Settings { rate, taps, ..mono() }.open().unwrap().reach
+        Settings { rate, taps, ..mono() }.open().unwrap().reach()
     };
-    assert_eq!(reach(&[1 << 24], PcmRate::Hz88200), 19);
-    assert_eq!(reach(&[1 << 24, 0, 0], PcmRate::Hz352800), 39);
+    assert_eq!(reach(&[1 << 24], Rate::Hz88200), 19);
+    assert_eq!(reach(&[1 << 24, 0, 0], Rate::Hz352800), 39);
     let mut longest = vec![0; 117];
     longest[0] = 1 << 24;
-    assert_eq!(reach(&longest, PcmRate::Hz176400), 251);
+    assert_eq!(reach(&longest, Rate::Hz176400), 251);
     assert_eq!(convert(Some(&longest)), convert(Some(&[1 << 24])));
     assert_ne!(convert(Some(&longest)), convert(None));
     let none: [i32; 0] = [];
@@ -424,8 +337,26 @@ fn own_filters() {
         assert_eq!(wrong.open(), Err(error));
         assert_eq!(Settings { cutoff: Cutoff::Low, ..wrong }.open(), Err(error));
         assert_eq!(Settings { channels: 7, ..wrong }.open(), Err(refused_channels(7)));
-        let mut out = [7; 1176];
-        assert_eq!(by_hand(wrong).convert_run(alone(&frame), &mut out), Err(error));
-        assert_eq!(out, [7; 1176]);
     }
+}
+
+// Which frames a cut has, and which next to them.
+#[test]
+fn what_is_cut() {
+    let conv = mono().open().unwrap();
+    let frames: Vec<u8> = (0..5).flat_map(|k| [k; FRAME_BYTES]).chain([9, 9]).collect();
+    let whole = &frames[..5 * FRAME_BYTES];
+    let told = |run: Run<'_>| [run.before, Some(run.frames), run.after].map(|it| it.map(|it| (it.first().copied(), it.len())));
+    let (one, two) = (FRAME_BYTES, 2 * FRAME_BYTES);
+    let at = |k, n| Some((Some(k), n));
+    assert_eq!(told(conv.cut(whole, 0, 5)), [None, at(0, 5 * one), None]);
+    assert_eq!(told(conv.cut(whole, 1, 2)), [at(0, one), at(1, two), at(3, one)]);
+    assert_eq!(told(conv.cut(whole, 4, usize::MAX)), [at(3, one), at(4, one), None]);
+    assert_eq!(told(conv.cut(whole, 9, 9)), [at(4, one), Some((None, 0)), None]);
+    assert_eq!(told(conv.cut(whole, 0, 0)), [None, Some((None, 0)), at(0, one)]);
+    assert_eq!(told(conv.cut(&frames, 1, 2)), [at(0, one), at(1, two + 2), at(3, one)]);
+    assert_eq!(told(conv.cut(&[], 3, 1)), [None, Some((None, 0)), None]);
+    assert_eq!(conv.runs(whole, 2).map(|run| run.frames.len()).collect::<Vec<_>>(), [two, two, one]);
+    assert_eq!(conv.runs(&frames, 5).map(|run| run.frames.len()).collect::<Vec<_>>(), [5 * one + 2, 2]);
+    assert_eq!(conv.runs(&[], 5).count(), 0);
 }

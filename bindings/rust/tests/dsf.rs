@@ -1,10 +1,9 @@
 //! DSF files through the library, against files that these tests lay out by themselves.
 
-mod common;
-use common::{refused, refused_channels};
+use crate::common::{refused, refused_channels};
 use puigneht::dsf::{
-    file_length, frame, give_up, give_up_header, read, read_header, window, window_frame, write, Header,
-    Upload, HEADER_BYTES,
+    file_length, frame, give_up, give_up_header, head, lay_out, read, read_header, window, window_frame, write, Header, Upload, HEADER_BYTES,
+    STRETCH_FRAMES,
 };
 use puigneht::FRAME_BYTES;
 
@@ -167,10 +166,9 @@ fn files_written() {
             let bytes = count * FRAME_BYTES;
             let frames: Vec<u8> = (0..count).flat_map(|f| wanted(channels, bytes, f)).collect();
             let mut by_hand = file(kind, channels, 1, bytes, 0);
-            for j in HEADER_BYTES..by_hand.len() {
-                let at = j - HEADER_BYTES;
+            for (at, byte) in by_hand[HEADER_BYTES..].iter_mut().enumerate() {
                 if at / 4096 / channels * 4096 + at % 4096 >= bytes {
-                    by_hand[j] = 0;
+                    *byte = 0;
                 }
             }
             let length = file_length(channels as u8, frames.len()).unwrap();
@@ -194,6 +192,8 @@ fn writing_refused_in_turn() {
     assert_eq!(write(1, &[0; 5], &mut out), Err(refused(4, 5, 0)));
     assert_eq!(write(1, &[], &mut out), Err(refused(7, 10, 92)));
     assert_eq!(file_length(0, 0), Err(refused_channels(0)));
+    let said = "refused 4: 5 bytes are not whole frames: a frame of 2 channels has 9,408 bytes";
+    assert_eq!(write(2, &[0; 5], &mut out).unwrap_err().to_string(), said);
     assert_eq!(file_length(1, 5), Err(refused(4, 5, 0)));
     assert_eq!(
         file_length(1, 540001 * FRAME_BYTES),
@@ -277,4 +277,24 @@ fn what_is_wrong_is_said() {
             assert_eq!(refusal.field[0], place);
         }
     }
+}
+
+// The header, and the data of stretches, end to end are the file.
+#[test]
+fn written_in_parts() {
+    let frames = crate::common::noise((STRETCH_FRAMES + 3) * FRAME_BYTES);
+    let mut whole = vec![0; file_length(1, frames.len()).unwrap()];
+    write(1, &frames, &mut whole).unwrap();
+    let mut parts = head(1, frames.len()).unwrap().to_vec();
+    for part in frames.chunks(STRETCH_FRAMES * FRAME_BYTES) {
+        let mut out = vec![7; file_length(1, part.len()).unwrap() - HEADER_BYTES];
+        lay_out(1, part, &mut out).unwrap();
+        parts.extend(out);
+    }
+    assert!(parts == whole);
+    assert_eq!(head(7, 0), Err(refused_channels(7)));
+    assert_eq!(head(1, 5), Err(refused(4, 5, 0)));
+    assert_eq!(lay_out(2, &frames[..5], &mut []), Err(refused(4, 5, 0)));
+    assert_eq!(lay_out(1, &frames[..FRAME_BYTES], &mut [0; 5]), Err(refused(7, 5, 8192)));
+    assert_eq!(lay_out(0, &[], &mut []).unwrap_err().to_string(), "refused 1: 0 channels: there may be 1 to 6");
 }

@@ -1,3 +1,4 @@
+use crate::common::numbers;
 use puigneht::{overs, End, Overs, Progress};
 
 const HIGH: i32 = 8_388_607;
@@ -17,14 +18,6 @@ fn thirds(samples: &[i32]) -> Vec<usize> {
         start = end;
     }
     all
-}
-
-fn numbers(seed: u32) -> impl FnMut(usize) -> usize {
-    let mut x = seed;
-    move |n| {
-        x = x.wrapping_mul(1664525).wrapping_add(1013904223);
-        (x >> 16) as usize % n
-    }
 }
 
 // Signals with runs of every length, one to three channels, cut at random places: each piece has the overs whose third sample it has.
@@ -53,15 +46,15 @@ fn cut_anywhere() {
             let mut at = 0;
             while at < rows {
                 let n = 1 + some(rows - at);
-                let told = overs(
+                let (count, next) = overs(
                     &samples[at * channels..(at + n) * channels],
                     channels,
                     c,
                     state,
                 );
                 let here = all.iter().filter(|&&k| (at..at + n).contains(&k)).count();
-                assert_eq!(told.count, here as u64);
-                state = told.next;
+                assert_eq!(count, here as u64);
+                state = next;
                 at += n;
                 compared += 1;
             }
@@ -73,10 +66,7 @@ fn cut_anywhere() {
 #[test]
 fn in_progress() {
     let after = |end, length| Progress { end, length };
-    let told = |count, end, length| Overs {
-        count,
-        next: after(end, length),
-    };
+    let told = |count, end, length| (count, after(end, length));
     let none = Progress::default();
     assert_eq!(overs(&[HIGH; 2], 1, 0, none), told(0, End::High, 2));
     assert_eq!(overs(&[HIGH; 5], 1, 0, none), told(1, End::High, 3));
@@ -108,10 +98,7 @@ fn outside() {
         (state(End::Neither, 2), Progress::default()),
         (state(End::Low, 2), state(End::Low, 2)),
     ] {
-        let none = Overs {
-            count: 0,
-            next: counts,
-        };
+        let none = (0, counts);
         assert_eq!(overs(&[], 1, 0, given), none);
         assert_eq!(overs(&[HIGH; 8], 2, 2, given), none);
         assert_eq!(overs(&[HIGH; 8], 0, 0, given), none);
@@ -119,7 +106,58 @@ fn outside() {
         assert_eq!(overs(&[HIGH; 8], usize::MAX, usize::MAX - 1, given), none);
     }
     // A length over 3 is not a second over; items past the last whole row count for the channels that have one.
-    assert_eq!(overs(&[HIGH; 2], 1, 0, state(End::High, u64::MAX)).count, 0);
-    assert_eq!(overs(&[HIGH; 5], 2, 0, Progress::default()).count, 1);
-    assert_eq!(overs(&[HIGH; 5], 2, 1, Progress::default()).count, 0);
+    assert_eq!(overs(&[HIGH; 2], 1, 0, state(End::High, u64::MAX)).0, 0);
+    assert_eq!(overs(&[HIGH; 5], 2, 0, Progress::default()).0, 1);
+    assert_eq!(overs(&[HIGH; 5], 2, 1, Progress::default()).0, 0);
+}
+
+// What `Overs` carries: stretches of whole rows, joined; and stretches in any order, from the three rows before.
+#[test]
+fn carried() {
+    let mut some = numbers(7);
+    let mut found = 0;
+    for _ in 0..200 {
+        let channels = 1 + some(6);
+        let rows = 4 + some(60);
+        let mut held = vec![0; channels];
+        let mut samples = Vec::new();
+        for _ in 0..rows {
+            for value in held.iter_mut() {
+                if some(3) == 0 {
+                    *value = [HIGH, HIGH, LOW, HIGH - 1, LOW + 1, 0][some(6)];
+                }
+                samples.push(*value);
+            }
+        }
+        let own = |c: usize| samples.iter().skip(c).step_by(channels).copied().collect::<Vec<_>>();
+        let right: Vec<u64> = (0..channels).map(|c| thirds(&own(c)).len() as u64).collect();
+        let (mut uncut, mut cut, mut sum, mut at) = (Overs::new(channels), Overs::new(channels), vec![0; channels], 0);
+        assert_eq!(uncut.count(&samples), right);
+        while at < samples.len() {
+            let end = samples.len().min(at + channels * some(9));
+            let told = cut.count(&samples[at..end]);
+            sum.iter_mut().zip(told).for_each(|(a, b)| *a += b);
+            at = end;
+        }
+        assert_eq!((cut.counts(), sum), (right.clone(), right.clone()));
+        assert_eq!((cut.progress(), cut.total()), (uncut.progress(), right.iter().sum()));
+        found += cut.total();
+
+        let at = channels * (3 + some(rows - 3));
+        let (mut lead, mut first) = (Overs::new(channels), Overs::new(channels));
+        lead.count(&samples[at - 3 * channels..at]);
+        let mut rest = lead.from_here();
+        assert_eq!((rest.total(), rest.progress()), (0, lead.progress()));
+        first.count(&samples[..at]);
+        rest.count(&samples[at..]);
+        assert_eq!(first.counts().into_iter().zip(rest.counts()).map(|(a, b)| a + b).collect::<Vec<_>>(), right);
+    }
+    assert!(found > 100);
+    assert_eq!(Overs::new(0).count(&[]), []);
+}
+
+#[test]
+#[should_panic(expected = "whole turns")]
+fn no_whole_turns() {
+    Overs::new(2).count(&[HIGH; 3]);
 }

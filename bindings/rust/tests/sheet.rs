@@ -1,7 +1,6 @@
 //! The level sheet and joined statistics, against lines written by hand.
-mod common;
-use common::{refused, refused_channels};
-use puigneht::{join_stats, level_sheet, Stats};
+use crate::common::{refused, refused_channels};
+use puigneht::{Converter, Run, Settings, Stats, FRAME_BYTES};
 
 fn none() -> Stats {
     Stats {
@@ -23,25 +22,25 @@ fn lines() {
     // Under the mark no number is looked at.
     stats.lowest[1] = i64::MIN;
     let text = "   099999999999998-99999999999999999999999\n   1             1           -           -\n    99999999999999                        \n";
-    assert_eq!(level_sheet(2, &stats).as_deref(), Ok(text));
+    assert_eq!(stats.sheet(2).as_deref(), Ok(text));
 }
 
 #[test]
 fn refusals() {
     let mut stats = none();
-    assert_eq!(level_sheet(0, &stats), Err(refused_channels(0)));
-    assert_eq!(level_sheet(7, &stats), Err(refused_channels(7)));
+    assert_eq!(stats.sheet(0), Err(refused_channels(0)));
+    assert_eq!(stats.sheet(7), Err(refused_channels(7)));
     stats.clipped = [u64::MAX; 6];
-    assert_eq!(level_sheet(1, &stats), Err(refused(20, 0, 0)));
+    assert_eq!(stats.sheet(1), Err(refused(20, 0, 0)));
     stats.clipped = [50_000_000_000_000; 6];
-    assert!(level_sheet(1, &stats).is_ok());
-    assert_eq!(level_sheet(2, &stats), Err(refused(20, 0, 0)));
+    assert!(stats.sheet(1).is_ok());
+    assert_eq!(stats.sheet(2), Err(refused(20, 0, 0)));
     stats.clipped = [0; 6];
     stats.empty[0] = false;
     stats.lowest[0] = -100_000_000_000;
-    assert_eq!(level_sheet(1, &stats), Err(refused(20, 0, 0)));
+    assert_eq!(stats.sheet(1), Err(refused(20, 0, 0)));
     stats.lowest[0] = 1_000_000_000_000;
-    assert_eq!(level_sheet(1, &stats), Err(refused(20, 0, 0)));
+    assert_eq!(stats.sheet(1), Err(refused(20, 0, 0)));
 }
 
 #[test]
@@ -55,10 +54,34 @@ fn joined() {
     // Numbers under a mark do not count.
     (a.lowest[1], a.highest[1]) = (-100, 100);
     (a.lowest[2], b.highest[2]) = (-100, 100);
-    let both = join_stats(&a, &b);
+    let mut both = a;
+    both.join(&b);
     assert_eq!(both.clipped, [u64::MAX, 3, 3, 0, 0, 0]);
     assert_eq!(both.lowest, [-9, 3, 0, 0, 0, 0]);
     assert_eq!(both.highest, [7, 4, 0, 0, 0, 0]);
     assert_eq!(both.empty, [false, false, true, true, true, true]);
-    assert_eq!(join_stats(&none(), &none()), none());
+    let mut neither = none();
+    neither.join(&none());
+    assert_eq!(neither, Stats::default());
+}
+
+// By what is told nothing clips, and by two tenths less something does.
+#[test]
+fn turned_down() {
+    let clips = |byte: u8, decibels: f64| {
+        let full = [byte; FRAME_BYTES];
+        let run = Run { before: Some(&full), frames: &full, after: Some(&full) };
+        Converter::open(Settings { channels: 1, decibels, ..Settings::default() }).unwrap().convert_run(run, &mut [0; 1176]).unwrap()
+    };
+    assert_eq!(Stats::default().turn_down(), 0.0);
+    for (byte, decibels) in [(255, 0.0), (255, 6.0), (255, 23.99), (0, 0.0), (0, 0.05), (0, 6.1), (255, -1.0), (0, -90.0)] {
+        let stats = clips(byte, decibels);
+        let down = stats.turn_down();
+        assert_eq!(clips(byte, decibels - down).clipped[0], 0);
+        assert_eq!(down > 0.0, stats.clipped[0] > 0);
+        assert!(down <= 0.1 || clips(byte, decibels - down + 0.2).clipped[0] > 0);
+    }
+    let mut most = Stats::default();
+    most.lowest[3] = i64::MIN;
+    assert!(most.turn_down() > 200.0);
 }

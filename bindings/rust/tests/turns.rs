@@ -1,15 +1,14 @@
-mod common;
-use common::refused;
-use puigneht::{turns, Album, Turns};
+use crate::common::refused;
+use puigneht::{turns, Waiting, Turns};
 
-fn albums(of: &[(u64, u64)]) -> Vec<Album> {
+fn albums(of: &[(u64, u64)]) -> Vec<Waiting> {
     of.iter()
-        .map(|&(frames, due)| Album { frames, due })
+        .map(|&(frames, due)| Waiting { frames, due })
         .collect()
 }
 
 // The board turn by turn.
-fn by_turns(board: &[Album], turn: u64) -> Vec<Turns> {
+fn by_turns(board: &[Waiting], turn: u64) -> Vec<Turns> {
     let mut left: Vec<u64> = board.iter().map(|a| a.frames).collect();
     let mut finish = vec![0; board.len()];
     let mut now = 0;
@@ -51,8 +50,8 @@ fn as_turn_by_turn() {
     let mut compared = 0;
     for n in 1..=8 {
         for _ in 0..50 {
-            let board: Vec<Album> = (0..n)
-                .map(|_| Album {
+            let board: Vec<Waiting> = (0..n)
+                .map(|_| Waiting {
                     frames: 1 + some(40),
                     due: some(12),
                 })

@@ -1,47 +1,28 @@
 // WAV files through C: beside `convert`, back again, refused, and data over the limits in mappings that are never touched.
-mod common;
-use common::refused;
-use puigneht::wav::{convert, read, write, Wav, HEADER, MOST_DATA};
-use puigneht::{gain, Converter, Cutoff, PcmRate, Run, Settings, FRAME_BYTES};
+use crate::common::{alone, noise, refused, Open};
+use puigneht::wav::{header, read, write, Wav, HEADER, MOST_DATA};
+use puigneht::{Converter, Cutoff, Rate, Run, Settings, FRAME_BYTES};
 
-const RATES: [(PcmRate, u32, usize); 3] = [
-    (PcmRate::Hz88200, 88200, 1176),
-    (PcmRate::Hz176400, 176400, 2352),
-    (PcmRate::Hz352800, 352800, 4704),
+const RATES: [(Rate, u32, usize); 3] = [
+    (Rate::Hz88200, 88200, 1176),
+    (Rate::Hz176400, 176400, 2352),
+    (Rate::Hz352800, 352800, 4704),
 ];
 
-fn noise(n: usize) -> Vec<u8> {
-    let mut x = 1u32;
-    (0..n)
-        .map(|_| {
-            x = x.wrapping_mul(1664525).wrapping_add(1013904223);
-            (x >> 24) as u8
-        })
-        .collect()
-}
-
-fn converter(rate: PcmRate, channels: u8) -> Converter<'static> {
+fn converter(rate: Rate, channels: u8) -> Converter {
     Settings {
         rate,
         cutoff: Cutoff::Standard,
         channels,
-        gain: gain(0.0).unwrap(),
+        decibels: 0.0,
         taps: None,
     }
     .open()
     .unwrap()
 }
 
-fn alone(frames: &[u8]) -> Run<'_> {
-    Run {
-        before: None,
-        frames,
-        after: None,
-    }
-}
-
 // The header by hand.
-fn header(hertz: u32, channels: u8, n: usize) -> Vec<u8> {
+fn by_hand(hertz: u32, channels: u8, n: usize) -> Vec<u8> {
     let mut h = Vec::new();
     let sample = 3 * channels as u32;
     h.extend(b"RIFF");
@@ -74,11 +55,11 @@ fn files() {
                 let mut same = vec![0; frames];
                 let clipped = conv.convert(alone(&bytes), &mut plain, Some(&mut counts));
                 assert_eq!(
-                    convert(&conv, alone(&bytes), &mut file, Some(&mut same)),
+                    conv.convert_wav(alone(&bytes), &mut file, Some(&mut same)),
                     clipped
                 );
                 assert_eq!(same, counts);
-                assert_eq!(file, [header(hertz, channels, n), plain.clone()].concat());
+                assert_eq!(file, [by_hand(hertz, channels, n), plain.clone()].concat());
                 assert_eq!(
                     read(&file),
                     Ok(Wav {
@@ -90,6 +71,7 @@ fn files() {
                 let mut back = vec![0; HEADER + n];
                 assert_eq!(write(rate, channels, &plain, &mut back), Ok(()));
                 assert_eq!(back, file);
+                assert_eq!(header(rate, channels, n).unwrap(), file[..HEADER]);
                 assert_eq!(read(&file[..file.len() - 1]), Err(refused(12, 0, 0)));
                 file.push(0);
                 assert_eq!(read(&file), Err(refused(12, 0, 0)));
@@ -101,7 +83,7 @@ fn files() {
 // 12 comes after 8, 8 after 7, and 7 after the neighbours; a refused call keeps the output.
 #[test]
 fn refusals() {
-    let conv = converter(PcmRate::Hz88200, 3);
+    let conv = converter(Rate::Hz88200, 3);
     let frame = noise(3 * FRAME_BYTES);
     let n = 3 * 3 * 1176;
     let mut out = vec![7; HEADER + n];
@@ -111,7 +93,7 @@ fn refusals() {
         ..alone(&frame)
     };
     assert_eq!(
-        convert(&conv, wrong, &mut out[..n], Some(&mut [])),
+        conv.convert_wav(wrong, &mut out[..n], Some(&mut [])),
         Err(refused(13, 3 * FRAME_BYTES - 1, 0))
     );
     let wrong = Run {
@@ -119,24 +101,30 @@ fn refusals() {
         ..wrong
     };
     assert_eq!(
-        convert(&conv, wrong, &mut out[..n], Some(&mut [])),
+        conv.convert_wav(wrong, &mut out[..n], Some(&mut [])),
         Err(refused(14, 0, 0))
     );
     assert_eq!(
-        convert(&conv, alone(&frame), &mut out[..n], Some(&mut [])),
+        conv.convert_wav(alone(&frame), &mut out[..n], Some(&mut [])),
         Err(refused(7, n, HEADER + n))
     );
     assert_eq!(
-        convert(&conv, alone(&frame), &mut out, Some(&mut [])),
+        conv.convert_wav(alone(&frame), &mut out, Some(&mut [])),
         Err(refused(8, 0, 1))
     );
     assert_eq!(
-        convert(&conv, alone(&frame), &mut out, None),
+        conv.convert_wav(alone(&frame), &mut out, None),
         Err(refused(12, 0, 0))
     );
+    let told = conv.convert_wav(alone(&frame), &mut out, None).unwrap_err();
+    assert_eq!(told.to_string(), "refused 12: 3 channels: the WAV file takes one or two");
+    let told = conv.convert_wav(alone(&frame), &mut [0; 44], None).unwrap_err();
+    assert_eq!(told.to_string(), "refused 7: room for 44 bytes, where 10,628 are to be written");
     assert!(out.iter().all(|&b| b == 7));
-    let rate = PcmRate::Hz88200;
+    let rate = Rate::Hz88200;
     assert_eq!(write(rate, 0, &[], &mut out[..44]), Err(refused(12, 0, 0)));
+    assert_eq!(header(rate, 3, 0).unwrap_err().to_string(), "refused 12: 3 channels: the WAV file takes one or two");
+    assert_eq!(header(rate, 1, 3527), Err(refused(12, 0, 0)));
     assert_eq!(write(rate, 3, &[], &mut out[..44]), Err(refused(12, 0, 0)));
     assert_eq!(write(rate, 1, &[0; 3527], &mut []), Err(refused(12, 0, 0)));
     assert_eq!(

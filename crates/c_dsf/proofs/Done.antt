@@ -6,7 +6,7 @@ use Rattle.reference.specs.declared.PcmError.{PcmError}
 use Rattle.dsf.specs.Reading.{OpenedPromise, HeaderPromise, file_header}
 use Rattle.dsf.specs.declared.DsfHeader.{DsfHeader}
 use Rattle.dsf_frames.specs.Reading.{Framed}
-use Rattle.dsf_write.specs.Written.{written, file_length, length_places, write_places, LengthPromise, WritePromise}
+use Rattle.dsf_write.specs.Written.{head, laid_out, written, file_length, length_places, laid_places, write_places, LengthPromise, HeadPromise, LaidPromise, WritePromise}
 use Rattle.dsf_upload.specs.declared.Upload.{Upload}
 use Rattle.dsf_why.specs.Why.{why_of}
 use Rattle.dsf_why.specs.declared.Why.{Why}
@@ -25,6 +25,14 @@ frame_done places frame made p t = told_written made p.decided t p.written
 pub write_done : (channels : ℕ) (frames : List ℕ) {out out' data' : List ℕ} {answer : ℕ} (made : Result (Unit {0}) PcmError) → WritePromise channels frames out out' made
     → ToldData (decision made) answer data' → ToldWritten (decide (write_places channels frames (length out))) (written channels frames) out out' data' answer
 write_done channels frames made p t = told_written made p.decided t p.written_out
+
+pub head_done : (channels n : ℕ) {out out' data' : List ℕ} {answer : ℕ} (made : Result (Unit {0}) PcmError) → HeadPromise channels n out out' made → ToldData (decision made) answer data'
+    → ToldWritten (decide (length_places channels n)) (head channels n) out out' data' answer
+head_done channels n made p t = told_written made p.decided t p.written_out
+
+pub lay_out_done : (channels : ℕ) (frames : List ℕ) {out out' data' : List ℕ} {answer : ℕ} (made : Result (Unit {0}) PcmError) → LaidPromise channels frames out out' made
+    → ToldData (decision made) answer data' → ToldWritten (decide (laid_places channels frames (length out))) (laid_out channels frames) out out' data' answer
+lay_out_done channels frames made p t = told_written made p.decided t p.written_out
 
 pub length_done : (channels n : ℕ) {size size' data' : List ℕ} {answer : ℕ} (made : Result ℕ PcmError) → LengthPromise channels n made → ToldData (decision made) answer data'
     → size' ≡ if_ok (λ k. k ∷ []) made size → ToldWritten (decide (length_places channels n)) (file_length channels n ∷ []) size size' data' answer

@@ -7,7 +7,7 @@ use Rattle.dsf.specs.Reading.{file_header, header_places}
 use Rattle.dsf.specs.declared.DsfHeader.{DsfHeader}
 use Rattle.dsf_frames.specs.Reading.{frame_window, window_places, window_frame}
 use Rattle.dsf_frames.specs.declared.FrameWindow.{FrameWindow}
-use Rattle.dsf_write.specs.Written.{written, file_length, length_places, write_places}
+use Rattle.dsf_write.specs.Written.{head, laid_out, written, file_length, length_places, laid_places, write_places}
 use Rattle.dsf_upload.specs.Uploads.{UploadPromise, HeadPromise}
 use Rattle.dsf_upload.specs.declared.Upload.{Upload}
 use Rattle.dsf_upload.specs.declared.Upload.TheVariants.{Accepted, Unfinished, GiveUp}
@@ -52,6 +52,13 @@ WriteCall channels frames out = ToldWritten (decide (write_places channels frame
 
 abbrev pub LengthCall : ℕ → ℕ → List ℕ → List ℕ → List ℕ → ℕ → Type 0
 LengthCall channels n = ToldWritten (decide (length_places channels n)) (file_length channels n ∷ [])
+
+-- ---- and its parts: its first 92 bytes for so many bytes of frames, and the data of some frames
+abbrev pub HeadCall : ℕ → ℕ → List ℕ → List ℕ → List ℕ → ℕ → Type 0
+HeadCall channels n = ToldWritten (decide (length_places channels n)) (head channels n)
+
+abbrev pub LayOutCall : ℕ → List ℕ → List ℕ → List ℕ → List ℕ → ℕ → Type 0
+LayOutCall channels frames out = ToldWritten (decide (laid_places channels frames (length out))) (laid_out channels frames) out
 
 -- ---- an upload's answer: its number, and where it is given up
 abbrev pub upload_number : Upload → ℕ

@@ -101,6 +101,22 @@ pub fn write(channels: u8, frames: &[u8], out: &mut [u8], data: &mut [u64; 2]) -
     tell_data(&dsf_write::write(channels, frames, out), data)
 }
 
+// The first 92 bytes of the file of so many bytes of frames.
+#[tactic(auto, using(crate::proofs::Done::head_done))]
+pub fn head(channels: u8, bytes: usize, out: &mut [u8; 92], data: &mut [u64; 2]) -> u8
+    ensures { calls.HeadCall channels bytes out.old out.new «data».new result }
+{
+    tell_data(&dsf_write::head(channels, bytes, out), data)
+}
+
+// The data of some frames.
+#[tactic(auto, using(crate::proofs::Done::lay_out_done))]
+pub fn lay_out(channels: u8, frames: &[u8], out: &mut [u8], data: &mut [u64; 2]) -> u8
+    ensures { calls.LayOutCall channels frames.now out.old out.new «data».new result }
+{
+    tell_data(&dsf_write::lay_out(channels, frames, out), data)
+}
+
 // A length, or its refusal, which keeps the list of one number.
 fn tell_length(made: Result<usize, PcmError>, size: &mut [u64; 1], data: &mut [u64; 2]) -> u8
     ensures told_data { ToldData (decision made) result «data».new }

@@ -17,8 +17,9 @@ use Rattle.wav_format.proofs.Theorems.{read_exact}
 use Rattle.dsf_upload.proofs.Early.{one_answer}
 use Rattle.c_wav.specs.Calls.{ReadCall as WavReadCall, HeaderCall}
 use Rattle.c_dsf.specs.Calls.{WhyCall, GiveUpCall}
-use Rattle.c_album.specs.declared.Asked.{Asked}
-use Rattle.c_album.specs.Calls.{OpenCall as AlbumCall, PieceCall, Lists, StepCall}
+use Rattle.c_tracks.specs.Asked.{Asked}
+use Rattle.c_tracks.specs.Calls.{Outputs, OpenCall as AlbumCall, PieceCall}
+use Rattle.c_tracks.specs.Steps.{Lists, FramesCall, StepCall}
 
 -- the answers are equal, and what R says holds, if both follow in either case of the call
 call_exact : (u : Bool) {a a' : ℕ} {K K' D D' R : Type 0} → Call u a K D → Call u a' K' D' → (K → K' → R) → (D → D' → (a ≡ a') × R) → (a ≡ a') × R
@@ -87,26 +88,36 @@ module _ (frames dues : List ℕ) (turn : ℕ) (finishes f f' : List ℕ) (late 
 
 -- ---- about an album
 
-module _ (w : Asked) (head : List ℕ) (n : ℕ) (a a' : ℕ) where
-  pub album_exact : (album x y said s s' : List ℕ) → AlbumCall w head n album x said s a → AlbumCall w head n album y said s' a' → (a ≡ a') × ((x ≡ y) × (s ≡ s'))
-  album_exact album x y said s s' p q =
-      call_exact _ p q (λ k m. (k.0 ∙ sym m.0, k.1 ∙ sym m.1)) (λ k m. (k.number ∙ sym m.number, (k.written ∙ sym m.written, k.said ∙ sym m.said)))
+module _ (w : Asked) (a a' : ℕ) where
+  pub album_exact : (old x y : Outputs) → AlbumCall w old x a → AlbumCall w old y a' → (a ≡ a') × (x ≡ y)
+  album_exact old x y p q =
+      call_exact _ p q (λ k m. k ∙ sym m)
+      (λ k m.
+      let t = whole_exact k.told m.told in
+      let b = k.written ∙ sym m.written in
+      let c = k.marked ∙ sym m.marked in
+      let e = k.named ∙ sym m.named in
+      (t.0, λ i. record { album = b i; marks = c i; track = e i; «data» = t.1.0 i; decibels = t.1.1 i }))
 
-  pub step_exact : (first count : ℕ) (window : List ℕ) (start : ℕ) (l m m' : Lists) (old r r' : Results) → StepCall w head n first count window start l m old r a
-      → StepCall w head n first count window start l m' old r' a' → (a ≡ a') × ((m ≡ m') × (r ≡ r'))
-  step_exact first count window start l m m' old r r' p q =
+  pub piece_exact : (i : ℕ) (plan x y reads r r' : List ℕ) → PieceCall w i plan x reads r a → PieceCall w i plan y reads r' a' → (a ≡ a') × ((x ≡ y) × (r ≡ r'))
+  piece_exact i plan x y reads r r' p q =
+      call_exact _ p q (λ k m. (k.0 ∙ sym m.0, k.1 ∙ sym m.1)) (λ k m. (k.number ∙ sym m.number, (k.planned ∙ sym m.planned, k.read ∙ sym m.read)))
+
+  pub frames_exact : (first count : ℕ) (windows scratch x y d₀ d d' : List ℕ) (f₀ f f' : List Float) → FramesCall w first count windows scratch x d₀ d f₀ f a
+      → FramesCall w first count windows scratch y d₀ d' f₀ f' a' → (a ≡ a') × ((x ≡ y) × ((d ≡ d') × (f ≡ f')))
+  frames_exact first count windows scratch x y d₀ d d' f₀ f f' p q =
+      call_exact _ p q (λ k m. (k.0 ∙ sym m.0, (k.1 ∙ sym m.1, k.2 ∙ sym m.2)))
+      (λ k m. let t = whole_exact k.told m.told in (t.0, (k.gathered ∙ sym m.gathered, t.1)))
+
+  pub step_exact : (first count : ℕ) (windows : List ℕ) (l m m' : Lists) (old r r' : Results) → StepCall w first count windows l m old r a
+      → StepCall w first count windows l m' old r' a' → (a ≡ a') × ((m ≡ m') × (r ≡ r'))
+  step_exact first count windows l m m' old r r' p q =
       call_exact _ p q (λ x y. (x.0 ∙ sym y.0, x.1 ∙ sym y.1))
       (λ x y.
       let t = conversion_exact x.done y.done in
+      let s = x.gathered ∙ sym y.gathered in
       let o = x.written ∙ sym y.written in
-      let b = x.in_before ∙ sym y.in_before in
-      let f = x.in_frames ∙ sym y.in_frames in
-      let g = x.in_after ∙ sym y.in_after in
-      (t.0, ((λ i. record { before = b i; frames = f i; after = g i; out = o i }), t.1)))
-
-module _ (rate channels samples i : ℕ) (told x y : List ℕ) (a a' : ℕ) where
-  pub piece_exact : PieceCall rate channels samples i told x a → PieceCall rate channels samples i told y a' → (a ≡ a') × (x ≡ y)
-  piece_exact p q = call_exact _ p q (λ k l. k ∙ sym l) (λ k l. (k.0 ∙ sym l.0, k.1 ∙ sym l.1))
+      (t.0, ((λ i. record { scratch = s i; out = o i }), t.1)))
 
 -- ---- about files
 

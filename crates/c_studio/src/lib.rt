@@ -37,23 +37,29 @@ pub fn level_sheet(channels: u8, stats: &[u64; 24], out: &mut [u8], data: &mut [
     tell_data(&sheet::level_sheet(channels, known, out), data)
 }
 
-// What is in progress, by its end's number, if that is known, and its length: an end is 1 for the highest, 2 for the
-// lowest, and 0 for none.
-#[tactic(auto, unfolding(codes::specs::Codes::if_known, crate::specs::Progress::progress_of))]
-fn in_progress(end: u64, length: u64) -> Option<Progress>
-    ensures { result ≡ if_known (numbers.known_end end) (numbers.progress_of end «length») }
+// What is in progress, by its end's number and its length: an end is 1 for the highest, 2 for the lowest, and 0 for none.
+#[tactic(auto, unfolding(crate::specs::Progress::progress_of))]
+pub fn progress(end: u64, length: u64) -> Progress
+    ensures { result ≡ numbers.progress_of end «length» }
 {
     let at = |end| Some(Standing { end, length });
     match end {
-        0 => Some(None),
-        1 => Some(at(End::High)),
-        2 => Some(at(End::Low)),
-        _ => None,
+        0 => None,
+        1 => at(End::High),
+        _ => at(End::Low),
     }
 }
 
+// The same, if its end is known.
+#[tactic(auto, unfolding(codes::specs::Codes::if_known))]
+fn in_progress(end: u64, length: u64) -> Option<Progress>
+    ensures { result ≡ if_known (numbers.known_end end) (numbers.progress_of end «length») }
+{
+    (end < 3).then_some(progress(end, length))
+}
+
 // The end's number, and the length.
-fn standing(p: Progress) -> (u64, u64)
+pub fn standing(p: Progress) -> (u64, u64)
     ensures { result ≡ (numbers.end_number p, numbers.length_number p) }
 {
     let Some(s) = p else { return (0, 0) };

@@ -9,7 +9,7 @@ use Rattle.wav_format.specs.Wav.{wav_file}
 use Rattle.wav_format.specs.Places.{write_places}
 use Rattle.wav_format.specs.Promises.{ReadPromise, file_samples}
 use Rattle.wav_format.specs.declared.WavFormat.{WavFormat}
-use Rattle.album.specs.Album.{head_places}
+use Rattle.wav_heading.specs.Heading.{head_places}
 use Rattle.codes.specs.Codes.{rate_of, known_rate}
 use Rattle.codes.specs.Told.{if_ok, ToldWritten}
 

@@ -7,7 +7,7 @@ use Rattle.reference.specs.declared.PcmError.{PcmError}
 use Rattle.wav_header.specs.Header as wav
 use Rattle.wav_format.specs.Wav.{wav_file}
 use Rattle.wav_format.specs.Places.{write_places}
-use Rattle.album.specs.Album.{head_places}
+use Rattle.wav_heading.specs.Heading.{head_places}
 use Rattle.codes.specs.Codes.{rate_of}
 use Rattle.c_wav.specs.Calls.{rate_place}
 

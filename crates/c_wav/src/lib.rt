@@ -58,7 +58,7 @@ fn headed(rate: u64, channels: u8, bytes: u64, out: &mut [u8; 44]) -> Result<(),
     let Some(known) = rate_of(rate) else {
         return Err(PcmError::NotWav);
     };
-    album::header(known, channels, bytes, out)
+    wav_heading::header(known, channels, bytes, out)
 }
 
 // The first 44 bytes of a file with so many bytes of samples.

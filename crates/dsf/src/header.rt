@@ -46,7 +46,7 @@ fn tried(head: &[u8], total: u64) -> Result<(), PcmError>
 
 // The numbers in a header.
 #[tactic(auto, unfolding(crate::specs::Reading::file_header, crate::specs::Dsf::channel_type, crate::specs::Dsf::channels, crate::specs::Dsf::bits_per_sample, crate::specs::Dsf::samples, crate::specs::Dsf::frames, crate::specs::Dsf::frames_in))]
-fn numbers(head: &[u8]) -> DsfHeader
+pub fn header_numbers(head: &[u8]) -> DsfHeader
     ensures { result ≡ file_header head.now }
 {
     let samples = number(head, 64, 8);
@@ -64,7 +64,7 @@ pub fn read_header(head: &[u8], length: u64) -> Result<DsfHeader, PcmError>
     ensures { HeaderPromise head.now «length» result }
 {
     tried(head, length)?;
-    Ok(numbers(head))
+    Ok(header_numbers(head))
 }
 
 // What a file holds.

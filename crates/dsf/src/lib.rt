@@ -10,7 +10,7 @@ mod header;
 
 pub use bytes::number;
 pub use fields::{at_frequency, data_bytes, holds, laid_out, needs};
-pub use header::{read, read_header};
+pub use header::{header_numbers, read, read_header};
 
 // What a file holds: samples of one channel, and frames, the last perhaps short.
 #[derive(Clone, Copy)]

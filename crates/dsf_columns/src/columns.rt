@@ -11,7 +11,7 @@ pub struct Stretch<'a> {
 }
 
 // A contiguous piece through a table, into places at a stride.
-fn spread(src: &[u8], table: &[u8; 256], at: usize, stride: usize, out: &mut [u8])
+pub fn spread(src: &[u8], table: &[u8; 256], at: usize, stride: usize, out: &mut [u8])
     requires { (1 ≤ stride) × (at + length src.now * stride < length out.old + stride) × (length out.old + stride < 2 ^ 64) }
     ensures { Strided (λ i. get_or table.now (get_or src.now i 0) 0) at stride (length src.now) out.old out.new }
 {

@@ -5,4 +5,4 @@ mod bits;
 mod columns;
 
 pub use bits::order_table;
-pub use columns::{Channel, Stretch, column};
+pub use columns::{Channel, Stretch, column, spread};

@@ -3,3 +3,4 @@ pub mod Places
 pub mod Written
 pub mod Rewritten
 pub mod Writing
+pub mod Stretches

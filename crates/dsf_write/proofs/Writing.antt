@@ -1,14 +1,14 @@
 -- Writing: the header put in pieces, a byte of the data, and what the writer's places decide.
-use mathlib.Core.Path.{◌≡◌, refl, sym, ap, ap₂, ◌∙◌}
+use mathlib.Core.Path.{◌≡◌, refl, sym, ap, ◌∙◌}
 use mathlib.Core.List.{List, [], ◌∷◌, ◌++◌, append_assoc}
 use mathlib.Core.Bool.{not, ◌&&◌, and-false}
 use mathlib.Core.Logic.{◌≢◌, ⊎_elim}
 use Prim.Native.Nat.{ℕ, ◌+◌, ◌-◌, ◌*◌, ◌/◌, ◌%◌, ◌^◌, ◌≤◌, ◌<◌, min}
-use native.Mathlib.Nat.{add-mul, mul-le-mul, mul-le-mul_right, mod-lt, div-add-mod', mul_assoc, div-mul-le_self, div-lt_iff_lt-mul}
+use native.Mathlib.Nat.{zero-add, add-mul, mul-le-mul, mul-le-mul_right, mod-lt, div-add-mod', mul_assoc, div-mul-le_self, div-lt_iff_lt-mul}
 use native.Mathlib.Omega.{arith}
 use lib.Dec.{leb, ltb, lt→ltb, ltb→lt}
-use lib.ListN.{length, get_or, replicate, length-replicate, get_or-replicate, take, drop, take-append-drop, length-append, length-drop}
-use lib.Seq.{ext_get_or, get_or-take, get_or-drop, length-take-le}
+use lib.ListN.{length, get_or, replicate, length-replicate, get_or-replicate, take, drop, length-append, length-drop}
+use lib.Seq.{length-take-le, take-length}
 use borrow.Author.Tests.{le-leb, lt-leb, lt-ltb, le-ltb, eq-eqb, ne_eqb, eqb-true, leb-true, ltb-false, not-false}
 use borrow.Rule.Slice.PartMut.{put_mid}
 use Rattle.std.proofs.lemmas.Slice.{take-put_mid}
@@ -18,8 +18,9 @@ use Rattle.reference.specs.Frames.{frame_count}
 use Rattle.std.specs.Prelude.{Ok, Err}
 use Rattle.reference.specs.declared.PcmError.{PcmError}
 use Rattle.reference.specs.declared.PcmError.TheVariants.{OutputBytes}
+use Rattle.reference.specs.Promises.{by_decision}
 use Rattle.reference.proofs.Promises.{exit_accepted, exit_refused}
-use Rattle.reference.specs.Refusals.{Decision, accepted, refused, error_decision, place, decide, is_accepted, number, rack, run_length, lent_length}
+use Rattle.reference.specs.Refusals.{Decision, accepted, refused, error_decision, Place, place, decide, is_accepted, number, rack, run_length, lent_length}
 use Rattle.reference.proofs.Refusals.{error_refuses, at_first, at_next, at_end, pass, decide_skip, decide_stop}
 use Rattle.text.specs.Text.{text}
 use Rattle.text.specs.Bytes.{bytes}
@@ -30,7 +31,7 @@ use Rattle.dsf.specs.declared.BitOrder.TheVariants.{LowestFirst}
 use Rattle.dsf_columns.specs.Columns.{Ordering}
 use Rattle.dsf_columns.proofs.Blocks.{group}
 use Rattle.dsf_write.proofs.Pieces.{long_mid, wrote_piece}
-use Rattle.dsf_write.specs.Written.{type_of, data_channel, data_byte, written_channel, written_data, written_byte, written, file_length, length_places, write_places, WritePromise, Writable}
+use Rattle.dsf_write.specs.Written.{type_of, data_channel, data_byte, written_channel, written_data, written_byte, head, laid_out, written, file_length, length_places, write_places, laid_places, HeadPromise, LaidPromise, WritePromise, Writable}
 use Rattle.dsf_write.specs.Putting.{PutPromise, DataArgs, BlockArgs}
 use Rattle.dsf_write.proofs.Written.{by_channels}
 
@@ -134,24 +135,24 @@ module _ {n : ℕ} {fr : List ℕ} {m k out : ℕ} (a : BlockArgs n fr m k out) 
         let g : m ≤ (k * 4096 + i) / 4096 / n * 4096 + (k * 4096 + i) % 4096 = rw (t.0, t.1) (omega (arith, a.begun)) in
         byte_out n fr m (k * 4096 + i) a.bytes_are g
 
-    pub block_wrote : {live : ℕ} {old mid new : List ℕ} → live ≡ min 4096 (m - first) → Wrote 0 (λ i. get_or table (get_or fr (first * n + c + i * n) 0) 0) (92 + k * 4096) live old mid
-        → Wrote 0 (λ i. 0) (92 + k * 4096 + live) (4096 - live) mid new → Wrote 0 (λ i. written_byte n fr (k * 4096 + i)) (92 + k * 4096) 4096 old new
+    pub block_wrote : {live : ℕ} {old mid new : List ℕ} → live ≡ min 4096 (m - first) → Wrote 0 (λ i. get_or table (get_or fr (first * n + c + i * n) 0) 0) (k * 4096) live old mid
+        → Wrote 0 (λ i. 0) (k * 4096 + live) (4096 - live) mid new → Wrote 0 (λ i. written_byte n fr (k * 4096 + i)) (k * 4096) 4096 old new
     block_wrote {live} e v w =
         let s : live + (4096 - live) ≡ 4096 = omega arith in
         rw s at (wrote_then (wrote_as v (λ i l. live_byte i (omega arith) (omega arith))) w (λ i l. zero_byte (live + i) (omega arith) (omega arith)))
 
 -- the data's blocks
 module _ {n : ℕ} {fr : List ℕ} {m out : ℕ} (a : DataArgs n fr m out) where
-  data_is : out ≡ 92 + blocks m * n * 4096
+  data_is : out ≡ blocks m * n * 4096
   unfolding written_data data_bytes
   data_is =
       let e : 8 * written_channel n fr / 8 ≡ m = omega (arith, a.bytes_are) in
       a.lent ∙ rw e (omega (arith, group (blocks m) n))
 
-  pub whole_blocks : (out - 92) / 4096 * 4096 ≡ out - 92
+  pub whole_blocks : out / 4096 * 4096 ≡ out
   whole_blocks = omega (arith, data_is)
 
-  pub block_args : (k : ℕ) → k < (out - 92) / 4096 → BlockArgs n fr m k out
+  pub block_args : (k : ℕ) → k < out / 4096 → BlockArgs n fr m k out
   block_args k h =
       let l : k < blocks m * n = omega (arith, data_is) in
       let b : k / n < blocks m = (div-lt_iff_lt-mul a.one).1 l in
@@ -160,19 +161,18 @@ module _ {n : ℕ} {fr : List ℕ} {m out : ℕ} (a : DataArgs n fr m out) where
       begun : k / n < blocks m → k / n * 4096 < m
       begun b = unfold blocks in (omega arith)
 
+-- all of it
+pub laid_whole : (f : ℕ → ℕ) (old new : List ℕ) → Wrote 0 f 0 (length old) old new → new ≡ tabulate f 0 (length old)
+laid_whole f old new w = is_tabulate f 0 (length old) 0 new w.same (λ i l. rw (zero-add i) (rw (zero-add i) at (w.done i l)))
+
 -- ---- header and data
-pub whole_file : (h mid new : List ℕ) (f : ℕ → ℕ) (d : ℕ) → take 92 mid ≡ h → length mid ≡ 92 + d → Wrote 0 f 92 (length mid - 92) mid new → new ≡ h ++ tabulate f 0 d
-whole_file h mid new f d e l w =
-    let n : length new ≡ 92 + d = w.same ∙ l in
-    let front : take 92 new ≡ take 92 mid =
-    ext_get_or 0 (take 92 new) (take 92 mid) (length-take-le 92 new (omega arith) ∙ sym (length-take-le 92 mid (omega arith)))
-    (λ i k.
-    let s : i < 92 = omega (arith, length-take-le 92 new (omega arith)) in
-    get_or-take 92 new i 0 s ∙ w.kept i s ∙ sym (get_or-take 92 mid i 0 s)) in
-    let back : drop 92 new ≡ tabulate f 0 d =
-    is_tabulate f 0 d 0 (drop 92 new) (omega (arith, length-drop 92 new))
-    (λ i k. let z : 0 + i ≡ i = omega arith in rw z (get_or-drop 92 new i 0 ∙ w.done i (omega arith))) in
-    sym (take-append-drop 92 new) ∙ ap₂ (λ (u v : List ℕ). u ++ v) (front ∙ e) back
+pub whole_file : (h mid part : List ℕ) (k : ℕ) → take 92 mid ≡ h → length mid ≡ 92 + length part → k ≡ length part → put_mid 92 k mid part ≡ h ++ part
+whole_file h mid part k e l s =
+    let n : length (put_mid 92 k mid part) ≡ 92 + length part = long_mid 92 k mid part (omega (arith, l, s)) (sym s) ∙ l in
+    sym (take-length (put_mid 92 k mid part))
+    ∙ ap (λ (m : ℕ). take m (put_mid 92 k mid part)) n
+    ∙ take-put_mid 92 k mid part (92 + length part) refl (omega (arith, l))
+    ∙ ap (λ (u : List ℕ). u ++ part) e
 
 -- ---- the decision
 module _ (n b : ℕ) where
@@ -209,6 +209,10 @@ pub length_is : (n : ℕ) (fr : List ℕ) → file_length n (length fr) ≡ 92 +
 unfolding file_length written_data written_channel frame_count
 length_is n fr = refl
 
+-- the length of a list for a file, after its header was put
+pub long_after : (n : ℕ) (fr : List ℕ) {w out mid : List ℕ} → PutPromise 0 w out mid → length out ≡ file_length n (length fr) → length mid ≡ 92 + written_data n fr
+long_after n fr p e = p.same ∙ e ∙ length_is n fr
+
 -- what cannot be written is turned down
 pub accepted_few : (n b : ℕ) → decide (length_places n b) ≡ accepted → (1 ≤ n) × (n ≤ 6) × (b % (4704 * n) ≡ 0) × (b / (4704 * n) ≤ 540000)
 unfolding length_places
@@ -225,37 +229,76 @@ accepted_writable n fr e =
     let f = accepted_few n (length fr) e in
     record { one = f.0; six = f.1; whole = omega (arith, div-add-mod' (length fr) (4704 * n), f.2); few = f.3 }
 
--- ---- the writer's answer
+-- ---- answers: what is asked of n channels and b bytes, and then an output of some size, which `whole` fills
+module _ (n b size : ℕ) (whole out : List ℕ) where
+  abbrev places : List Place
+  places = length_places n b ++ (lent_length 7 (length out) size ∷ [])
+
+  down : (e : PcmError) → error_decision e ≡ decide (length_places n b) → (error_decision e ≡ decide places) × (out ≡ by_decision (decide places) whole out)
+  down e d =
+      let r = ap is_accepted (sym d) ∙ error_refuses e in
+      let s = decide_stop (length_places n b) (lent_length 7 (length out) size ∷ []) r in
+      (d ∙ sym s, sym (exit_refused _ whole out (ap is_accepted s ∙ r)))
+
+  module _ (e : decide (length_places n b) ≡ accepted) where
+    past : decide places ≡ decide (lent_length 7 (length out) size ∷ [])
+    past = decide_skip (length_places n b) _ e
+
+    wrong : length out ≢ size → (error_decision (OutputBytes (length out) size) ≡ decide places) × (out ≡ by_decision (decide places) whole out)
+    unfolding lent_length is_accepted
+    wrong h =
+        let w = past ∙ at_first _ _ (ap not (ne_eqb (length out) size h)) in
+        (sym w, sym (exit_refused _ whole out (ap is_accepted w)))
+
+    right_size : length out ≡ size → {new : List ℕ} → new ≡ whole → (accepted ≡ decide places) × (new ≡ by_decision (decide places) whole out)
+    unfolding lent_length
+    right_size h w =
+        let p = past ∙ at_next _ _ (ap not (eq-eqb (length out) size h)) ∙ at_end in
+        (sym p, w ∙ sym (exit_accepted _ whole out p))
+
+-- of a file
 module _ (n : ℕ) (fr out : List ℕ) where
   pub turned_down : (e : PcmError) → error_decision e ≡ decide (length_places n (length fr)) → WritePromise n fr out out (Err e)
   unfolding write_places
-  turned_down e d =
-      let r = ap is_accepted (sym d) ∙ error_refuses e in
-      let s = decide_stop (length_places n (length fr)) (lent_length 7 (length out) (file_length n (length fr)) ∷ []) r in
-      record { decided = d ∙ sym s; written_out = sym (exit_refused _ (written n fr) out (ap is_accepted s ∙ r)) }
+  turned_down e d = let a = down n (length fr) (file_length n (length fr)) (written n fr) out e d in record { decided = a.0; written_out = a.1 }
 
   module _ (e : decide (length_places n (length fr)) ≡ accepted) where
-    past : decide (write_places n fr (length out)) ≡ decide (lent_length 7 (length out) (file_length n (length fr)) ∷ [])
-    unfolding write_places
-    past = decide_skip (length_places n (length fr)) _ e
-
     pub wrong_output : length out ≢ file_length n (length fr) → WritePromise n fr out out (Err (OutputBytes (length out) (file_length n (length fr))))
-    unfolding lent_length is_accepted
-    wrong_output h =
-        let w = past ∙ at_first _ _ (ap not (ne_eqb (length out) (file_length n (length fr)) h)) in
-        record { decided = sym w; written_out = sym (exit_refused _ (written n fr) out (ap is_accepted w)) }
+    unfolding write_places
+    wrong_output h = let a = wrong n (length fr) (file_length n (length fr)) (written n fr) out e h in record { decided = a.0; written_out = a.1 }
 
     pub given : length out ≡ file_length n (length fr) → {new : List ℕ} → new ≡ written n fr → WritePromise n fr out new (Ok tt)
-    unfolding lent_length
-    given h w =
-        let p = past ∙ at_next _ _ (ap not (eq-eqb (length out) (file_length n (length fr)) h)) ∙ at_end in
-        record { decided = sym p; written_out = w ∙ sym (exit_accepted _ (written n fr) out p) }
+    unfolding write_places
+    given h w = let a = right_size n (length fr) (file_length n (length fr)) (written n fr) out e h w in record { decided = a.0; written_out = a.1 }
 
--- the header as it was put
-pub header_put : (stated n samples size : ℕ) (old new : List ℕ) → PutPromise 0 (header (bytes 8 stated) (bytes 8 0) (pair (type_of n) n) 1 (bytes 8 samples) (bytes 8 size)) old new
-    → take 92 new ≡ header (bytes 8 stated) (bytes 8 0) (pair (type_of n) n) 1 (bytes 8 samples) (bytes 8 size)
-unfolding header text bytes
-header_put stated n samples size old new p = p.put
+-- of the data alone
+module _ (n : ℕ) (fr out : List ℕ) where
+  pub laid_down : (e : PcmError) → error_decision e ≡ decide (length_places n (length fr)) → LaidPromise n fr out out (Err e)
+  unfolding laid_places
+  laid_down e d = let a = down n (length fr) (written_data n fr) (laid_out n fr) out e d in record { decided = a.0; written_out = a.1 }
+
+  module _ (e : decide (length_places n (length fr)) ≡ accepted) where
+    pub laid_wrong : length out ≢ written_data n fr → LaidPromise n fr out out (Err (OutputBytes (length out) (written_data n fr)))
+    unfolding laid_places
+    laid_wrong h = let a = wrong n (length fr) (written_data n fr) (laid_out n fr) out e h in record { decided = a.0; written_out = a.1 }
+
+    pub laid_given : length out ≡ written_data n fr → {new : List ℕ} → new ≡ laid_out n fr → LaidPromise n fr out new (Ok tt)
+    unfolding laid_places
+    laid_given h w = let a = right_size n (length fr) (written_data n fr) (laid_out n fr) out e h w in record { decided = a.0; written_out = a.1 }
+
+-- of the header alone
+module _ (n b : ℕ) (out : List ℕ) where
+  pub head_down : (e : PcmError) → error_decision e ≡ decide (length_places n b) → HeadPromise n b out out (Err e)
+  head_down e d = record { decided = d; written_out = sym (exit_refused _ (head n b) out (ap is_accepted (sym d) ∙ error_refuses e)) }
+
+  pub head_put : {new : List ℕ} → PutPromise 0 (head n b) out new → take 92 new ≡ head n b
+  unfolding head header text bytes
+  head_put p = p.put
+
+  pub head_given : decide (length_places n b) ≡ accepted → length out ≡ 92 → {new : List ℕ} → PutPromise 0 (head n b) out new → HeadPromise n b out new (Ok tt)
+  head_given e l {new} p =
+      let all : take 92 new ≡ new = ap (λ (m : ℕ). take m new) (sym (p.same ∙ l)) ∙ take-length new in
+      record { decided = sym e; written_out = sym all ∙ head_put p ∙ sym (exit_accepted _ (head n b) out e) }
 
 pub frames_fit : (n : ℕ) (fr : List ℕ) → length fr / (4704 * n) * 4704 * n ≤ length fr
 frames_fit n fr = omega (arith, mul_assoc (length fr / (4704 * n)) 4704 n, div-mul-le_self (length fr) (4704 * n))

@@ -14,7 +14,7 @@ pub record DataArgs (channels : ℕ) (bytes_in : List ℕ) (bytes out : ℕ) : T
   pub bytes_are : bytes ≡ written_channel channels bytes_in
   pub held : bytes * channels ≤ length bytes_in
   pub room : length bytes_in + channels < 2 ^ 64
-  pub lent : out ≡ 92 + written_data channels bytes_in
+  pub lent : out ≡ written_data channels bytes_in
 
 pub record BlockArgs (channels : ℕ) (bytes_in : List ℕ) (bytes block' out : ℕ) : Type 0 where
   pub one : 1 ≤ channels
@@ -22,4 +22,4 @@ pub record BlockArgs (channels : ℕ) (bytes_in : List ℕ) (bytes block' out : 
   pub held : bytes * channels ≤ length bytes_in
   pub room : length bytes_in + channels < 2 ^ 64
   pub begun : block' / channels * block < bytes
-  pub lent : 92 + block' * block + block ≤ out
+  pub lent : block' * block + block ≤ out

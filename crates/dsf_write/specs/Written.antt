@@ -38,6 +38,16 @@ module _ (channels : ℕ) (bytes_in : List ℕ) where
       header (bytes 8 (92 + written_data)) (bytes 8 0) (pair (type_of channels) channels) 1 (bytes 8 (8 * written_channel)) (bytes 8 (12 + written_data))
       ++ tabulate written_byte 0 written_data
 
+-- its parts: the 92 bytes before the data, of n bytes of frames, and the data
+unfoldable pub head : ℕ → ℕ → List ℕ
+head channels n =
+    let bytes_of = n / frame_length channels * frame_bytes in
+    let size = data_bytes (8 * bytes_of) channels in
+    header (bytes 8 (92 + size)) (bytes 8 0) (pair (type_of channels) channels) 1 (bytes 8 (8 * bytes_of)) (bytes 8 (12 + size))
+
+unfoldable pub laid_out : ℕ → List ℕ → List ℕ
+laid_out channels bytes_in = tabulate (written_byte channels bytes_in) 0 (written_data channels bytes_in)
+
 -- the length of the file of n bytes of frames
 unfoldable pub file_length : ℕ → ℕ → ℕ
 file_length channels n = 92 + data_bytes (8 * (n / frame_length channels * frame_bytes)) channels
@@ -54,6 +64,10 @@ length_places channels n =
 unfoldable pub write_places : ℕ → List ℕ → ℕ → List Place
 write_places channels bytes_in out = length_places channels (length bytes_in) ++ (lent_length 7 out (file_length channels (length bytes_in)) ∷ [])
 
+-- then an output for the data alone of another length
+unfoldable pub laid_places : ℕ → List ℕ → ℕ → List Place
+laid_places channels bytes_in out = length_places channels (length bytes_in) ++ (lent_length 7 out (written_data channels bytes_in) ∷ [])
+
 -- ---- what the writer's calls promise
 
 -- of the length needed
@@ -65,6 +79,16 @@ pub record LengthPromise (channels n : ℕ) (answer : Result ℕ PcmError) : Typ
 pub record WritePromise (channels : ℕ) (bytes_in out out' : List ℕ) (answer : Result (Unit {0}) PcmError) : Type 0 where
   pub decided : decision answer ≡ decide (write_places channels bytes_in (length out))
   pub written_out : out' ≡ by_decision (decide (write_places channels bytes_in (length out))) (written channels bytes_in) out
+
+-- of the header of so many bytes of frames
+pub record HeadPromise (channels n : ℕ) (out out' : List ℕ) (answer : Result (Unit {0}) PcmError) : Type 0 where
+  pub decided : decision answer ≡ decide (length_places channels n)
+  pub written_out : out' ≡ by_decision (decide (length_places channels n)) (head channels n) out
+
+-- of the data of some frames
+pub record LaidPromise (channels : ℕ) (bytes_in out out' : List ℕ) (answer : Result (Unit {0}) PcmError) : Type 0 where
+  pub decided : decision answer ≡ decide (laid_places channels bytes_in (length out))
+  pub written_out : out' ≡ by_decision (decide (laid_places channels bytes_in (length out))) (laid_out channels bytes_in) out
 
 -- ---- what the theorems speak of (proofs/Written, proofs/Rewritten)
 

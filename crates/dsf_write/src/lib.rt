@@ -3,14 +3,15 @@
 
 ghost use Rattle.std.specs.Prelude.{◌≡◌, ◌/◌, ◌*◌, ◌≤◌, length};
 ghost use Rattle.reference.specs.Refusals.{decide, decision};
-ghost use Rattle.dsf_write.specs.Written.{file_length, length_places, written, LengthPromise, WritePromise, Writable};
+ghost use Rattle.dsf_write.specs.Written.{file_length, length_places, written_data, head, laid_out, written, LengthPromise, HeadPromise, LaidPromise, WritePromise, Writable};
+ghost use Rattle.dsf_write.specs.Putting.{PutPromise};
 
-mod data;
 mod header;
+mod laid;
 
-use data::put_data;
 use dsf::data_bytes;
 use header::put_header;
+use laid::put_data;
 use reference::{Length, PcmError};
 
 // Channels and frames that can be written.
@@ -51,17 +52,55 @@ pub fn file_length(channels: u8, bytes: usize) -> Result<usize, PcmError>
     Ok(length_of(channels, bytes))
 }
 
+// The header of the file of so many bytes of frames that can be written, at the front of a list.
+fn put_head(channels: u8, bytes: usize, out: &mut [u8])
+    requires { (1 ≤ channels) × (channels ≤ 6) × (bytes / (4704 * channels) ≤ 540000) × (92 ≤ length out.old) }
+    ensures { PutPromise 0 (head channels bytes) out.old out.new }
+{
+    let samples = 8 * (bytes / (4704 * channels as usize) * 4704) as u64;
+    let need = data_bytes(samples, channels as u64);
+    put_header(channels, 92 + need, samples, 12 + need, out);
+}
+
+// The header of the file of so many bytes of frames.
+pub fn head(channels: u8, bytes: usize, out: &mut [u8; 92]) -> Result<(), PcmError>
+    ensures { HeadPromise channels bytes out.old out.new result }
+{
+    tried(channels, bytes)?;
+    put_head(channels, bytes, out);
+    Ok(())
+}
+
+// The data of frames that can be written, into a list of its length.
+fn fill_laid(channels: u8, frames: &[u8], out: &mut [u8])
+    requires { Writable channels frames.now × (length out.old ≡ written_data channels frames.now) }
+    ensures { out.new ≡ laid_out channels frames.now }
+{
+    let count = channels as usize;
+    let bytes = frames.len() / (4704 * count) * 4704;
+    put_data(frames, count, bytes, out);
+}
+
+// The data of some frames: what a file has after its header. Data of frames that are whole blocks, 128 or a multiple of
+// it, and of the frames after them, end to end, are the data of all.
+pub fn lay_out(channels: u8, frames: &[u8], out: &mut [u8]) -> Result<(), PcmError>
+    ensures { LaidPromise channels frames.now out.old out.new result }
+{
+    let expected = file_length(channels, frames.len())? - 92;
+    if out.len() != expected {
+        return Err(PcmError::OutputBytes(out.len(), expected));
+    }
+    fill_laid(channels, frames, out);
+    Ok(())
+}
+
 // The file of frames that can be written, into a list of its length.
 fn fill(channels: u8, frames: &[u8], out: &mut [u8])
     requires { Writable channels frames.now × (length out.old ≡ file_length channels (length frames.now)) }
     ensures { out.new ≡ written channels frames.now }
 {
-    let count = channels as usize;
-    let bytes = frames.len() / (4704 * count) * 4704;
-    let samples = 8 * bytes as u64;
-    let need = data_bytes(samples, channels as u64);
-    put_header(channels, 92 + need, samples, 12 + need, out);
-    put_data(frames, count, bytes, out);
+    put_head(channels, frames.len(), out);
+    fill_laid(channels, frames, &mut out[92..]);
 }
 
 // The file of some frames.

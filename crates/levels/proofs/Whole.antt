@@ -165,7 +165,7 @@ module _ (conv : Converter) (input : List ℕ) (f : ℕ) (piece : Run) (here : F
       rw (pick lesser, pick greater, channel_same c l) refl
 
   -- the piece's samples of a channel are the frame's
-  frame_channel : (c : ℕ) → c < ch → channel (samples conv piece) ch c ≡ tabulate (sample conv whole c) (f * per) per
+  pub frame_channel : (c : ℕ) → c < ch → channel (samples conv piece) ch c ≡ tabulate (sample conv whole c) (f * per) per
   unfolding frame_count
   frame_channel c l =
       let one : length piece.frames / frame_length ch * per ≡ per = rw (here.frames, frame_long ch input f here.inside, div_self {n = frame_length ch} (omega (arith, here.some_channel))) (one-mul per) in

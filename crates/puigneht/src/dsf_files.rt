@@ -89,6 +89,32 @@ pub extern "C" fn puigneht_dsf_write_call(
     c_dsf::write(channels, frames, out, data)
 }
 
+// The first 92 bytes of the file of so many bytes of frames.
+#[unsafe(no_mangle)]
+pub extern "C" fn puigneht_dsf_head_call(
+    channels: u8,
+    bytes: usize,
+    out: &mut [u8; 92],
+    data: &mut [u64; 2],
+) -> u8
+    ensures { dsf.HeadCall channels bytes out.old out.new «data».new result }
+{
+    c_dsf::head(channels, bytes, out, data)
+}
+
+// The data of some frames.
+#[unsafe(no_mangle)]
+pub extern "C" fn puigneht_dsf_lay_out_call(
+    channels: u8,
+    frames: &[u8],
+    out: &mut [u8],
+    data: &mut [u64; 2],
+) -> u8
+    ensures { dsf.LayOutCall channels frames.now out.old out.new «data».new result }
+{
+    c_dsf::lay_out(channels, frames, out, data)
+}
+
 // The length of the file of so many bytes of frames.
 #[unsafe(no_mangle)]
 pub extern "C" fn puigneht_dsf_length_call(

@@ -13,15 +13,17 @@ use c_calls::{Bytes, Samples, convert_bytes, convert_samples};
 use c_converter::{Blocks, Input};
 
 mod dsf_files;
+mod of_frames;
 mod studio;
 mod wav_files;
 
 pub use dsf_files::{
     puigneht_dsf_frame_call, puigneht_dsf_give_up_call, puigneht_dsf_give_up_header_call,
-    puigneht_dsf_length_call, puigneht_dsf_read_call, puigneht_dsf_read_header_call,
-    puigneht_dsf_why_call, puigneht_dsf_window_call, puigneht_dsf_window_frame_call,
-    puigneht_dsf_write_call,
+    puigneht_dsf_head_call, puigneht_dsf_lay_out_call, puigneht_dsf_length_call,
+    puigneht_dsf_read_call, puigneht_dsf_read_header_call, puigneht_dsf_why_call,
+    puigneht_dsf_window_call, puigneht_dsf_window_frame_call, puigneht_dsf_write_call,
 };
+pub use of_frames::{puigneht_frame_levels_call, puigneht_last_line_call};
 pub use studio::{
     puigneht_join_stats_call, puigneht_level_sheet_call, puigneht_overs_call, puigneht_turns_call,
 };

@@ -1,7 +1,7 @@
 -- The header, and how it is made of its three parts.
 use mathlib.Core.Path.{◌≡◌, refl, ap, ◌∙◌}
 use mathlib.Core.List.{List, ◌++◌}
-use Prim.Native.Nat.{ℕ}
+use Prim.Native.Nat.{ℕ, ◌+◌}
 use lib.ListN.{length, drop}
 use lib.Seq.{drop-drop}
 use borrow.Rule.Slice.PartMut.{put_mid}
@@ -18,11 +18,11 @@ length_header rate channels n = refl
 
 -- put one after the other into a list of 44 places or more
 pub three_parts : (rate channels n : ℕ) (out : List ℕ)
-    → put_mid 36 8 (put_mid 12 24 (put_mid 0 12 out (riff n)) (format rate channels)) (data_head n) ≡ header rate channels n ++ drop 44 out
+    → put_mid 36 8 (put_mid 12 24 (put_mid 0 12 out (riff (36 + n))) (format rate channels)) (data_head n) ≡ header rate channels n ++ drop 44 out
 unfolding header fields riff format data_head joined text bytes
 three_parts rate channels n out = ap (λ (l : List ℕ). header rate channels n ++ l) (ap (drop 8) (drop-drop 24 12 out) ∙ drop-drop 8 36 out)
 
 -- the parts as they were made, and what each copy left
-pub three_put : (rate : PcmRate) (channels n : ℕ) (out : List ℕ) {a : List ℕ} {hz : ℕ} {b d x y z : List ℕ} → a ≡ riff n → hz ≡ hertz rate → b ≡ format hz channels → d ≡ data_head n
+pub three_put : (rate : PcmRate) (channels n : ℕ) (out : List ℕ) {a : List ℕ} {hz : ℕ} {b d x y z : List ℕ} → a ≡ riff (36 + n) → hz ≡ hertz rate → b ≡ format hz channels → d ≡ data_head n
     → x ≡ a → y ≡ b → z ≡ d → put_mid 36 8 (put_mid 12 24 (put_mid 0 12 out x) y) z ≡ header (hertz rate) channels n ++ drop 44 out
 three_put rate channels n out ea eh eb ed ex ey ez = rw (ex, ey, ez, ea, eb, eh, ed) (three_parts (hertz rate) channels n out)

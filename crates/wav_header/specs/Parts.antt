@@ -1,11 +1,11 @@
--- The header's three parts. No promise speaks of them.
-use Rattle.std.specs.Prelude.{List, [], ◌∷◌, ℕ, ◌+◌, ◌*◌}
+-- The header's three parts.
+use Rattle.std.specs.Prelude.{List, [], ◌∷◌, ℕ, ◌*◌}
 use Rattle.text.specs.Text.{text, joined}
 use Rattle.text.specs.Bytes.{bytes}
 use Rattle.wav_header.specs.Header.{sample_bytes}
 
 unfoldable pub riff : ℕ → List ℕ
-riff n = joined (text "RIFF" ∷ bytes 4 (36 + n) ∷ text "WAVE" ∷ [])
+riff size = joined (text "RIFF" ∷ bytes 4 size ∷ text "WAVE" ∷ [])
 
 unfoldable pub format : ℕ → ℕ → List ℕ
 format rate channels =

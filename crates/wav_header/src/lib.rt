@@ -10,19 +10,18 @@ ghost use Rattle.wav_header.specs.Parts as parts;
 use reference::PcmRate;
 
 // `RIFF`, the size of all that follows, `WAVE`.
-fn riff(n: u64) -> [u8; 12]
-    requires { n ≤ most_data }
-    ensures { result ≡ parts.riff n }
+pub fn riff(size: u64) -> [u8; 12]
+    requires { size ≤ 4294967295 }
+    ensures { result ≡ parts.riff size }
 {
-    let size = 36 + n;
     let mut riff = *b"RIFF\0\0\0\0WAVE";
     riff[4..8].copy_from_slice(&(size as u32).to_le_bytes());
     riff
 }
 
 // `fmt `, its size, the tag, channels, rate, bytes a second, bytes of a sample of all channels, bits.
-fn format(rate: u64, channels: u64) -> [u8; 24]
-    requires { (rate ≤ 352800) × (channels ≤ 2) }
+pub fn format(rate: u64, channels: u64) -> [u8; 24]
+    requires { (rate ≤ 352800) × (channels ≤ 6) }
     ensures { result ≡ parts.format rate channels }
 {
     let sample = 3 * channels;
@@ -36,7 +35,7 @@ fn format(rate: u64, channels: u64) -> [u8; 24]
 }
 
 // `data`, and its size.
-fn data_head(n: u64) -> [u8; 8]
+pub fn data_head(n: u64) -> [u8; 8]
     ensures { result ≡ parts.data_head n }
 {
     let mut head = *b"data\0\0\0\0";
@@ -49,7 +48,8 @@ pub fn put_header(rate: PcmRate, channels: u8, n: usize, out: &mut [u8])
     requires { (channels ≤ 2) × (n ≤ most_data) × (44 ≤ length out.old) }
     ensures { out.new ≡ headers.header (hertz rate) channels n ++ drop 44 out.old }
 {
-    let first = riff(n as u64);
+    let size = 36 + n as u64;
+    let first = riff(size);
     let second = format(u64::from(rate), channels as u64);
     let third = data_head(n as u64);
     out[0..12].copy_from_slice(&first);

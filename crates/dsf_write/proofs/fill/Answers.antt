@@ -1,37 +1,31 @@
-use Rattle.std.proofs.Common.{◌≡◌, refl, ◌∙◌, arith}
+use Rattle.std.proofs.Common.{◌+◌, ◌∙◌, [], sym, ap, ℕ, arith}
 use Rattle.reference.specs.Frames.{frame_count}
-use Rattle.dsf_write.specs.Written.{written_channel, written_data, written_byte, written}
-use Rattle.dsf_write.proofs.Writing.{whole_file, header_put, frames_fit, frames_few, length_is}
+use Rattle.dsf_write.specs.Written.{head, written_data, laid_out}
+use Rattle.dsf_write.proofs.Writing.{whole_file, length_is, long_after, head_put, piece_long}
+use Rattle.dsf_write.proofs.Stretches.{written_parts, length_laid}
 use Rattle.dsf_write.proofs.fill.Goals as goal
 
-pub nonzero_div-bytes : goal.nonzero_div-bytes
-nonzero_div-bytes c = omega (arith, c.requires.0.one)
-
-pub overflow_mul-bytes-2 : goal.overflow_mul-bytes-2
+pub put_head-requires : goal.put_head-requires
 unfolding frame_count
-overflow_mul-bytes-2 c = omega (arith, c.requires.0.few)
+put_head-requires c =
+    (c.requires.0.one, c.requires.0.six, c.requires.0.few, omega (arith, c.requires.1, length_is c.args.channels c.args.frames.now))
 
-pub overflow_mul-samples : goal.overflow_mul-samples
-unfolding frame_count
-overflow_mul-samples c = omega (arith, c.requires.0.few)
+pub slice_bounds-fill_laid-count : goal.slice_bounds-fill_laid-count
+slice_bounds-fill_laid-count c = omega (arith, long_after _ c.args.frames.now c.put_head.ensures c.requires.1)
 
-pub put_header-requires : goal.put_header-requires
-put_header-requires c =
-    (c.requires.0.one, c.requires.0.six, omega (arith, c.requires.1, length_is c.args.channels c.args.frames.now))
+pub slice_bounds-fill_laid-start : goal.slice_bounds-fill_laid-start
+slice_bounds-fill_laid-start c = omega (arith, long_after _ c.args.frames.now c.put_head.ensures c.requires.1)
 
-pub put_data-requires : goal.put_data-requires
-unfolding frame_count written_channel
-put_data-requires c =
-    let n = c.args.channels in
-    let fr = c.args.frames.now in
-    record { one = c.requires.0.one; bytes_are = refl; held = frames_fit n fr; room = frames_few n fr c.requires.0; lent = c.put_header.ensures.same ∙ c.requires.1 ∙ length_is n fr }
+pub fill_laid-requires : goal.fill_laid-requires
+fill_laid-requires c =
+    let l = long_after _ c.args.frames.now c.put_head.ensures c.requires.1 in
+    (c.requires.0, piece_long 92 (written_data c.args.channels c.args.frames.now) _ c.put_head.new.out [] (omega (arith, l)) (omega (arith, l)))
 
 pub returns : goal.returns
-unfolding frame_count written_data written_channel written
 returns c =
     let n = c.args.channels in
     let fr = c.args.frames.now in
-    let e : c.data_bytes-need.result ≡ written_data n fr = c.data_bytes-need.ensures.0 in
-    let h = c.put_header.ensures in
-    let w = whole_file _ _ _ (written_byte n fr) (written_data n fr) (header_put _ _ _ _ _ _ h) (h.same ∙ c.requires.1 ∙ length_is n fr) c.put_data.ensures in
-    rw e at w
+    let l = long_after n fr c.put_head.ensures c.requires.1 in
+    let s = length_laid n fr in
+    rw c.fill_laid.ensures
+    (whole_file (head n _) c.put_head.new.out (laid_out n fr) _ (head_put n _ _ c.put_head.ensures) (l ∙ ap (λ (x : ℕ). 92 + x) (sym s)) (omega (arith, l, s)) ∙ sym (written_parts n fr))

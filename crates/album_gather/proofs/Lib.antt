@@ -1,4 +1,0 @@
-pub mod Fitting
-pub mod Gathered
-pub mod Sequences
-pub mod StepCalls

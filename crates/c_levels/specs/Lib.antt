@@ -1,0 +1,3 @@
+pub mod Standings
+pub mod Calls
+pub mod Theorems

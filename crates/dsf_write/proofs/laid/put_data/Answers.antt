@@ -1,0 +1,25 @@
+use Rattle.std.proofs.Common.{◌≡◌, ◌+◌, ◌*◌, length, arith, refl, subst}
+use Rattle.numbers.specs.Lists.{Wrote}
+use Rattle.dsf_write.specs.Written.{written_byte}
+use Rattle.numbers.proofs.Lists.{wrote_none}
+use Rattle.dsf_write.proofs.Writing.{wrote_then, whole_blocks, block_args}
+use Rattle.dsf_write.proofs.laid.put_data.Goals as goal
+
+pub loop-k-init : goal.loop-k-init
+loop-k-init c = wrote_none
+
+pub put_block-requires : goal.put_block-requires
+put_block-requires c = let l = c.loop-k in (c.order_table-table.ensures, rw l.invariant.same (block_args c.requires l.k c.loop-k-test.true))
+
+pub loop-k-preserved : goal.loop-k-preserved
+loop-k-preserved c =
+    let l = c.loop-k in
+    let e : l.k * 4096 + 4096 ≡ (l.k + 1) * 4096 = omega arith in
+    let z : l.k * 4096 ≡ 0 + l.k * 4096 = omega arith in
+    rw e at (wrote_then l.invariant (subst (λ at. Wrote 0 (λ i. written_byte c.args.channels c.args.frames.now (l.k * 4096 + i)) at 4096 l.out c.put_block.new.out) z c.put_block.ensures) (λ i h. refl))
+
+pub returns : goal.returns
+returns c =
+    let l = c.loop-k in
+    let e : l.k * 4096 ≡ length c.args.out.now = omega (arith, whole_blocks c.requires) in
+    rw e at l.invariant

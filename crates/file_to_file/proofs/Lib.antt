@@ -1,5 +1,0 @@
-pub mod FileToFile
-pub mod Planned
-pub mod CanBeMet
-pub mod Limits
-pub mod Called

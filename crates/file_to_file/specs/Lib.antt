@@ -1,3 +1,0 @@
-pub mod FileToFile
-pub mod Planned
-pub mod Limits

@@ -1,0 +1,9 @@
+pub mod Sequences
+pub mod StepCalls
+pub mod Bytes
+pub mod Marks
+pub mod Parts
+pub mod Opened
+pub mod TracksToFiles
+pub mod Windows
+pub mod OneTrack

@@ -1,0 +1,5 @@
+pub mod Runs
+pub mod Tracks
+pub mod TracksToFiles
+pub mod Windows
+pub mod OneTrack

@@ -1,0 +1,3 @@
+pub mod Promises
+pub mod Steps
+pub mod Slices

@@ -1,0 +1,16 @@
+pub mod Heads
+pub mod Joining
+pub mod Writes
+pub mod Calls
+pub mod PlanToFiles
+pub mod OneFile
+pub mod Headed
+pub mod Made
+pub mod Meeting
+pub mod CanBeMet
+pub mod Called
+pub mod Sheets
+pub mod Marked
+pub mod Steps
+pub mod Cut
+pub mod Frames

@@ -1,0 +1,10 @@
+pub mod Heads
+pub mod Calls
+pub mod PlanToFiles
+pub mod OneFile
+pub mod Headed
+pub mod CanBeMet
+pub mod Sheets
+pub mod Marked
+pub mod Steps
+pub mod Frames

@@ -1,0 +1,4 @@
+pub mod Choosing
+pub mod Putting
+pub mod Writing
+pub mod Laws
