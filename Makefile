@@ -88,8 +88,9 @@ check:
 test: faults library examples rust python pictures installed
 	@echo "test: passed; make check proves everything anew"
 
-library: $(LIBRARIES)
+library: target/puigneht
 	library/tests/run
+	library/tests/readme
 
 examples: target/puigneht
 	examples/faults
