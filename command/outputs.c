@@ -78,21 +78,24 @@ void unmake_all(struct outputs *o) {
 
 /* ---- names */
 
-/* What came meanwhile is looked at as what was there before; passed over, the file that was made is not needed. */
+/* What came meanwhile is looked at as what was there before, and may be gone again by then; passed over, the file that
+ * was made is not needed. */
 static void name_one(struct output *o, const struct asked *a, const struct inputs *in) {
-    if (name_new(&o->made)) return;
-    if (look_again(o, a, in)) {
-        name_over(&o->made);
-    } else {
-        unmake(&o->made);
-        o->way = KEPT;
+    while (!name_new(&o->made)) {
+        if (!look_again(o, a, in)) {
+            unmake(&o->made);
+            o->way = KEPT;
+            return;
+        }
+        if (a->there == REPLACE) return name_over(&o->made);
     }
 }
 
 static void name_sheet(struct outputs *o, const struct asked *a, const struct inputs *in) {
-    if (name_new(&o->sheet)) return;
-    if (look_at_sheet_again(o, a, in)) name_over(&o->sheet);
-    else unmake(&o->sheet);
+    while (!name_new(&o->sheet)) {
+        if (!look_at_sheet_again(o, a, in)) return unmake(&o->sheet);
+        if (a->there == REPLACE) return name_over(&o->sheet);
+    }
 }
 
 /* The WAV files of tracks stand in one folder. */
