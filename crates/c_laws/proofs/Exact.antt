@@ -5,24 +5,24 @@ use Rattle.reference.specs.Frames.{Run}
 use Rattle.reference.specs.Refusals.{Decision}
 use Rattle.reference.specs.declared.Converter.{Converter}
 use Rattle.codes.specs.Told.{ToldWhole, ToldWritten}
-use Rattle.codes.specs.Calls.{Call}
-use Rattle.c_converter.specs.Blocks.{Block, Input}
+use Rattle.codes.specs.Calls.{CCall}
+use Rattle.c_converter.specs.Blocks.{CConverter, Input}
 use Rattle.c_stats.specs.Conversions.{Results, ConversionDone}
 use Rattle.c_calls.specs.Calls.{GainCall, OpenCall, CWanted, ChangeCall, SamplesCall, BytesCall}
-use Rattle.c_calls.specs.declared.conversions.Samples.{Samples}
-use Rattle.c_calls.specs.declared.conversions.Bytes.{Bytes}
+use Rattle.c_calls.specs.declared.conversions.ToSamples.{ToSamples}
+use Rattle.c_calls.specs.declared.conversions.ToBytes.{ToBytes}
 use Rattle.c_studio.specs.Calls.{JoinCall, SheetCall, OversCall, TurnsCall}
-use Rattle.text.specs.Bytes.{Bytes as AreBytes}
+use Rattle.text.specs.Bytes.{ToBytes as AreBytes}
 use Rattle.wav_format.proofs.Theorems.{read_exact}
 use Rattle.dsf_upload.proofs.Early.{one_answer}
-use Rattle.c_wav.specs.Calls.{ReadCall as WavReadCall, HeaderCall}
+use Rattle.c_wav.specs.Calls.{ReadCall as WavReadCall, WavHeaderCall}
 use Rattle.c_dsf.specs.Calls.{WhyCall, GiveUpCall}
 use Rattle.c_tracks.specs.Asked.{Asked}
 use Rattle.c_tracks.specs.Calls.{Outputs, OpenCall as AlbumCall, PieceCall}
 use Rattle.c_tracks.specs.Steps.{Lists, FramesCall, StepCall}
 
 -- the answers are equal, and what R says holds, if both follow in either case of the call
-call_exact : (u : Bool) {a a' : ℕ} {K K' D D' R : Type 0} → Call u a K D → Call u a' K' D' → (K → K' → R) → (D → D' → (a ≡ a') × R) → (a ≡ a') × R
+call_exact : (u : Bool) {a a' : ℕ} {K K' D D' R : Type 0} → CCall u a K D → CCall u a' K' D' → (K → K' → R) → (D → D' → (a ≡ a') × R) → (a ≡ a') × R
 call_exact false p q kept done = let x = p.unclear refl in let y = q.unclear refl in (x.0 ∙ sym y.0, kept x.1 y.1)
 call_exact true p q kept done = done (p.done refl) (q.done refl)
 
@@ -46,7 +46,7 @@ module _ (db : Float) (gain g g' f f' : List Float) (a a' : ℕ) where
   pub gain_exact : GainCall db gain g f a → GainCall db gain g' f' a' → (a ≡ a') × ((g ≡ g') × (f ≡ f'))
   gain_exact p q = (p.told.number ∙ sym q.told.number, (p.written ∙ sym q.written, p.told.decibels ∙ sym q.told.decibels))
 
-module _ (b : Block) (o o' k n n' : List ℕ) (decibels f f' : List Float) (a a' : ℕ) where
+module _ (b : CConverter) (o o' k n n' : List ℕ) (decibels f f' : List Float) (a a' : ℕ) where
   pub open_exact : OpenCall b o k n decibels f a → OpenCall b o' k n' decibels f' a' → (a ≡ a') × ((o ≡ o') × (n ≡ n') × (f ≡ f'))
   open_exact p q =
       call_exact _ p q (λ x y. (x.0 ∙ sym y.0, x.1 ∙ sym y.1, x.2 ∙ sym y.2))
@@ -58,12 +58,12 @@ module _ (b : Block) (o o' k n n' : List ℕ) (decibels f f' : List Float) (a a'
       call_exact _ p q (λ x y. (x.0 ∙ sym y.0, x.1 ∙ sym y.1, x.2 ∙ sym y.2, x.3 ∙ sym y.3))
       (λ x y. let t = whole_exact x.told y.told in (t.0, (x.written ∙ sym y.written, x.amplified ∙ sym y.amplified, t.1.0, t.1.1)))
 
-module _ (b : Block) (i : Input) (old n n' : Results) (a a' : ℕ) where
-  pub samples_exact : (kind : Samples) (out o o' : List ℤ) → SamplesCall kind b i out o old n a → SamplesCall kind b i out o' old n' a' → (a ≡ a') × ((o ≡ o') × (n ≡ n'))
+module _ (b : CConverter) (i : Input) (old n n' : Results) (a a' : ℕ) where
+  pub samples_exact : (kind : ToSamples) (out o o' : List ℤ) → SamplesCall kind b i out o old n a → SamplesCall kind b i out o' old n' a' → (a ≡ a') × ((o ≡ o') × (n ≡ n'))
   samples_exact kind out o o' p q =
       call_exact _ p q (λ x y. (x.0 ∙ sym y.0, x.1 ∙ sym y.1)) (λ x y. let t = conversion_exact x.done y.done in (t.0, (x.written ∙ sym y.written, t.1)))
 
-  pub bytes_exact : (kind : Bytes) (out o o' counts c c' : List ℕ) → BytesCall kind b i out counts o c old n a → BytesCall kind b i out counts o' c' old n' a'
+  pub bytes_exact : (kind : ToBytes) (out o o' counts c c' : List ℕ) → BytesCall kind b i out counts o c old n a → BytesCall kind b i out counts o' c' old n' a'
       → (a ≡ a') × ((o ≡ o') × (c ≡ c') × (n ≡ n'))
   bytes_exact kind out o o' counts c c' p q =
       call_exact _ p q (λ x y. (x.0 ∙ sym y.0, x.1 ∙ sym y.1, x.2 ∙ sym y.2))
@@ -128,7 +128,7 @@ module _ (file told t t' : List ℕ) (a a' : ℕ) where
       (rw (p.number, e) (sym q.number), rw (p.written, e) (sym q.written))
 
 module _ (rate channels n : ℕ) (out o o' : List ℕ) (a a' : ℕ) where
-  pub header_exact : HeaderCall rate channels n out o a → HeaderCall rate channels n out o' a' → (a ≡ a') × (o ≡ o')
+  pub header_exact : WavHeaderCall rate channels n out o a → WavHeaderCall rate channels n out o' a' → (a ≡ a') × (o ≡ o')
   header_exact p q = (p.number ∙ sym q.number, p.written ∙ sym q.written)
 
 module _ (head : List ℕ) (n : ℕ) (t t' : List ℕ) (a a' : ℕ) where

@@ -13,7 +13,7 @@ use Rattle.dsf.specs.Reading.{header_places}
 use Rattle.tracks.specs.Tracks.{Head, head_length, tracks_converter, first_places, next_places, rest_places, tracks_places, open_places}
 use Rattle.tracks_step.specs.Promises.{piece_places, frames_places, step_places, piece_run}
 use Rattle.c_stats.specs.Stats.{stat_numbers}
-use Rattle.c_tracks.specs.Asked.{settings, heads}
+use Rattle.c_tracks.specs.Asked.{asked_settings, asked_heads}
 use Rattle.c_laws.specs.Steps.{StepIsStep}
 
 -- no place has the number 0
@@ -69,10 +69,10 @@ all_numbered hs s first count windows scratch out =
 pub step_is_step : StepIsStep
 step_is_step a first count windows l l' old new k call =
     let d = call.done k in
-    let told = stats (tracks_converter (settings a) (heads a)) (piece_run (heads a) first count windows) in
-    let places = step_places (heads a) (settings a) first count (length windows) (length l.scratch) (length l.out) in
+    let told = stats (tracks_converter (asked_settings a) (asked_heads a)) (piece_run (asked_heads a) first count windows) in
+    let places = step_places (asked_heads a) (asked_settings a) first count (length windows) (length l.scratch) (length l.out) in
     let taken : decide places ≡ accepted =
-    is_accepted_at places (all_numbered (heads a) (settings a) first count (length windows) (length l.scratch) (length l.out)) (sym d.done.told.told.number) in (
+    is_accepted_at places (all_numbered (asked_heads a) (asked_settings a) first count (length windows) (length l.scratch) (length l.out)) (sym d.done.told.told.number) in (
       record { decided = sym taken; named = _; counted = refl; gathered = d.gathered; written = d.written },
       d.done.counted ∙ exit_accepted (decide places) (stat_numbers told) old.stats taken,
     )

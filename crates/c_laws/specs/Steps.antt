@@ -6,11 +6,11 @@ use Rattle.tracks.specs.Tracks.{tracks_converter}
 use Rattle.tracks_step.specs.Promises.{piece_run, StepPromise}
 use Rattle.c_stats.specs.Conversions.{Results}
 use Rattle.c_stats.specs.Stats.{stat_numbers}
-use Rattle.c_tracks.specs.Asked.{Asked, known, settings, heads}
+use Rattle.c_tracks.specs.Asked.{Asked, asked_known, asked_settings, asked_heads}
 use Rattle.c_tracks.specs.Steps.{Lists, StepCall}
 
 abbrev pub StepIsStep : Type 0
 StepIsStep =
-    (a : Asked) (first count : ℕ) (windows : List ℕ) (l l' : Lists) (old new : Results) → known a ≡ true → StepCall a first count windows l l' old new 0
-    → let told = stats (tracks_converter (settings a) (heads a)) (piece_run (heads a) first count windows) in
-    StepPromise (heads a) (settings a) first count windows l.scratch l'.scratch l.out l'.out (Ok told) × (new.stats ≡ stat_numbers told)
+    (a : Asked) (first count : ℕ) (windows : List ℕ) (l l' : Lists) (old new : Results) → asked_known a ≡ true → StepCall a first count windows l l' old new 0
+    → let told = stats (tracks_converter (asked_settings a) (asked_heads a)) (piece_run (asked_heads a) first count windows) in
+    StepPromise (asked_heads a) (asked_settings a) first count windows l.scratch l'.scratch l.out l'.out (Ok told) × (new.stats ≡ stat_numbers told)

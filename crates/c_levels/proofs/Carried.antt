@@ -9,16 +9,16 @@ use Rattle.overs.specs.Overs.{Progress, none}
 use Rattle.overs_joins.proofs.Signal.{starts}
 use Rattle.levels.specs.Levels.{whole_input}
 use Rattle.codes.proofs.Calls.{both_hold}
-use Rattle.c_studio.specs.Progress.{progress_of, end_number, length_number}
+use Rattle.c_studio.specs.Progress.{progress_of, end_number, standing_length}
 use Rattle.c_levels.specs.Standings.{known_standings, held_standings, standing_number, standing_numbers}
 use Rattle.c_levels.specs.Theorems.{Begins, ReadBack}
 
-same : (p : Progress) → progress_of (end_number p) (length_number p) ≡ p
+same : (p : Progress) → progress_of (end_number p) (standing_length p) ≡ p
 unfolding progress_of
 same None = refl
 same (Some s) = at s.end refl
   where
-    at : (e : _) → s.end ≡ e → progress_of (end_number (Some s)) (length_number (Some s)) ≡ Some s
+    at : (e : _) → s.end ≡ e → progress_of (end_number (Some s)) (standing_length (Some s)) ≡ Some s
     at High h = rw h refl
     at Low h = rw h refl
 

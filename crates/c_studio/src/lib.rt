@@ -8,7 +8,7 @@ ghost use Rattle.c_studio.specs.Progress as numbers;
 ghost use Rattle.c_studio.specs.Calls.{JoinCall, SheetCall, OversCall, TurnsCall};
 
 use c_stats::{put_stats, stats_of};
-use codes::{NOT_UNDERSTOOD, Report, tell_data};
+use codes::{Answer, NOT_UNDERSTOOD, tell_data};
 use overs::{End, OverCount, Progress, Standing};
 
 // The statistics of a stretch, with those of the stretch after it.
@@ -60,7 +60,7 @@ fn in_progress(end: u64, length: u64) -> Option<Progress>
 
 // The end's number, and the length.
 pub fn standing(p: Progress) -> (u64, u64)
-    ensures { result ≡ (numbers.end_number p, numbers.length_number p) }
+    ensures { result ≡ (numbers.end_number p, numbers.standing_length p) }
 {
     let Some(s) = p else { return (0, 0) };
     match s.end {
@@ -101,5 +101,5 @@ pub fn turns(frames: &[u64], dues: &[u64], turn: u64, finishes: &mut [u64], late
         return NOT_UNDERSTOOD;
     }
     let made = schedule::simulate(frames, dues, turn, finishes, late);
-    Report::of(&made).number
+    Answer::of(&made).number
 }

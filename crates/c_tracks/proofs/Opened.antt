@@ -15,7 +15,7 @@ use Rattle.tracks_open.specs.declared.Refused.{Refused}
 use Rattle.tracks_open.proofs.Accepted.{accepted_few, album_fits, none_refused}
 use Rattle.tracks_plan.specs.Asked.{SizedTracks}
 use Rattle.tracks_plan.specs.Plan.{piece_at}
-use Rattle.c_tracks.specs.Calls.{Outputs, OpenDone, all_marks, marks_after, PieceDone, plan_numbers, read_numbers, PlanArgs}
+use Rattle.c_tracks.specs.Calls.{Outputs, OpenAlbumDone, all_marks, marks_after, PieceDone, plan_numbers, read_numbers, PlanArgs}
 use Rattle.c_tracks.specs.Told.{reason, named, album_numbers, album_after}
 
 module _ (hs : List Head) (s : Settings) where
@@ -23,7 +23,7 @@ module _ (hs : List Head) (s : Settings) where
   d = decide (open_places hs s)
 
   pub open_done : (o : Result Album Refused) → OpenPromise hs s o → (old new : Outputs) {answer : ℕ} → ToldWhole (decision (reason o)) answer new.«data» new.decibels
-      → new.track ≡ named o ∷ [] → new.album ≡ album_after o old.album → new.marks ≡ marks_after o s hs old.marks → OpenDone d hs s old new answer
+      → new.track ≡ named o ∷ [] → new.album ≡ album_after o old.album → new.marks ≡ marks_after o s hs old.marks → OpenAlbumDone d hs s old new answer
   unfolding album_of numbers
   open_done (Ok a) p old new {answer} t n w m =
       let yes : d ≡ accepted = sym p.decided in

@@ -11,7 +11,7 @@ use codes::NOT_UNDERSTOOD;
 use tracks_open::{Album, Tracks};
 
 // The pieces of a part.
-#[tactic(auto, unfolding(album_parts::specs::Parts::part))]
+#[tactic(auto, unfolding(album_parts::specs::Parts::job_part))]
 pub fn part(frames: u64, jobs: u64, part: u64, pieces: &mut [u64; 2])
     ensures { PartCall frames jobs part pieces.new }
 {

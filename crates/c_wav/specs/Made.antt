@@ -11,10 +11,10 @@ use Rattle.wav_heading.specs.Heading.{head_places}
 use Rattle.codes.specs.Codes.{rate_of}
 use Rattle.c_wav.specs.Calls.{rate_place}
 
-pub record Written (rate channels : ℕ) (bytes out out' : List ℕ) (made : Result (Unit {0}) PcmError) : Type 0 where
+pub record WavMade (rate channels : ℕ) (bytes out out' : List ℕ) (made : Result (Unit {0}) PcmError) : Type 0 where
   pub decided : decision made ≡ decide (rate_place rate ∷ write_places (rate_of rate) channels bytes (length out))
   pub written : out' ≡ by_decision (decide (rate_place rate ∷ write_places (rate_of rate) channels bytes (length out))) (wav_file (rate_of rate) channels bytes) out
 
-pub record Headed (rate channels n : ℕ) (out out' : List ℕ) (made : Result (Unit {0}) PcmError) : Type 0 where
+pub record HeaderMade (rate channels n : ℕ) (out out' : List ℕ) (made : Result (Unit {0}) PcmError) : Type 0 where
   pub decided : decision made ≡ decide (rate_place rate ∷ head_places (rate_of rate) channels n 44)
   pub written : out' ≡ by_decision (decide (rate_place rate ∷ head_places (rate_of rate) channels n 44)) (wav.header (hertz (rate_of rate)) channels n) out

@@ -8,9 +8,9 @@ ghost use Rattle.codes.specs.Codes.{if_known};
 ghost use Rattle.codes.specs.Told.{if_ok};
 ghost use Rattle.wave_headers.specs.Headers as headers;
 ghost use Rattle.c_wave.specs.Calls as calls;
-ghost use Rattle.c_wave.specs.Calls.{known_format, HeaderCall};
+ghost use Rattle.c_wave.specs.Calls.{known_format, KindHeaderCall};
 
-use codes::{NOT_UNDERSTOOD, Report, rate_of};
+use codes::{Answer, NOT_UNDERSTOOD, rate_of};
 use reference::{PcmError, PcmRate};
 use wave_headers::Format;
 
@@ -44,7 +44,7 @@ fn tell_lengths(made: Result<u64, PcmError>, n: u64, told: &mut [u64; 2]) -> u8
     if let Ok(length) = made {
         *told = [length, n % 2];
     }
-    Report::of(&made).number
+    Answer::of(&made).number
 }
 
 // The header of a file with so many bytes of samples.
@@ -58,7 +58,7 @@ pub fn header(
     out: &mut [u8; 104],
     told: &mut [u64; 2],
 ) -> u8
-    ensures { HeaderCall format rate channels «channel_type» bytes out.old out.new told.old told.new result }
+    ensures { KindHeaderCall format rate channels «channel_type» bytes out.old out.new told.old told.new result }
 {
     let Some((format, rate)) = asked(format, rate) else {
         return NOT_UNDERSTOOD;

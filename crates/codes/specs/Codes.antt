@@ -7,7 +7,7 @@ use Rattle.reference.specs.declared.PcmRate.{PcmRate}
 use Rattle.reference.specs.declared.PcmRate.TheVariants.{Hz88200, Hz176400, Hz352800}
 use Rattle.reference.specs.declared.Cutoff.{Cutoff}
 use Rattle.reference.specs.declared.Cutoff.TheVariants.{Standard, Low, Wide}
-use Rattle.codes.specs.declared.Report.{Report}
+use Rattle.codes.specs.declared.Answer.{Answer}
 
 -- ---- arguments: each number is read as something, and is known if it is the number of what it is read as
 
@@ -69,5 +69,5 @@ abbrev pub carried_decibels : Decision → Float
 carried_decibels d = first_decibels (carried d)
 
 -- all that is told, as the code hands it on
-abbrev pub report : Decision → Report
+abbrev pub report : Decision → Answer
 report d = record { number = refusal_number d; «data» = data_numbers d; decibels = carried_decibels d }

@@ -51,7 +51,7 @@ pub fn flag_of(n: u64) -> Option<bool>
 
 // A decision's number, data and decibels.
 #[derive(Clone, Copy)]
-pub struct Report {
+pub struct Answer {
     pub number: u8,
     pub data: [u64; 2],
     pub decibels: f64,
@@ -84,11 +84,11 @@ fn decibels(e: PcmError) -> f64
     }
 }
 
-impl From<PcmError> for Report {
+impl From<PcmError> for Answer {
     ghost from_gives = { λ e made. made ≡ report (error_decision e) };
 
-    fn from(e: PcmError) -> Report {
-        Report {
+    fn from(e: PcmError) -> Answer {
+        Answer {
             number: e.number() as u8,
             data: data(e),
             decibels: decibels(e),
@@ -96,19 +96,19 @@ impl From<PcmError> for Report {
     }
 }
 
-impl Report {
+impl Answer {
     // Of an answer.
     #[tactic(auto, using(crate::proofs::Known::zero_is))]
     pub fn of<T>(answer: &Result<T, PcmError>) -> Self
         ensures { result ≡ report (decision answer.now) }
     {
         match answer {
-            Ok(_) => Report {
+            Ok(_) => Answer {
                 number: 0,
                 data: [0, 0],
                 decibels: 0.0,
             },
-            Err(e) => Report::from(*e),
+            Err(e) => Answer::from(*e),
         }
     }
 }
@@ -117,7 +117,7 @@ impl Report {
 pub fn tell_decibels<T>(answer: &Result<T, PcmError>, decibels: &mut [f64; 1]) -> u8
     ensures { ToldDecibels (decision answer.now) result decibels.new }
 {
-    let report = Report::of(answer);
+    let report = Answer::of(answer);
     *decibels = [report.decibels];
     report.number
 }
@@ -126,7 +126,7 @@ pub fn tell_decibels<T>(answer: &Result<T, PcmError>, decibels: &mut [f64; 1]) -
 pub fn tell_data<T>(answer: &Result<T, PcmError>, data: &mut [u64; 2]) -> u8
     ensures { ToldData (decision answer.now) result «data».new }
 {
-    let report = Report::of(answer);
+    let report = Answer::of(answer);
     let numbers = report.data;
     *data = numbers;
     report.number
@@ -136,6 +136,6 @@ pub fn tell_data<T>(answer: &Result<T, PcmError>, data: &mut [u64; 2]) -> u8
 pub fn tell<T>(answer: &Result<T, PcmError>, data: &mut [u64; 2], decibels: &mut [f64; 1]) -> u8
     ensures { ToldWhole (decision answer.now) result «data».new decibels.new }
 {
-    *decibels = [Report::of(answer).decibels];
+    *decibels = [Answer::of(answer).decibels];
     tell_data(answer, data)
 }

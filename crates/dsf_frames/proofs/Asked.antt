@@ -3,7 +3,7 @@ use mathlib.Core.Path.{◌≡◌, refl, sym, ap, ap₂, ◌∙◌}
 use mathlib.Core.List.{List, [], ◌∷◌, ◌++◌}
 use mathlib.Core.Bool.{Bool, true, false, cond, not, ◌&&◌, and-false}
 use mathlib.Core.Logic.{◌≢◌, ⊎_elim}
-use Rattle.std.specs.Prelude.{Result, Ok, Err, Some, None}
+use Rattle.std.specs.Prelude.{Result, Ok, Err, Some, None, min}
 use Prim.Native.Nat.{ℕ, suc, ◌+◌, ◌-◌, ◌*◌, ◌/◌, ◌%◌, ◌^◌, ◌≤◌, ◌<◌}
 use native.Mathlib.Nat.{mul-le-mul_right, mod-lt, div-lt_iff_lt-mul}
 use native.Mathlib.Omega.{arith}
@@ -28,7 +28,7 @@ use Rattle.text.proofs.Bytes.{number_small, each_take, each_drop}
 use Rattle.dsf.proofs.Accepted.{sound_at, head_channels}
 use Rattle.dsf.proofs.Head.{whole_head, header_right}
 use Rattle.dsf_frames.specs.Theorems.{WindowRight}
-use Rattle.dsf_frames.specs.Reading.{lesser, window_start, window_end, window_of, asked_places, window_places, window_data, window_frame, Framed, WindowOf}
+use Rattle.dsf_frames.specs.Reading.{window_start, window_end, window_of, asked_places, window_places, window_data, window_frame, Framed, WindowOf}
 use Rattle.dsf_frames.specs.Windows.{WindowArgs}
 use Rattle.dsf_frames.specs.declared.FrameWindow.{FrameWindow}
 use Rattle.dsf_columns.proofs.Strides.{place_at, above, within}
@@ -107,7 +107,7 @@ module _ (file : List ℕ) (f room : ℕ) where
   unfolding accepts file_places window_end blocks needed data_bytes
   covered a =
       let s = sound_at file (length file) a in
-      let last = lesser (samples file / 8) (f * 4704 + 4704) in
+      let last = min (samples file / 8) (f * 4704 + 4704) in
       let k : (last + 4095) / 4096 * 4096 ≤ (samples file / 8 + 4095) / 4096 * 4096 = omega arith in
       let within : (last + 4095) / 4096 * 4096 * channels file ≤ 0 + length (drop 92 file) = omega (arith, mul-le-mul_right (channels file) k, s.sized, s.ends, length-drop 92 file) in
       le-leb _ _ within

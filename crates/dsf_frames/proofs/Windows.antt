@@ -1,3 +1,4 @@
+use Rattle.std.proofs.Common.{min}
 -- A frame out of a window, from its channels.
 use mathlib.Core.Path.{◌≡◌, sym, ap₂, ◌∙◌}
 use mathlib.Core.List.{List}
@@ -11,7 +12,7 @@ use borrow.Author.Tests.{le-leb, lt-leb}
 use Rattle.numbers.proofs.Lists.{below_or, is_tabulate}
 use Rattle.reference.specs.Frames.{idle}
 use Rattle.dsf.specs.Dsf.{data_place, our_byte, sample_byte, turn_byte, data_frame}
-use Rattle.dsf_frames.specs.Reading.{lesser, window_start, window_end, window_data}
+use Rattle.dsf_frames.specs.Reading.{window_start, window_end, window_data}
 use Rattle.dsf_frames.specs.Windows.{WindowArgs}
 use Rattle.dsf_columns.specs.Columns.{Column, column_byte, Ordering, ColumnArgs}
 use Rattle.dsf.specs.Orders.{bit_order}
@@ -38,7 +39,7 @@ next {n} {c} {f} {mid} {new} l h w d k m t =
 
 module _ {n samples' f start size out : ℕ} (a : WindowArgs n samples' f start size out) where
   abbrev last : ℕ
-  last = lesser (samples' / 8) (f * 4704 + 4704)
+  last = min (samples' / 8) (f * 4704 + 4704)
 
   pub column_args : (c : ℕ) → c < n → samples' < 2 ^ 64 → ColumnArgs n c (f * 4704) last start size out
   unfolding window_start window_end

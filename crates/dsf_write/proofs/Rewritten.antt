@@ -13,7 +13,7 @@ use Rattle.numbers.proofs.Lists.{part_end, below_or, length_tabulate, get_d_tabu
 use Rattle.reference.specs.Frames.{frame, frame_count}
 use Rattle.text.specs.Bytes.{Bytes, number_of, number_at, bytes}
 use Rattle.dsf.specs.Dsf.{pair, alike, blocks, data_bytes, data_place, stated_length, channel_type, channels, bits_per_sample, samples, data_size, needed, frames, turned, our_byte, sample_byte, turn_byte, data_frame, file_data, file_byte}
-use Rattle.dsf.specs.Headers.{header}
+use Rattle.dsf.specs.Headers.{header_with}
 use Rattle.dsf.proofs.Alike.{Alike, seg, join, pick, skip, T_is}
 use Rattle.text.proofs.Bytes.{padded, number_padded, bytes_number, each_padded, each_drop}
 use Rattle.dsf.proofs.Numbers.{alike_padded, field_alike}
@@ -90,7 +90,7 @@ module _ (file : List ℕ) (b : Bytes file) (pl : Plain file) where
       let z : drop (length file) hd ≡ [] = drop_of_length-le hd {i = length file} (omega (arith, s.long)) in
       sym (append-nil file) ∙ sym (ap (λ (l : List ℕ). file ++ l) z) ∙ e
 
-  same_header : header (bytes 8 (92 + written_data n fr)) (bytes 8 0) (pair (type_of n) n) 1 (bytes 8 (8 * written_channel n fr)) (bytes 8 (12 + written_data n fr)) ≡ hd
+  same_header : header_with (bytes 8 (92 + written_data n fr)) (bytes 8 0) (pair (type_of n) n) 1 (bytes 8 (8 * written_channel n fr)) (bytes 8 (12 + written_data n fr)) ≡ hd
   unfolding stated_length samples number_at
   same_header =
       let st : 92 + written_data n fr ≡ number_of (take 8 (drop 12 file)) = omega (arith, is_data, pl.no_more, s.stated) in

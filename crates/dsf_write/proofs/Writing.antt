@@ -25,13 +25,13 @@ use Rattle.reference.proofs.Refusals.{error_refuses, at_first, at_next, at_end, 
 use Rattle.text.specs.Text.{text}
 use Rattle.text.specs.Bytes.{bytes}
 use Rattle.dsf.specs.Dsf.{pair, blocks, data_bytes, turned}
-use Rattle.dsf.specs.Headers.{header}
+use Rattle.dsf.specs.Headers.{header_with}
 use Rattle.dsf.proofs.Alike.{T_is, T_of, left, right, pick, skip}
 use Rattle.dsf.specs.declared.BitOrder.TheVariants.{LowestFirst}
 use Rattle.dsf_columns.specs.Columns.{Ordering}
 use Rattle.dsf_columns.proofs.Blocks.{group}
 use Rattle.dsf_write.proofs.Pieces.{long_mid, wrote_piece}
-use Rattle.dsf_write.specs.Written.{type_of, data_channel, data_byte, written_channel, written_data, written_byte, head, laid_out, written, file_length, length_places, write_places, laid_places, HeadPromise, LaidPromise, WritePromise, Writable}
+use Rattle.dsf_write.specs.Written.{type_of, data_channel, data_byte, written_channel, written_data, written_byte, head, laid_out, written, file_length, length_places, dsf_write_places, laid_places, HeadPromise, LaidPromise, WritePromise, Writable}
 use Rattle.dsf_write.specs.Putting.{PutPromise, DataArgs, BlockArgs}
 use Rattle.dsf_write.proofs.Written.{by_channels}
 
@@ -259,16 +259,16 @@ module _ (n b size : ℕ) (whole out : List ℕ) where
 -- of a file
 module _ (n : ℕ) (fr out : List ℕ) where
   pub turned_down : (e : PcmError) → error_decision e ≡ decide (length_places n (length fr)) → WritePromise n fr out out (Err e)
-  unfolding write_places
+  unfolding dsf_write_places
   turned_down e d = let a = down n (length fr) (file_length n (length fr)) (written n fr) out e d in record { decided = a.0; written_out = a.1 }
 
   module _ (e : decide (length_places n (length fr)) ≡ accepted) where
     pub wrong_output : length out ≢ file_length n (length fr) → WritePromise n fr out out (Err (OutputBytes (length out) (file_length n (length fr))))
-    unfolding write_places
+    unfolding dsf_write_places
     wrong_output h = let a = wrong n (length fr) (file_length n (length fr)) (written n fr) out e h in record { decided = a.0; written_out = a.1 }
 
     pub given : length out ≡ file_length n (length fr) → {new : List ℕ} → new ≡ written n fr → WritePromise n fr out new (Ok tt)
-    unfolding write_places
+    unfolding dsf_write_places
     given h w = let a = right_size n (length fr) (file_length n (length fr)) (written n fr) out e h w in record { decided = a.0; written_out = a.1 }
 
 -- of the data alone
@@ -292,7 +292,7 @@ module _ (n b : ℕ) (out : List ℕ) where
   head_down e d = record { decided = d; written_out = sym (exit_refused _ (head n b) out (ap is_accepted (sym d) ∙ error_refuses e)) }
 
   pub head_put : {new : List ℕ} → PutPromise 0 (head n b) out new → take 92 new ≡ head n b
-  unfolding head header text bytes
+  unfolding head header_with text bytes
   head_put p = p.put
 
   pub head_given : decide (length_places n b) ≡ accepted → length out ≡ 92 → {new : List ℕ} → PutPromise 0 (head n b) out new → HeadPromise n b out new (Ok tt)

@@ -14,7 +14,7 @@ use Rattle.reference.specs.Frames.{frame, frame_count}
 use Rattle.text.specs.Text.{text}
 use Rattle.text.specs.Bytes.{Bytes, number_at, bytes}
 use Rattle.dsf.specs.Dsf.{alike, any, all, fits, layout, pairs, orders, blocks, data_bytes, data_place, stated_length, channel_type, channels, bits_per_sample, samples, data_size, needed, accepts, frames, frames_in, turned, our_byte, sample_byte, turn_byte, data_frame, file_data, file_byte, file_frame}
-use Rattle.dsf.specs.Headers.{header}
+use Rattle.dsf.specs.Headers.{header_with}
 use Rattle.dsf.proofs.Alike.{pick, skip}
 use Rattle.text.proofs.Bytes.{padded, number_bytes}
 use Rattle.dsf.proofs.Accepted.{is_sound}
@@ -23,7 +23,7 @@ use Rattle.dsf.proofs.Headers as H
 use Rattle.dsf_columns.proofs.Blocks.{place_below}
 use Rattle.dsf_columns.proofs.Turned.{turned_twice}
 use Rattle.dsf_write.specs.Written.{type_of, written_channel, written_data, written_byte, written, Writable, Plain}
-use Rattle.dsf_write.specs.Theorems.{WrittenRead}
+use Rattle.dsf_write.specs.Theorems.{DsfWrittenRead}
 use Rattle.dsf_write.proofs.Places.{channel_is, byte_is}
 
 -- ---- 1 to 6 channels
@@ -39,7 +39,7 @@ module _ (P : ℕ → Type 0) (p1 : P 1) (p2 : P 2) (p3 : P 3) (p4 : P 4) (p5 : 
   by_channels (suc (suc (suc (suc (suc (suc (suc n))))))) a b = absurd (omega arith)
 
 laid : (n : ℕ) → 1 ≤ n → n ≤ 6 → Laid (type_of n) n 1
-unfolding type_of layout pairs orders fits any all alike header text bytes padded
+unfolding type_of layout pairs orders fits any all alike header_with text bytes padded
 laid =
     by_channels (λ n. Laid (type_of n) n 1) (λ xs ys ns z r. tt) (λ xs ys ns z r. tt) (λ xs ys ns z r. tt) (λ xs ys ns z r. tt) (λ xs ys ns z r. tt) (λ xs ys ns z r. tt)
 
@@ -210,5 +210,5 @@ module _ (n : ℕ) (fr : List ℕ) (w : Writable n fr) where
             rw is_channels (placed c q h' l' ∙ skip (ltb q m) _ _ (λ t. omega (arith, is_channel_length, ltb→lt q m t)));
       }
 
-pub written_reads : WrittenRead
+pub written_reads : DsfWrittenRead
 written_reads n fr w = record { accepted = written_accepted n fr w; frames = written_frames n fr w; frame = written_frame n fr w; plain = written_plain n fr w }

@@ -15,8 +15,8 @@ pub record WrittenReads (n : ℕ) (fr : List ℕ) : Type 0 where
   pub frame : Bytes fr → (f : ℕ) → f < frame_count n fr → file_frame (written n fr) f ≡ frame n fr f
   pub plain : Plain (written n fr)
 
-abbrev pub WrittenRead : Type 0
-WrittenRead = (n : ℕ) (fr : List ℕ) → Writable n fr → WrittenReads n fr
+abbrev pub DsfWrittenRead : Type 0
+DsfWrittenRead = (n : ℕ) (fr : List ℕ) → Writable n fr → WrittenReads n fr
 
 -- what was read from a file of that kind can be written, and gives its bytes. Proved in proofs/Rewritten, `rewritten`
 abbrev pub Rewritten : Type 0

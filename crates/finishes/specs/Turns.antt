@@ -65,13 +65,13 @@ NextIsDueFirst = (s : Board) → in_range s ≡ true → (left : ℕ → ℕ) (a
 -- ---- no order is better
 
 -- what is left after the turns of an order
-unfoldable pub after : ℕ → List ℕ → (ℕ → ℕ) → ℕ → ℕ
-after turn [] left = left
-after turn (x ∷ order) left = after turn order (after_turn turn x left)
+unfoldable pub after_turns : ℕ → List ℕ → (ℕ → ℕ) → ℕ → ℕ
+after_turns turn [] left = left
+after_turns turn (x ∷ order) left = after_turns turn order (after_turn turn x left)
 
 -- an order that gives each album its turns: nothing is left of any. Turns may be wasted, on a finished album or on none
 pub record GivesTurns (s : Board) (order : List ℕ) : Type 0 where
-  pub done : (a : ℕ) → a < s.albums → after s.turn order s.frames a ≡ 0
+  pub done : (a : ℕ) → a < s.albums → after_turns s.turn order s.frames a ≡ 0
 
 -- the simulation gives each album its turns, and every order that does has a greatest lateness at least as great; proved in proofs/Best
 abbrev pub DueFirstIsBest : Type 0

@@ -13,7 +13,7 @@ OneLong size r = (length r.before ≡ size) × (length r.frames ≡ size) × (le
 
 -- a frame with its neighbours is told: its clips are counted, the first `n` bytes of the text are its lines, and what
 -- is in progress is carried on
-pub record Added (conv : Converter) (number : ℕ) (r : Run) (clipped : ℕ) (states : List Progress) (text : List ℕ) (clipped' : ℕ) (states' : List Progress) (text' : List ℕ) (n : ℕ) : Type 0 where
+pub record PieceAdded (conv : Converter) (number : ℕ) (r : Run) (clipped : ℕ) (states : List Progress) (text : List ℕ) (clipped' : ℕ) (states' : List Progress) (text' : List ℕ) (n : ℕ) : Type 0 where
   pub counted : clipped' ≡ clipped + frame_clips conv r 0
   pub lines : Printed (piece_lines conv number states r) text 0 text' n
   pub carried : states' ≡ piece_states conv states r

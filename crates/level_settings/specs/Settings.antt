@@ -5,7 +5,7 @@ use Rattle.reference.specs.declared.PcmRate.{PcmRate}
 use Rattle.reference.specs.declared.PcmRate.TheVariants.{Hz88200, Hz176400, Hz352800}
 use Rattle.reference.specs.declared.Cutoff.{Cutoff}
 use Rattle.reference.specs.declared.Cutoff.TheVariants.{Standard, Low, Wide}
-use Rattle.text.specs.Text.{text, joined, decimal, signed}
+use Rattle.text.specs.Text.{text, joined, decimal, signed_decimal}
 use Rattle.level_settings.specs.declared.LineSettings.{LineSettings}
 
 unfoldable pub rate_text : PcmRate → List ℕ
@@ -38,7 +38,7 @@ blank = 32 ∷ []
 -- the line of some settings, without its newline: one blank between, no needless zeros, no -0
 unfoldable pub settings_line : LineSettings → List ℕ
 settings_line s =
-    joined (rate_text s.rate ∷ blank ∷ cutoff_text s.cutoff ∷ blank ∷ decimal s.channels ∷ blank ∷ signed s.db ∷ [])
+    joined (rate_text s.rate ∷ blank ∷ cutoff_text s.cutoff ∷ blank ∷ decimal s.channels ∷ blank ∷ signed_decimal s.db ∷ [])
 
 -- 1 or 2 channels, -120 to 24 whole decibels
 pub record InRange (s : LineSettings) : Type 0 where

@@ -5,13 +5,10 @@ use Rattle.std.specs.Io.KnownBytes.{Consumes, Appends, IsAtEnd}
 use Rattle.reference.specs.Frames.{Run, run, frame_length}
 use Rattle.reference.specs.Output.{frame_clips}
 use Rattle.reference.specs.declared.Converter.{Converter}
+use Rattle.text.specs.Lists.{part}
 use Rattle.overs.specs.Overs.{Progress}
 use Rattle.levels.specs.Levels.{piece_lines, piece_states}
 use Rattle.level_frames.specs.Report.{ending, lines_of, text_by}
-
--- the elements from a place up to another
-abbrev pub part : ℕ → ℕ → List ℕ → List ℕ
-part a e l = take (e - a) (drop a l)
 
 -- the frame at hand with its neighbours: frame `number` of the input, which has one before unless it is the first
 unfoldable pub at_hand : ℕ → Bool → ℕ → List ℕ → Run
@@ -19,7 +16,7 @@ at_hand number has_after size three =
     run (ltb 0 number) (part 0 size three) (part size (2 * size) three) has_after (part (2 * size) (length three) three)
 
 -- a frame is told: its clips are counted, and what is in progress is carried on
-pub record Told (conv : Converter) (number : ℕ) (r : Run) (clipped : ℕ) (states : List Progress) (clipped' : ℕ) (states' : List Progress) : Type 0 where
+pub record FrameTold (conv : Converter) (number : ℕ) (r : Run) (clipped : ℕ) (states : List Progress) (clipped' : ℕ) (states' : List Progress) : Type 0 where
   pub counted : clipped' ≡ clipped + frame_clips conv r 0
   pub carried : states' ≡ piece_states conv states r
 
@@ -52,7 +49,7 @@ pub record Turned (conv : Converter) (size : ℕ) (m next : Moment) (from from' 
   pub room : length next.three ≡ 3 * size
   pub kept : part 0 size next.three ≡ part size (2 * size) m.three
   pub frames : next.frames ≡ m.frames + 1
-  pub told : Told conv m.frames (told_frame size m next) m.clipped m.states next.clipped next.states
+  pub told : FrameTold conv m.frames (told_frame size m next) m.clipped m.states next.clipped next.states
   pub read : Consumes from from' (here size next)
   pub end : next.left < size → IsAtEnd from'
   pub wrote : Appends held held' (piece_lines conv m.frames m.states (told_frame size m next))

@@ -10,7 +10,7 @@ ghost use Rattle.levels.specs.Levels.{piece_lines};
 ghost use Rattle.level_frames.specs.Report.{lines_of, text_by};
 ghost use Rattle.level_frames.specs.Told.{OneLong};
 ghost use Rattle.level_turns.specs.Turns as hand;
-ghost use Rattle.level_turns.specs.Turns.{Told, Turned, AllTold, moment};
+ghost use Rattle.level_turns.specs.Turns.{FrameTold, Turned, AllTold, moment};
 
 use level_frames::{FewChannels, Report};
 use level_input::{fill, move_on, write_first};
@@ -54,7 +54,7 @@ fn at_hand<'a>(number: u64, has_after: bool, size: usize, three: &'a [u8]) -> Ru
 fn tell<'a, W: Write>(report: &mut Report, number: u64, run: Run<'a>, to: &mut W) -> io::Result<()>
     requires one_long { OneLong (frame_length report.old.of.conv.channels) (run_of run) }
     requires few { (number < 100000000000000) × (report.old.clipped ≤ 28224 * number) }
-    ensures told { IfOk result (λ _. Told report.old.of.conv number (run_of run.entry) report.old.clipped report.old.states report.new.clipped report.new.states) }
+    ensures told { IfOk result (λ _. FrameTold report.old.of.conv number (run_of run.entry) report.old.clipped report.old.states report.new.clipped report.new.states) }
     ensures wrote { IfOk result (λ _. Appends (W.contents to.old) (W.contents to.new) (piece_lines report.old.of.conv number report.old.states (run_of run.entry))) }
     ensures few { IfOk result (λ _. (report.new.of ≡ report.old.of) × (report.new.clipped ≤ 28224 * (number + 1))) }
 {

@@ -1,7 +1,11 @@
--- Lists of bytes: cut at the first of a byte, and whether two are the same.
-use Rattle.std.specs.Prelude.{◌≡◌, List, ◌∷◌, ◌++◌, Bool, ℕ, ◌<◌, Option, length, get_or, MatchOption}
+-- Lists of bytes: a part of one, one cut at the first of a byte, and whether two are the same.
+use Rattle.std.specs.Prelude.{◌≡◌, List, ◌∷◌, ◌++◌, Bool, ℕ, ◌-◌, ◌<◌, Option, take, drop, length, get_or, MatchOption}
 use Rattle.std.specs.Str.{bytes_eq}
 use denote.Ref.{Bor}
+
+-- the elements from place a up to place b
+abbrev pub part : ℕ → ℕ → List ℕ → List ℕ
+part a b l = take (b - a) (drop a l)
 
 -- no byte of a text is this one
 pub record Without (byte : ℕ) (t : List ℕ) : Type 0 where

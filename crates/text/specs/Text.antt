@@ -27,9 +27,9 @@ unfoldable pub decimal : ℕ → List ℕ
 decimal n = numeral (suc n) n
 
 -- a minus sign below 0; so there is no -0
-unfoldable pub signed : ℤ → List ℕ
-signed (pos n) = decimal n
-signed (negsuc n) = 45 ∷ decimal (suc n)
+unfoldable pub signed_decimal : ℤ → List ℕ
+signed_decimal (pos n) = decimal n
+signed_decimal (negsuc n) = 45 ∷ decimal (suc n)
 
 -- a list with a text put into it from a place on
 unfoldable pub with_text : List ℕ → ℕ → List ℕ → List ℕ

@@ -35,8 +35,8 @@ impl<'a> Text<'a> {
 
     // z in decimal, with a minus sign if it is below 0.
     pub fn signed(&mut self, z: i64)
-        requires { self.old.at + length (texts.signed z) ≤ length self.old.out.now }
-        ensures { Prints (texts.signed z) self.old self.new }
+        requires { self.old.at + length (texts.signed_decimal z) ≤ length self.old.out.now }
+        ensures { Prints (texts.signed_decimal z) self.old self.new }
     {
         if z < 0 {
             self.put(b"-");
@@ -56,7 +56,7 @@ impl<'a> Text<'a> {
 
     pub fn labelled_signed(&mut self, word: &[u8], z: i32)
         requires { self.old.at + (length word.now + 11) ≤ length self.old.out.now }
-        ensures printed { Prints (word.now ++ texts.signed z) self.old self.new }
+        ensures printed { Prints (word.now ++ texts.signed_decimal z) self.old self.new }
         ensures upper_bound { self.new.at ≤ self.old.at + (length word.now + 11) }
     {
         self.put(word);

@@ -10,6 +10,7 @@ use Rattle.reference.specs.declared.Settings.{Settings}
 use Rattle.reference.specs.declared.Converter.{Converter}
 use Rattle.reference.specs.declared.PcmRate.{PcmRate}
 use Rattle.reference.specs.declared.PcmRate.TheVariants.{Hz88200, Hz176400, Hz352800}
+use Rattle.text.specs.Lists.{part}
 use Rattle.dsf.specs.Dsf.{channel_type, channels, bits_per_sample, samples, sample_byte, turn_byte, file_data}
 use Rattle.dsf.specs.Reading.{header_places}
 use Rattle.wav_header.specs.Header.{sample_bytes}
@@ -174,10 +175,6 @@ pub record Has (rate : PcmRate) (hs : List Head) (k i : ℕ) : Type 0 where
 -- where track k's bytes begin in the data of an album of n channels
 unfoldable pub data_start : PcmRate → ℕ → List Head → ℕ → ℕ
 data_start rate n hs k = first_sample rate (offset hs k) * (sample_bytes * n)
-
--- the bytes of a list from place a on to place b
-unfoldable pub part : ℕ → ℕ → List ℕ → List ℕ
-part a b l = take (b - a) (drop a l)
 
 -- the album's data
 abbrev pub album_data : List Track → Settings → List ℕ

@@ -38,7 +38,7 @@ pub record TakeArgs (heads lengths : List ℕ) (k : ℕ) (start : Start) (span :
   pub within : start.window + read_bytes (channels (head_at heads lengths k).bytes) (head_at heads lengths k) start.byte span.from span.to ≤ size
   pub short : start.byte + head_length (head_at heads lengths k) ≤ 2540160000
 
-pub record Taken (h : Head) (start : Start) (span : Span) (windows old new : List ℕ) (next : Start) : Type 0 where
+pub record TrackTaken (h : Head) (start : Start) (span : Span) (windows old new : List ℕ) (next : Start) : Type 0 where
   pub put :
       new
       ≡ with_one (channels h.bytes) span.from span.to start.byte

@@ -6,7 +6,7 @@ ghost use Rattle.reference.specs.Frames.{frame_bytes};
 ghost use Rattle.tracks.specs.Runs.{frames_from};
 ghost use Rattle.tracks.specs.Tracks.{head_at, heads_of, tracks_frame};
 ghost use Rattle.tracks.specs.Windows.{windowed};
-ghost use Rattle.tracks_gather.specs.Gathering.{TakeArgs, Taken, GatherArgs};
+ghost use Rattle.tracks_gather.specs.Gathering.{TakeArgs, TrackTaken, GatherArgs};
 
 use dsf::header_numbers;
 use dsf_columns::Stretch;
@@ -31,7 +31,7 @@ fn take(
     out: &mut [u8],
 ) -> Start
     requires { TakeArgs tracks.heads.now tracks.lengths.now k start span (length windows.now) (length out.old) }
-    ensures { Taken (head_at tracks.entry.heads.now tracks.entry.lengths.now k) start span windows.now out.old out.new result }
+    ensures { TrackTaken (head_at tracks.entry.heads.now tracks.entry.lengths.now k) start span windows.now out.old out.new result }
 {
     let header = header_numbers(tracks.head(k));
     let length = header.samples / 8;

@@ -11,8 +11,8 @@ use Rattle.tracks_open.specs.declared.Refused.{Refused}
 
 -- ---- an album's numbers
 
-unfoldable pub pieces : ℕ → ℕ
-pieces f = (f + 127) / 128
+unfoldable pub piece_total : ℕ → ℕ
+piece_total f = (f + 127) / 128
 
 -- of so many bytes of each channel
 unfoldable pub numbers : PcmRate → ℕ → ℕ → ℕ → Album
@@ -27,7 +27,7 @@ numbers rate n type p =
       frame = frame_size rate n;
       -- bytes of each channel filled up in the last frame
       filled = f * frame_bytes - p;
-      pieces = pieces f;
+      pieces = piece_total f;
     }
 
 unfoldable pub album_of : PcmRate → List Head → Album
@@ -36,9 +36,9 @@ album_of rate hs = numbers rate (tracks_channels hs) (tracks_type hs) (all_lengt
 -- ---- what is promised
 
 -- what an answer decides
-abbrev pub decision : {A : Type 0} → Result A Refused → Decision
-decision (Ok a) = accepted
-decision (Err e) = error_decision e.error
+abbrev pub tracks_decision : {A : Type 0} → Result A Refused → Decision
+tracks_decision (Ok a) = accepted
+tracks_decision (Err e) = error_decision e.error
 
 -- an answer names this track where it refuses
 abbrev pub Names : {A : Type 0} → ℕ → Result A Refused → Type 0
@@ -46,7 +46,7 @@ Names k (Ok a) = Unit {0}
 Names k (Err e) = e.track ≡ k
 
 pub record OpenPromise (hs : List Head) (s : Settings) (answer : Result Album Refused) : Type 0 where
-  pub decided : decision answer ≡ decide (open_places hs s)
+  pub decided : tracks_decision answer ≡ decide (open_places hs s)
   pub named : Names (refused_track hs s) answer
   pub album : IfOk answer (λ a. a ≡ album_of s.rate hs)
 

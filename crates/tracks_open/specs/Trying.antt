@@ -42,12 +42,12 @@ pub record NextTried (h : Head) (type before : ℕ) (answer : Result ℕ PcmErro
 abbrev pub heads_from : List ℕ → List ℕ → ℕ → List Head
 heads_from heads lengths k = tabulate (head_at heads lengths) k (length lengths - k)
 
-abbrev pub rest : List ℕ → List ℕ → ℕ → ℕ → ℕ → List (List Place)
-rest heads lengths type before k = rest_places type before (heads_from heads lengths k)
+abbrev pub later_places : List ℕ → List ℕ → ℕ → ℕ → ℕ → List (List Place)
+later_places heads lengths type before k = rest_places type before (heads_from heads lengths k)
 
 pub record RestTried (heads lengths : List ℕ) (type before : ℕ) (answer : Result ℕ Refused) : Type 0 where
-  pub decided : albums.decision answer ≡ decide (flat_map (λ p. p) (rest heads lengths type before 1))
-  pub named : Names (refused_from 1 (rest heads lengths type before 1)) answer
+  pub decided : albums.tracks_decision answer ≡ decide (flat_map (λ p. p) (later_places heads lengths type before 1))
+  pub named : Names (refused_from 1 (later_places heads lengths type before 1)) answer
   pub end : IfOk answer (λ p. p ≡ before + all_length (heads_from heads lengths 1))
   pub few : IfOk answer (λ p. p ≤ 2540160000)
 

@@ -171,7 +171,7 @@ fn frame_size(rate: PcmRate, channels: u64) -> u64
     3 * rate.samples_per_frame() as u64 * channels
 }
 
-#[tactic(auto, using(crate::proofs::Bounds::bytes_bound, crate::proofs::Bounds::frames_cover, crate::proofs::Bounds::frames_few), unfolding(crate::specs::Open::numbers, crate::specs::Open::pieces, tracks::specs::Tracks::frames_of_bytes))]
+#[tactic(auto, using(crate::proofs::Bounds::bytes_bound, crate::proofs::Bounds::frames_cover, crate::proofs::Bounds::frames_few), unfolding(crate::specs::Open::numbers, crate::specs::Open::piece_total, tracks::specs::Tracks::frames_of_bytes))]
 fn numbers(rate: PcmRate, header: DsfHeader, bytes: u64) -> Album
     requires { NumbersArgs header.channels bytes }
     ensures { result ≡ albums.numbers rate header.channels header.channel_type bytes }

@@ -42,7 +42,7 @@ fn piece_from(album: Album, first: u64) -> Piece
 }
 
 // Piece i, where there is one.
-#[tactic(auto, using(crate::proofs::Pieces::begins_within), unfolding(crate::specs::Plan::piece_at, tracks_open::specs::Open::pieces))]
+#[tactic(auto, using(crate::proofs::Pieces::begins_within), unfolding(crate::specs::Plan::piece_at, tracks_open::specs::Open::piece_total))]
 pub fn piece_of(album: Album, i: u64) -> Option<Piece>
     requires { AlbumFits album }
     ensures { result ≡ plan.piece_at album i }

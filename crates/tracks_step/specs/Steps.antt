@@ -7,12 +7,12 @@ use Rattle.reference.specs.declared.PcmError.{PcmError}
 use Rattle.reference.specs.declared.Settings.{Settings}
 use Rattle.tracks.specs.Tracks.{Head, heads_of, tracks_channels, tracks_frames, all_length, refused_track}
 use Rattle.tracks.specs.Windows.{low, high, windows_length}
-use Rattle.tracks_open.specs.Open.{TracksArgs, decision, Names, album_of}
+use Rattle.tracks_open.specs.Open.{TracksArgs, tracks_decision, Names, album_of}
 use Rattle.tracks_open.specs.declared.Album.{Album}
 use Rattle.tracks_open.specs.declared.Refused.{Refused}
 use Rattle.tracks_put.specs.declared.Span.{Span}
 use Rattle.tracks_step.specs.Promises.{piece_places, frames_places}
-use Rattle.tracks_step.specs.declared.Ready.{Ready}
+use Rattle.tracks_step.specs.declared.Gathered.{Gathered}
 
 -- ---- the lists
 
@@ -42,16 +42,16 @@ pub record FitArgs (heads lengths : List ℕ) (a : Album) : Type 0 where
   pub most : a.frames ≤ 540000
   pub short : all_length (heads_of heads lengths) ≤ 2540160000
 
-abbrev pub around : List Head → ℕ → ℕ → Span
-around hs first count = record { from = low first; to = high hs first count }
+abbrev pub piece_span : List Head → ℕ → ℕ → Span
+piece_span hs first count = record { from = low first; to = high hs first count }
 
 pub record Fitting (hs : List Head) (first count windows scratch : ℕ) (answer : Result Span PcmError) : Type 0 where
   pub decided : refusals.decision answer ≡ decide (piece_places hs first count windows scratch)
-  pub frames : IfOk answer (λ f. f ≡ around hs first count)
+  pub frames : IfOk answer (λ f. f ≡ piece_span hs first count)
 
 -- ---- the album and its frames
 
-pub record ReadyPromise (hs : List Head) (s : Settings) (first count windows scratch : ℕ) (answer : Result Ready Refused) : Type 0 where
-  pub decided : decision answer ≡ decide (frames_places hs s first count windows scratch)
+pub record ReadyPromise (hs : List Head) (s : Settings) (first count windows scratch : ℕ) (answer : Result Gathered Refused) : Type 0 where
+  pub decided : tracks_decision answer ≡ decide (frames_places hs s first count windows scratch)
   pub named : Names (refused_track hs s) answer
-  pub ready : IfOk answer (λ r. r ≡ record { album = album_of s.rate hs; frames = around hs first count })
+  pub ready : IfOk answer (λ r. r ≡ record { album = album_of s.rate hs; frames = piece_span hs first count })

@@ -6,7 +6,7 @@ ghost use Rattle.tracks.specs.Windows.{low};
 ghost use Rattle.tracks_open.specs.Open.{TracksArgs};
 ghost use Rattle.tracks_step.specs.Steps.{no_frames, lent_places, LentArgs, ReadyPromise, FitArgs, Fitting};
 
-use crate::Ready;
+use crate::Gathered;
 use reference::{PcmError, Settings};
 use tracks_open::{Album, Refused, Tracks, open};
 use tracks_put::Span;
@@ -102,13 +102,13 @@ pub fn ready(
     count: u64,
     windows: usize,
     scratch: usize,
-) -> Result<Ready, Refused>
+) -> Result<Gathered, Refused>
     requires { TracksArgs tracks.heads.now tracks.lengths.now }
     ensures { ReadyPromise (heads_of tracks.entry.heads.now tracks.entry.lengths.now) settings first count windows scratch result }
 {
     let album = open(tracks, settings)?;
     match fits(tracks, album, first, count, windows, scratch) {
-        Ok(frames) => Ok(Ready { album, frames }),
+        Ok(frames) => Ok(Gathered { album, frames }),
         Err(error) => Err(Refused { track: 0, error }),
     }
 }

@@ -18,7 +18,7 @@ use tracks_put::Span;
 
 // What is accepted: the album, and its frames that are gathered.
 #[derive(Clone, Copy)]
-pub struct Ready {
+pub struct Gathered {
     pub album: Album,
     pub frames: Span,
 }

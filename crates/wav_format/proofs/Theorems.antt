@@ -9,7 +9,7 @@ use Rattle.reference.specs.Refusals.{accepted, decide}
 use Rattle.reference.specs.declared.PcmRate.{PcmRate}
 use Rattle.reference.specs.declared.PcmError.{PcmError}
 use Rattle.reference.proofs.Promises.{exit_accepted, decision_exact}
-use Rattle.wav_format.specs.Theorems.{format, TakesExactly, WrittenRead, WrittenBack, TakenWith, TakenWithIs}
+use Rattle.wav_format.specs.Theorems.{format, TakesExactly, WavWrittenRead, WrittenBack, TakenWith, TakenWithIs}
 use Rattle.wav_format.specs.Wav.{wav_file, Right, Taken, right_data}
 use Rattle.wav_format.specs.Places.{write_places}
 use Rattle.wav_format.specs.Promises.{ReadPromise, file_samples, WritePromise}
@@ -41,7 +41,7 @@ module _ (rate : PcmRate) (channels : ℕ) (l : List ℕ) (right : Right rate ch
   samples_back = sym (samples_there (wav_file rate channels l) (taken_takes _ the_file)) ∙ data_is rate channels l
 
 -- by the second entry
-pub written_read : WrittenRead
+pub written_read : WavWrittenRead
 written_read rate channels l out out' w a p =
     let ok : decide (write_places rate channels l (length out)) ≡ accepted = sym w.decided in
     let r = right_is rate channels (length l) (accepted_right rate channels l out ok) in

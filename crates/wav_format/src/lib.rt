@@ -45,9 +45,9 @@ pub fn right_data(format: WavFormat, n: usize) -> bool
 
 // The rate and the channels of the one header that can be right, from a byte of each: any other byte gives a header
 // that the file does not have, so these need no refusal and no `TryFrom`, which would name one.
-#[tactic(auto, unfolding(crate::specs::Deciding::rate_of))]
+#[tactic(auto, unfolding(crate::specs::Deciding::rate_of_byte))]
 fn rate_of(x: u8) -> PcmRate
-    ensures { result ≡ deciding.rate_of x }
+    ensures { result ≡ deciding.rate_of_byte x }
 {
     match x {
         136 => PcmRate::Hz88200,

@@ -7,8 +7,8 @@ use Rattle.wav_header.specs.Header.{sample_bytes}
 unfoldable pub riff : ℕ → List ℕ
 riff size = joined (text "RIFF" ∷ bytes 4 size ∷ text "WAVE" ∷ [])
 
-unfoldable pub format : ℕ → ℕ → List ℕ
-format rate channels =
+unfoldable pub format_part : ℕ → ℕ → List ℕ
+format_part rate channels =
     joined
     (text "fmt " ∷ bytes 4 16 ∷ bytes 2 1 ∷ bytes 2 channels ∷ bytes 4 rate ∷ bytes 4 (rate * (sample_bytes * channels)) ∷ bytes 2 (sample_bytes * channels) ∷ bytes 2 24 ∷ [])
 

@@ -4,7 +4,7 @@ use borrow.Author.Tests.{ne_eqb}
 use Rattle.codes.proofs.Known.{some_known}
 use Rattle.codes.proofs.Calls.{both_hold, done_so}
 use Rattle.reference.specs.Frames.{Run}
-use Rattle.c_converter.specs.Blocks.{as_input, run_of, there_counts}
+use Rattle.c_converter.specs.Blocks.{as_input, input_run, there_counts}
 use Rattle.c_stats.specs.Conversions.{results}
 use Rattle.c_calls.specs.Made.{BytesMade}
 use Rattle.c_calls.proofs.Done.{bytes_done, any_unlent}
@@ -17,7 +17,7 @@ returns c =
     let m = c.if-input-eq1 in
     let told = c.tell_conversion in
     let k = some_known _ _ _ (sym c.in-Some.ensures) in
-    let run : Run = run_of (as_input a.input) in
+    let run : Run = input_run (as_input a.input) in
     let made : BytesMade a.kind c.in-Some.conv run (there_counts a.input.presence) a.out.now a.counts.now m.out m.counts m.made =
     elim m.branch [
       | then-input-eq1 w ↦ rw (w.if-input-eq1.true, w.out-is, w.counts-is, w.made-is, ← w.run.ensures) w.counted-made.ensures
