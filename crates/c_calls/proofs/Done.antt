@@ -74,7 +74,8 @@ change_done b w conv held v made {data' = data'} {decibels'} {answer} e h q t n 
 -- ---- conversions
 
 -- of what is asked: the converter and the run that were read
-module _ {c conv : Converter} (e : c ≡ conv) {q r : Run} (h : r ≡ q) (made : Converted) (old new : Results) {answer : ℕ} (t : ToldWhole (decision made) answer new.«data» new.decibels) (w : new.stats ≡ if_ok stat_numbers made old.stats) where
+module _ {c conv : Converter} (e : c ≡ conv) {q r : Run} (h : r ≡ q) (made : Converted) (old new : Results) {answer : ℕ}
+    (t : ToldWhole (decision made) answer new.«data» new.decibels) (w : new.stats ≡ if_ok stat_numbers made old.stats) where
   pub samples_done : (kind : ToSamples) {out out' : List ℤ} → SamplesPromise (samples_places kind conv r out) conv r out out' made
       → SamplesDone (decide (samples_places kind c q out)) c q out out' old new answer
   samples_done kind {out} {out'} p =

@@ -108,7 +108,8 @@ pub fn convert_bytes<'a>(
     data: &mut [u64; 2],
     decibels: &mut [f64; 1],
 ) -> u8
-    ensures { BytesCall kind (as_converter blocks.entry) (as_input input.entry) out.old counts.old out.new counts.new (results stats.old «data».old decibels.old) (results stats.new «data».new decibels.new) result }
+    ensures { BytesCall kind (as_converter blocks.entry) (as_input input.entry) out.old counts.old out.new
+        counts.new (results stats.old «data».old decibels.old) (results stats.new «data».new decibels.new) result }
 {
     let Some(conv) = blocks.converter() else {
         return NOT_UNDERSTOOD;

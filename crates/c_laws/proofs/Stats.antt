@@ -53,7 +53,14 @@ module _ (s : ConvertStats) (h : StatsHeld s) where
   known : known_stats (stat_numbers s) ≡ true
   unfolding stat_numbers tabulate
   known =
-      rw (marked (channel_of s 0).extremes, marked (channel_of s 1).extremes, marked (channel_of s 2).extremes, marked (channel_of s 3).extremes, marked (channel_of s 4).extremes, marked (channel_of s 5).extremes) refl
+      rw (
+        marked (channel_of s 0).extremes,
+        marked (channel_of s 1).extremes,
+        marked (channel_of s 2).extremes,
+        marked (channel_of s 3).extremes,
+        marked (channel_of s 4).extremes,
+        marked (channel_of s 5).extremes,
+      ) refl
 
   back : held_stats (stat_numbers s) ≡ s
   unfolding held_stats channel_of

@@ -60,7 +60,8 @@ module _ (states : List Progress) where
   unfolding held_standings
   all_held e =
       sym (is_tabulate _ 0 6 none states e (λ i l.
-      rw (zero-add i) (sym (ap (λ x. progress_of x (get_or told (2 * i + 1) 0)) (end_at i (2 * i) l refl) ∙ ap (progress_of (end_number (get_or states i none))) (number_at i 1 (2 * i + 1) l (omega arith) refl) ∙ same (get_or states i none)))))
+      rw (zero-add i) (sym (ap (λ x. progress_of x (get_or told (2 * i + 1) 0)) (end_at i (2 * i) l refl)
+      ∙ ap (progress_of (end_number (get_or states i none))) (number_at i 1 (2 * i + 1) l (omega arith) refl) ∙ same (get_or states i none)))))
 
 pub read_back : ReadBack
 read_back states e = (all_known states, all_held states e)

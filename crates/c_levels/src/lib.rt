@@ -86,7 +86,8 @@ pub fn frame_levels<'a>(
     data: &mut [u64; 2],
     decibels: &mut [f64; 1],
 ) -> u8
-    ensures { LevelsCall (as_converter blocks.entry) (as_input input.entry) frame (lent standings.old samples.old lines.old told.old «data».old decibels.old) (lent standings.new samples.new lines.new told.new «data».new decibels.new) result }
+    ensures { LevelsCall (as_converter blocks.entry) (as_input input.entry) frame (lent standings.old samples.old lines.old told.old «data».old decibels.old)
+        (lent standings.new samples.new lines.new told.new «data».new decibels.new) result }
 {
     let Some(conv) = blocks.converter() else {
         return NOT_UNDERSTOOD;

@@ -37,7 +37,8 @@ pub fn level_sheet(channels: u8, stats: &[u64; 24], out: &mut [u8], data: &mut [
     tell_data(&sheet::level_sheet(channels, known, out), data)
 }
 
-// What is in progress, by its end's number and its length: an end is 1 for the highest, 2 for the lowest, and 0 for none.
+// What is in progress, by its end's number and its length: an end is 1 for the highest, 2 for the lowest, and 0 for
+// none.
 #[tactic(auto, unfolding(crate::specs::Progress::progress_of))]
 pub fn progress(end: u64, length: u64) -> Progress
     ensures { result ≡ numbers.progress_of end «length» }

@@ -15,7 +15,8 @@ use Rattle.c_wave.specs.Calls.{KindHeaderDone}
 -- of what is asked for, f at rate r, which the code has as g at rate q
 module _ {f g : Format} {r q : PcmRate} (is : ◌≡◌ {A = Format × PcmRate} (f, r) (g, q)) (channels type n : ℕ) where
   pub header_done : (made : Result ℕ PcmError) {out out' told told' : List ℕ} {answer : ℕ} → HeaderPromise g q channels type n out out' made
-      → (answer ≡ refusal_number (decision made)) × (told' ≡ if_ok (λ l. l ∷ pad n ∷ []) made told) → KindHeaderDone (decide (kind_places f channels type n)) f r channels type n out out' told told' answer
+      → (answer ≡ refusal_number (decision made)) × (told' ≡ if_ok (λ l. l ∷ pad n ∷ []) made told)
+      → KindHeaderDone (decide (kind_places f channels type n)) f r channels type n out out' told told' answer
   header_done made {out} {out'} {told} p t =
       let promise = subst (λ (x : Format × PcmRate). HeaderPromise x.0 x.1 channels type n out out' made) (sym is) p in
       record {

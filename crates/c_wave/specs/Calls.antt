@@ -1,5 +1,5 @@
--- What the call about a WAV file's header promises: its answer, and what every lent list holds when it returns. A primed
--- list is one at exit.
+-- What the call about a WAV file's header promises: its answer, and what every lent list holds when it returns. A
+-- primed list is one at exit.
 use Rattle.std.specs.Prelude.{◌≡◌, List, [], ◌∷◌, Bool, ◌&&◌, cond, ℕ, eqb, ltb}
 use Rattle.reference.specs.Refusals.{Decision, decide, refusal_number}
 use Rattle.reference.specs.Promises.{by_decision}

@@ -1,4 +1,5 @@
-// The call about a WAV file's header, as C has it. Where a format or a rate is unknown, it answers 255 and writes nothing.
+// The call about a WAV file's header, as C has it. Where a format or a rate is unknown, it answers 255 and writes
+// nothing.
 #![tactic(auto)]
 
 ghost use Rattle.std.specs.Prelude.{◌≡◌, [], ◌∷◌, ◌&&◌};

@@ -66,7 +66,8 @@ unfoldable pub all : {A : Type 0} → (A → Bool) → List A → Bool
 all f [] = true
 all f (x ∷ xs) = f x && all f xs
 
--- a file has one of a field's values, as far as the file goes: a field past its end fits, so `places_at` asks for 92 bytes first
+-- a file has one of a field's values, as far as the file goes: a field past its end fits, so `places_at` asks for 92
+-- bytes first
 unfoldable pub fits : List ℕ → Field → Bool
 fits file f = any (alike (drop f.start file)) f.values
 

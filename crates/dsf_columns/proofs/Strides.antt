@@ -98,7 +98,8 @@ module _ {n c first end start size out : ℕ} (a : ColumnArgs n c first end star
     piece_byte q stop i f e b h =
         let k : first + (q - first + i) ≡ q + i = omega arith in
         let p : place_at q - start + i ≡ place_at (q + i) - start = omega (arith, run q i (omega arith), above q f) in
-        rw (get_or-take (stop - q) (drop (place_at q - start) window) i 0 h, get_or-drop (place_at q - start) window i 0, p, k) (sym (pick (ltb (q + i) end) (get_or table (get_or window (place_at (q + i) - start) 0) 0) idle (lt→ltb (q + i) end (omega arith))))
+        rw (get_or-take (stop - q) (drop (place_at q - start) window) i 0 h, get_or-drop (place_at q - start) window i 0, p, k)
+        (sym (pick (ltb (q + i) end) (get_or table (get_or window (place_at (q + i) - start) 0) 0) idle (lt→ltb (q + i) end (omega arith))))
 
     idle_byte : (i : ℕ) → idle ≡ column_byte window table n first end start c (end - first + i)
     unfolding column_byte

@@ -1,4 +1,5 @@
--- What the places of an asked frame decide; the window that every file has past its header; and frames of windows as the file's.
+-- What the places of an asked frame decide; the window that every file has past its header; and frames of windows as
+-- the file's.
 use mathlib.Core.Path.{◌≡◌, refl, sym, ap, ap₂, ◌∙◌}
 use mathlib.Core.List.{List, [], ◌∷◌, ◌++◌}
 use mathlib.Core.Bool.{Bool, true, false, cond, not, ◌&&◌, and-false}
@@ -20,7 +21,8 @@ use Rattle.reference.specs.Promises.{by_decision}
 use Rattle.reference.specs.declared.PcmError.{PcmError}
 use Rattle.reference.proofs.Promises.{accepted_is, exit_accepted, exit_refused}
 use Rattle.text.specs.Bytes.{Bytes, number_at}
-use Rattle.dsf.specs.Dsf.{blocks, data_bytes, data_place, channels, bits_per_sample, samples, needed, frames, frames_in, file_places, frame_places, accepts, our_byte, sample_byte, turn_byte, data_frame, file_data, file_frame}
+use Rattle.dsf.specs.Dsf.{blocks, data_bytes, data_place, channels, bits_per_sample, samples, needed, frames, frames_in}
+use Rattle.dsf.specs.Dsf.{file_places, frame_places, accepts, our_byte, sample_byte, turn_byte, data_frame, file_data, file_frame}
 use Rattle.dsf.specs.Reading.{HeadOf, file_header, header_places}
 use Rattle.dsf.specs.declared.DsfHeader.{DsfHeader}
 use Rattle.dsf.proofs.Alike.{T_is, T_of, left, right, skip}
@@ -163,14 +165,16 @@ given places {frame} {out} e w = record { decided = e; written = w ∙ sym (exit
 pub turned_down : (places : List Place) {frame out : List ℕ} (e : PcmError) → error_decision e ≡ decide places → Framed places frame out out (Err e)
 turned_down places {frame} {out} e d = record { decided = d; written = sym (exit_refused _ frame out (ap is_accepted (sym d) ∙ error_refuses e)) }
 
-pub window_refused : (head : List ℕ) (n f start size : ℕ) {x out : List ℕ} (e : PcmError) → error_decision e ≡ decide (header_places head n) → Framed (window_places head n f start size (length out)) x out out (Err e)
+pub window_refused : (head : List ℕ) (n f start size : ℕ) {x out : List ℕ} (e : PcmError) → error_decision e
+    ≡ decide (header_places head n) → Framed (window_places head n f start size (length out)) x out out (Err e)
 unfolding window_places
 window_refused head n f start size {out = out} e a =
     let s = decide_stop (header_places head n) (asked_places (channels head) (samples head) f start size (length out)) (ap is_accepted (sym a) ∙ error_refuses e) in
     turned_down _ e (a ∙ sym s)
 
 -- ---- a frame by its bytes
-frame_same : (r r' : ℕ → ℕ) (n b s f : ℕ) → 0 < n → ((c k : ℕ) → c < n → k < 4704 → sample_byte r n b s c (f * 4704 + k) ≡ sample_byte r' n b s c (f * 4704 + k)) → data_frame r n b s f ≡ data_frame r' n b s f
+frame_same : (r r' : ℕ → ℕ) (n b s f : ℕ) → 0 < n
+    → ((c k : ℕ) → c < n → k < 4704 → sample_byte r n b s c (f * 4704 + k) ≡ sample_byte r' n b s c (f * 4704 + k)) → data_frame r n b s f ≡ data_frame r' n b s f
 unfolding data_frame
 frame_same r r' n b s f z h =
     let first = f * (4704 * n) in
@@ -212,7 +216,8 @@ module _ (file head : List ℕ) (n : ℕ) (h : HeadOf file head n) (b : Bytes fi
       omega (arith, same_samples)
 
   cell : (c k : ℕ) → c < channels head → k < 4704
-      → sample_byte (window_data window start) (channels head) (bits_per_sample head) (samples head) c (f * 4704 + k) ≡ sample_byte (file_data file) (channels head) (bits_per_sample head) (samples head) c (f * 4704 + k)
+      → sample_byte (window_data window start) (channels head) (bits_per_sample head) (samples head) c (f * 4704 + k)
+      ≡ sample_byte (file_data file) (channels head) (bits_per_sample head) (samples head) c (f * 4704 + k)
   unfolding sample_byte data_place
   cell c k l m =
       let q = f * 4704 + k in

@@ -65,7 +65,8 @@ module _ {n samples' f start size out : ℕ} (a : WindowArgs n samples' f start 
         let q = f * 4704 + i in
         let at = (q / 4096 * n + c) * 4096 + q % 4096 - start in
         ⊎_elim
-        (λ b. pick (ltb q last) (get_or table (get_or window at 0) 0) idle (lt→ltb q last (omega arith)) ∙ o.is (get_or window at 0) (each at) ∙ ordered_is bits (get_or window at 0) ∙ sym (pick (ltb q (samples' / 8)) (our_byte bits (get_or window at 0)) idle (lt→ltb q (samples' / 8) b)))
+        (λ b. pick (ltb q last) (get_or table (get_or window at 0) 0) idle (lt→ltb q last (omega arith)) ∙ o.is (get_or window at 0) (each at)
+        ∙ ordered_is bits (get_or window at 0) ∙ sym (pick (ltb q (samples' / 8)) (our_byte bits (get_or window at 0)) idle (lt→ltb q (samples' / 8) b)))
         (λ b. skip (ltb q last) _ _ (λ t. omega (arith, ltb→lt q last t)) ∙ sym (skip (ltb q (samples' / 8)) _ _ (λ t. omega (arith, ltb→lt q (samples' / 8) t))))
         (below_or q (samples' / 8))
 

@@ -7,7 +7,8 @@ use Rattle.dsf.specs.Dsf.{accepts, channels, samples, frames, file_frame, file_s
 use Rattle.dsf.specs.Reading.{HeadOf}
 use Rattle.dsf_frames.specs.Reading.{WindowOf, window_frame, window_places}
 
--- sample t of channel c of an accepted file is in one of its frames, a bit counted from the highest of a byte. Proved in proofs/Samples, `samples_right`
+-- sample t of channel c of an accepted file is in one of its frames, a bit counted from the highest of a byte. Proved
+-- in proofs/Samples, `samples_right`
 abbrev pub SamplesRight : Type 0
 SamplesRight =
     (file : List ℕ) → Bytes file → T (accepts file) → (c t : ℕ) → c < channels file → t < samples file

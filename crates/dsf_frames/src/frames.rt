@@ -93,7 +93,8 @@ fn asked(header: DsfHeader, frame: u64, window: &Stretch, room: usize) -> Result
 // A frame of a file whose header is accepted.
 fn take(header: DsfHeader, frame: u64, window: &Stretch, out: &mut [u8]) -> Result<(), PcmError>
     requires { (1 ≤ header.channels) × (header.channels ≤ 6) }
-    ensures { Framed (asked_places header.channels header.samples frame window.now.start (length window.now.bytes.now) (length out.old)) (data_frame (window_data window.now.bytes.now window.now.start) header.channels header.bits_per_sample header.samples frame) out.old out.new result }
+    ensures { Framed (asked_places header.channels header.samples frame window.now.start (length window.now.bytes.now) (length out.old))
+        (data_frame (window_data window.now.bytes.now window.now.start) header.channels header.bits_per_sample header.samples frame) out.old out.new result }
 {
     asked(header, frame, window, out.len())?;
     frame_from_window(header, frame, window, out);

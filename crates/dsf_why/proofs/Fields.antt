@@ -1,7 +1,8 @@
 -- What a table's fields tell, one after the other.
 use mathlib.Core.Path.{◌≡◌, refl, sym, ap, ap₂, ◌∙◌}
 use lib.Dec.{leb}
-use Rattle.std.proofs.Common.{arith, Bor, add-one, drop-cons, Option, Some, None, option_map, List, [], ◌∷◌, Bool, true, false, cond, ◌&&◌, ◌||◌, ℕ, zero, suc, ◌+◌, ◌<◌, ◌≤◌, length, get_or, map, drop}
+use Rattle.std.proofs.Common.{arith, Bor, add-one, drop-cons, Option, Some, None, option_map, List, [], ◌∷◌, Bool}
+use Rattle.std.proofs.Common.{true, false, cond, ◌&&◌, ◌||◌, ℕ, zero, suc, ◌+◌, ◌<◌, ◌≤◌, length, get_or, map, drop}
 use Rattle.std.proofs.Math.Seq.{take-length}
 use Rattle.std.proofs.lemmas.List.{drop_all}
 use borrow.Author.Tests.{leb-true}
@@ -45,8 +46,11 @@ module _ (fs : List Field) (k : ℕ) (d : Field) (m : k < length fs) (e : all_re
   readable_here =
       let f = get_or fs k d in
       let r = and_left (readable (field_of f)) _ both in
-      let s = and_right (leb f.start 92) _ r in
-      (leb-true _ _ (and_left (leb f.start 92) _ r), length_same f.values.now (leb-true _ _ (and_left (leb 1 (length (field_of f).values)) _ s)), leb-true _ _ (and_right (leb 1 (length (field_of f).values)) _ s))
+      let s = and_right (leb f.start 92) _ r in (
+        leb-true _ _ (and_left (leb f.start 92) _ r),
+        length_same f.values.now (leb-true _ _ (and_left (leb 1 (length (field_of f).values)) _ s)),
+        leb-true _ _ (and_right (leb 1 (length (field_of f).values)) _ s),
+      )
     where
       length_same : (vs : List (Bor (List ℕ))) → 1 ≤ length (map (λ v. v.now) vs) → 1 ≤ length vs
       length_same [] l = l

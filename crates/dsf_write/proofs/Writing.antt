@@ -31,7 +31,8 @@ use Rattle.dsf.specs.declared.BitOrder.TheVariants.{LowestFirst}
 use Rattle.dsf_columns.specs.Columns.{Ordering}
 use Rattle.dsf_columns.proofs.Blocks.{group}
 use Rattle.dsf_write.proofs.Pieces.{long_mid, wrote_piece}
-use Rattle.dsf_write.specs.Written.{type_of, data_channel, data_byte, written_channel, written_data, written_byte, head, laid_out, written, file_length, length_places, dsf_write_places, laid_places, HeadPromise, LaidPromise, WritePromise, Writable}
+use Rattle.dsf_write.specs.Written.{type_of, data_channel, data_byte, written_channel, written_data, written_byte, head, laid_out, written}
+use Rattle.dsf_write.specs.Written.{file_length, length_places, dsf_write_places, laid_places, HeadPromise, LaidPromise, WritePromise, Writable}
 use Rattle.dsf_write.specs.Putting.{PutPromise, DataArgs, BlockArgs}
 use Rattle.dsf_write.proofs.Written.{by_channels}
 
@@ -48,7 +49,8 @@ put_piece at k old part word fits size e =
       put = take-put_mid at k old part (at + length word) (omega (arith, ap length e)) (omega arith) ∙ ap (λ (l : List ℕ). take at old ++ l) e;
     }
 
--- a piece of n places from a place on that a call has written by f, or filled with zeros; k is the piece's end less its start
+-- a piece of n places from a place on that a call has written by f, or filled with zeros; k is the piece's end less its
+-- start
 module _ (at n k : ℕ) (old part : List ℕ) (fits : at + n ≤ length old) (e : k ≡ n) where
   pub piece_long : length (take k (drop at old)) ≡ n
   piece_long = length-take-le k (drop at old) (omega (arith, length-drop at old)) ∙ e
@@ -59,7 +61,8 @@ module _ (at n k : ℕ) (old part : List ℕ) (fits : at + n ≤ length old) (e 
 
   pub zeroed : part ≡ replicate (length (take k (drop at old))) 0 → Wrote 0 (λ i. 0) at n old (put_mid at k old part)
   zeroed p =
-      rw (← e) (wrote_piece at k old part (omega arith) (omega (arith, ap length p, length-replicate {A = ℕ} (length (take k (drop at old))) 0, piece_long)) (λ i. 0) (λ i l. rw p (get_or-replicate (length (take k (drop at old))) i 0 0 (omega (arith, piece_long)))))
+      rw (← e) (wrote_piece at k old part (omega arith) (omega (arith, ap length p, length-replicate {A = ℕ} (length (take k (drop at old))) 0, piece_long))
+      (λ i. 0) (λ i l. rw p (get_or-replicate (length (take k (drop at old))) i 0 0 (omega (arith, piece_long)))))
 
 -- two pieces, one after the other
 pub then : {v w old mid new : List ℕ} (at n : ℕ) → length v ≡ n → PutPromise at v old mid → PutPromise (at + n) w mid new → PutPromise at (v ++ w) old new

@@ -13,7 +13,9 @@ use Rattle.numbers.proofs.Lists.{part_end, length_tabulate, get_d_tabulate, is_t
 use Rattle.reference.specs.Frames.{frame, frame_count}
 use Rattle.text.specs.Text.{text}
 use Rattle.text.specs.Bytes.{Bytes, number_at, bytes}
-use Rattle.dsf.specs.Dsf.{alike, any, all, fits, layout, pairs, orders, blocks, data_bytes, data_place, stated_length, channel_type, channels, bits_per_sample, samples, data_size, needed, accepts, frames, frames_in, turned, our_byte, sample_byte, turn_byte, data_frame, file_data, file_byte, file_frame}
+use Rattle.dsf.specs.Dsf.{alike, any, all, fits, layout, pairs, orders, blocks, data_bytes, data_place, stated_length}
+use Rattle.dsf.specs.Dsf.{channel_type, channels, bits_per_sample, samples, data_size, needed, accepts, frames, frames_in}
+use Rattle.dsf.specs.Dsf.{turned, our_byte, sample_byte, turn_byte, data_frame, file_data, file_byte, file_frame}
 use Rattle.dsf.specs.Headers.{header_with}
 use Rattle.dsf.proofs.Alike.{pick, skip}
 use Rattle.text.proofs.Bytes.{padded, number_bytes}
@@ -111,7 +113,8 @@ module _ (n : ℕ) (fr : List ℕ) (w : Writable n fr) where
   is_size = ap data_size is_file ∙ H.read_size (bytes 8 (92 + d)) (bytes 8 0) (type_of n) n 1 (bytes 8 (8 * m)) (12 + d) body ∙ number_bytes 8 (12 + d) (omega (arith, d_small))
 
   is_length : length F ≡ 92 + d
-  is_length = ap length is_file ∙ omega (arith, length-append hd body, H.length_header (bytes 8 (92 + d)) (bytes 8 0) (type_of n) n 1 (bytes 8 (8 * m)) (12 + d) [], length_tabulate (written_byte n fr) 0 d)
+  is_length = ap length is_file
+      ∙ omega (arith, length-append hd body, H.length_header (bytes 8 (92 + d)) (bytes 8 0) (type_of n) n 1 (bytes 8 (8 * m)) (12 + d) [], length_tabulate (written_byte n fr) 0 d)
 
   is_needed : needed F ≡ d
   unfolding needed written_data

@@ -1,5 +1,5 @@
--- No order has a smaller greatest lateness than the simulation: the albums that go no later than album a are due no later, and in any order the
--- last of them finishes no earlier than a does in the simulation.
+-- No order has a smaller greatest lateness than the simulation: the albums that go no later than album a are due no
+-- later, and in any order the last of them finishes no earlier than a does in the simulation.
 use mathlib.Core.Path.{◌≡◌, refl}
 use mathlib.Core.List.{List, [], ◌∷◌}
 use mathlib.Core.Bool.{Bool, true, false, cond}

@@ -1,4 +1,5 @@
--- The simulation: the next album is the one that it is to be, and an album finishes after the turns of all that go no later than it.
+-- The simulation: the next album is the one that it is to be, and an album finishes after the turns of all that go no
+-- later than it.
 use mathlib.Core.Path.{◌≡◌, refl, sym, ◌∙◌, ap}
 use mathlib.Core.List.{List, [], ◌∷◌}
 use mathlib.Core.Bool.{Bool, true, false, cond, ◌&&◌, ◌||◌}

@@ -47,7 +47,8 @@ pub record InRange (s : LineSettings) : Type 0 where
   pub lowest : negsuc 119 ≤ℤ s.db
   pub highest : s.db ≤ℤ pos 24
 
--- what reading a line promises, in both directions: it takes the lines of settings in range, as those settings, and no other line
+-- what reading a line promises, in both directions: it takes the lines of settings in range, as those settings, and no
+-- other line
 pub record LineRead (line : List ℕ) (answer : Option LineSettings) : Type 0 where
   pub takes : (s : LineSettings) → InRange s → line ≡ settings_line s → answer ≡ Some s
   pub takes_only : (s : LineSettings) → answer ≡ Some s → InRange s × (line ≡ settings_line s)

@@ -6,8 +6,8 @@ ghost use Rattle.level_settings.specs.Reading.{ChannelsRead, DecibelsRead};
 use reference::{Cutoff, PcmRate};
 use text::number;
 
-// The words of a rate and, below, of a cutoff: three cases each, of different types. A table of words and values that both
-// search would be longer than the cases.
+// The words of a rate and, below, of a cutoff: three cases each, of different types. A table of words and values that
+// both search would be longer than the cases.
 #[tactic(auto, unfolding(crate::specs::Settings::rate_named, crate::specs::Settings::rate_text, text::specs::Text::text))]
 pub fn rate_named(word: &[u8]) -> Option<PcmRate>
     ensures { result ≡ names.rate_named word.now }

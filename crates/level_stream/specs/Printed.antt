@@ -12,7 +12,8 @@ use Rattle.level_settings.specs.declared.LineSettings.{LineSettings}
 use Rattle.level_start.specs.Begun.{read_settings, after_line, refused_settings}
 use Rattle.level_frames.specs.Report.{lines_of, text_by}
 
--- what is printed of settings and the bytes after their line: the refusal of a converter that does not open stands alone
+-- what is printed of settings and the bytes after their line: the refusal of a converter that does not open stands
+-- alone
 unfoldable pub report_text : LineSettings → List ℕ → List ℕ
 report_text s input =
     let conv = converter_of (read_settings s) in

@@ -113,7 +113,8 @@ module _ (size : ℕ) (three next fresh tail filled : List ℕ)
   front_kept =
       ap (take (2 * size)) so ∙ take_at (take (2 * size) three) (fresh ++ tail) (2 * size) (length-take-le (2 * size) three (omega (arith, long)))
 
-  told_is : (frames left came clipped clipped' : ℕ) (states states' : List Progress) → at_hand frames (eqb came size) size filled ≡ told_frame size (moment frames clipped states left three) (moment (frames + 1) clipped' states' came next)
+  told_is : (frames left came clipped clipped' : ℕ) (states states' : List Progress) → at_hand frames (eqb came size) size filled
+      ≡ told_frame size (moment frames clipped states left three) (moment (frames + 1) clipped' states' came next)
   unfolding at_hand
   told_is frames left came clipped clipped' states states' =
       let before = front_same size three filled long room front_kept in

@@ -73,7 +73,10 @@ impl<'a> Window<'a> {
     ) -> io::Result<()>
         requires whole { (self.old.size ≡ frame_length report.old.of.conv.channels) × (self.old.came.left ≡ self.old.size) }
         requires few { (self.old.came.frames < 100000000000000) × (report.old.clipped ≤ 28224 * self.old.came.frames) }
-        ensures turned { IfOk result (λ _. Turned report.old.of.conv self.old.size (moment self.old.came.frames report.old.clipped report.old.states self.old.came.left self.old.three.now) (moment self.new.came.frames report.new.clipped report.new.states self.new.came.left self.new.three.now) (R.remaining from.old) (R.remaining from.new) (W.contents to.old) (W.contents to.new)) }
+        ensures turned { IfOk result
+            (λ _. Turned report.old.of.conv self.old.size (moment self.old.came.frames report.old.clipped report.old.states self.old.came.left self.old.three.now)
+            (moment self.new.came.frames report.new.clipped report.new.states self.new.came.left self.new.three.now)
+            (R.remaining from.old) (R.remaining from.new) (W.contents to.old) (W.contents to.new)) }
         ensures same { IfOk result (λ _. (self.new.size ≡ self.old.size) × (report.new.of ≡ report.old.of) × (report.new.clipped ≤ 28224 * self.new.came.frames)) }
     {
         let size = self.size;
@@ -117,7 +120,9 @@ fn turns<R: Read, W: Write>(report: &mut Report, from: &mut R, to: &mut W) -> io
 // The report of the frames that a reader gives, one or two channels.
 pub fn report_frames<R: Read, W: Write>(conv: Converter, from: &mut R, to: &mut W) -> io::Result<()>
     requires { (decide (held_places conv) ≡ accepted) × (conv.channels ≤ 2) }
-    ensures { IfOk result (λ _. IfSome (R.remaining from.old) (λ input. length input < 100000000000000 * frame_length conv.channels → Appends (W.contents to.old) (W.contents to.new) (text_by conv input (lines_of conv input)))) }
+    ensures { IfOk result
+        (λ _. IfSome (R.remaining from.old) (λ input. length input < 100000000000000 * frame_length conv.channels
+        → Appends (W.contents to.old) (W.contents to.new) (text_by conv input (lines_of conv input)))) }
 {
     let of = FewChannels { conv };
     let mut report = Report {

@@ -60,7 +60,8 @@ pub record FrameOf (channels : ℕ) (input : List ℕ) (f : ℕ) (piece : Run) :
 pub record InProgress (conv : Converter) (r : Run) (f : ℕ) (states : List Progress) : Type 0 where
   pub held : (c : ℕ) → c < conv.channels → slice_index_or states c none ≡ in_progress (sample conv r c) (f * samples_per_frame conv.rate)
 
--- the lines of a piece of one frame, with its overs from what is in progress before it, and what is in progress after it
+-- the lines of a piece of one frame, with its overs from what is in progress before it, and what is in progress after
+-- it
 unfoldable pub piece_lines : Converter → ℕ → List Progress → Run → List ℕ
 piece_lines conv number states piece = lines_with conv piece (λ c. (overs_of (samples conv piece) conv.channels c (slice_index_or states c none)).count) number 0
 
@@ -90,8 +91,8 @@ pub record AsInWhole (conv : Converter) (input : List ℕ) (f : ℕ) (old new : 
   pub counted : told_clips answer ≡ frame_clips conv (whole_input conv.channels input) f
   pub carried : InProgress conv (whole_input conv.channels input) (suc f) (told_states states answer)
 
--- the decision, samples, lines, clips and states of the piece; and where the piece is a frame of some input and the states are what is in progress
--- before it there, those of that input
+-- the decision, samples, lines, clips and states of the piece; and where the piece is a frame of some input and the
+-- states are what is in progress before it there, those of that input
 pub record FrameReported (conv : Converter) (number : ℕ) (states : List Progress) (piece : Run) (items items' : List ℤ) (old new : List ℕ) (answer : Result Reported PcmError) : Type 0 where
   pub decided : decision answer ≡ decide (convert_frame_places conv piece items)
   pub sampled : items' ≡ by_decision (decide (convert_frame_places conv piece items)) (samples conv piece) items

@@ -83,7 +83,8 @@ pub extern "C" fn puigneht_convert_run_call<'a>(
     data: &mut [u64; 2],
     decibels: &mut [f64; 1],
 ) -> u8
-    ensures { SamplesCall samples_of.Run (converter_lists numbers.now gain.now taps.now) (input presence before.now frames.now after.now) out.old out.new (results stats.old «data».old decibels.old) (results stats.new «data».new decibels.new) result }
+    ensures { SamplesCall samples_of.Run (converter_lists numbers.now gain.now taps.now) (input presence before.now frames.now after.now)
+        out.old out.new (results stats.old «data».old decibels.old) (results stats.new «data».new decibels.new) result }
 {
     let blocks = Blocks {
         numbers,
@@ -114,7 +115,8 @@ pub extern "C" fn puigneht_convert_frame_call<'a>(
     data: &mut [u64; 2],
     decibels: &mut [f64; 1],
 ) -> u8
-    ensures { SamplesCall samples_of.Frame (converter_lists numbers.now gain.now taps.now) (input presence before.now frames.now after.now) out.old out.new (results stats.old «data».old decibels.old) (results stats.new «data».new decibels.new) result }
+    ensures { SamplesCall samples_of.Frame (converter_lists numbers.now gain.now taps.now) (input presence before.now frames.now after.now)
+        out.old out.new (results stats.old «data».old decibels.old) (results stats.new «data».new decibels.new) result }
 {
     let blocks = Blocks {
         numbers,
@@ -146,7 +148,8 @@ pub extern "C" fn puigneht_convert_call<'a>(
     data: &mut [u64; 2],
     decibels: &mut [f64; 1],
 ) -> u8
-    ensures { BytesCall bytes_of.Rack (converter_lists numbers.now gain.now taps.now) (input presence before.now frames.now after.now) out.old counts.old out.new counts.new (results stats.old «data».old decibels.old) (results stats.new «data».new decibels.new) result }
+    ensures { BytesCall bytes_of.Rack (converter_lists numbers.now gain.now taps.now) (input presence before.now frames.now after.now)
+        out.old counts.old out.new counts.new (results stats.old «data».old decibels.old) (results stats.new «data».new decibels.new) result }
 {
     let blocks = Blocks {
         numbers,
@@ -187,7 +190,8 @@ pub extern "C" fn puigneht_convert_desk_call<'a>(
     data: &mut [u64; 2],
     decibels: &mut [f64; 1],
 ) -> u8
-    ensures { BytesCall bytes_of.Desk (converter_lists numbers.now gain.now taps.now) (input presence before.now frames.now after.now) out.old counts.old out.new counts.new (results stats.old «data».old decibels.old) (results stats.new «data».new decibels.new) result }
+    ensures { BytesCall bytes_of.Desk (converter_lists numbers.now gain.now taps.now) (input presence before.now frames.now after.now)
+        out.old counts.old out.new counts.new (results stats.old «data».old decibels.old) (results stats.new «data».new decibels.new) result }
 {
     let blocks = Blocks {
         numbers,
@@ -228,7 +232,8 @@ pub extern "C" fn puigneht_wav_convert_call<'a>(
     data: &mut [u64; 2],
     decibels: &mut [f64; 1],
 ) -> u8
-    ensures { BytesCall bytes_of.Wav (converter_lists numbers.now gain.now taps.now) (input presence before.now frames.now after.now) out.old counts.old out.new counts.new (results stats.old «data».old decibels.old) (results stats.new «data».new decibels.new) result }
+    ensures { BytesCall bytes_of.Wav (converter_lists numbers.now gain.now taps.now) (input presence before.now frames.now after.now)
+        out.old counts.old out.new counts.new (results stats.old «data».old decibels.old) (results stats.new «data».new decibels.new) result }
 {
     let blocks = Blocks {
         numbers,

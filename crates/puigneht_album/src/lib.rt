@@ -26,7 +26,8 @@ pub extern "C" fn puigneht_album_open_call<'a>(
     data: &mut [u64; 2],
     decibels: &mut [f64; 1],
 ) -> u8
-    ensures { OpenAlbumCall (asked (converter_lists numbers.now gain.now taps.now) heads.now lengths.now) (outputs album.old marks.old track.old «data».old decibels.old) (outputs album.new marks.new track.new «data».new decibels.new) result }
+    ensures { OpenAlbumCall (asked (converter_lists numbers.now gain.now taps.now) heads.now lengths.now)
+        (outputs album.old marks.old track.old «data».old decibels.old) (outputs album.new marks.new track.new «data».new decibels.new) result }
 {
     let asked = Asked {
         numbers,
@@ -96,7 +97,8 @@ pub extern "C" fn puigneht_album_frames_call<'a>(
     data: &mut [u64; 2],
     decibels: &mut [f64; 1],
 ) -> u8
-    ensures { FramesCall (asked (converter_lists numbers.now gain.now taps.now) heads.now lengths.now) first count windows.now scratch.old scratch.new «data».old «data».new decibels.old decibels.new result }
+    ensures { FramesCall (asked (converter_lists numbers.now gain.now taps.now) heads.now lengths.now)
+        first count windows.now scratch.old scratch.new «data».old «data».new decibels.old decibels.new result }
 {
     let asked = Asked {
         numbers,
@@ -124,7 +126,8 @@ pub extern "C" fn puigneht_album_step_call<'a>(
     data: &mut [u64; 2],
     decibels: &mut [f64; 1],
 ) -> u8
-    ensures { StepCall (asked (converter_lists numbers.now gain.now taps.now) heads.now lengths.now) first count windows.now (lists scratch.old out.old) (lists scratch.new out.new) (results stats.old «data».old decibels.old) (results stats.new «data».new decibels.new) result }
+    ensures { StepCall (asked (converter_lists numbers.now gain.now taps.now) heads.now lengths.now) first count windows.now
+        (lists scratch.old out.old) (lists scratch.new out.new) (results stats.old «data».old decibels.old) (results stats.new «data».new decibels.new) result }
 {
     let asked = Asked {
         numbers,

@@ -9,7 +9,8 @@ use lib.IntN.{ℤ}
 use lib.ListN.{length}
 use Rattle.reference.specs.Frames.{Run, frame_count}
 use Rattle.reference.specs.Output.{all_samples, samples, stats, s24le, frame_clips, per_frame_clips}
-use Rattle.reference.specs.Refusals.{rack, accepted, error_decision, is_accepted, Place, decide, if_present, lent_length, held_places, input_places, run_lengths, byte_lengths, convert_run_places, convert_frame_places, convert_places}
+use Rattle.reference.specs.Refusals.{rack, accepted, error_decision, is_accepted, Place, decide, if_present, lent_length, held_places}
+use Rattle.reference.specs.Refusals.{input_places, run_lengths, byte_lengths, convert_run_places, convert_frame_places, convert_places}
 use Rattle.reference.specs.Promises.{stats_told, Answered, SamplesPromise, BytesPromise, if_lent}
 use Rattle.reference.specs.Statistics.{no_stats}
 use Rattle.reference.specs.declared.Converter.{Converter}

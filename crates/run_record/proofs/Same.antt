@@ -33,7 +33,8 @@ use Rattle.routes.proofs.Routes.{few_taps, low_pass, last_filter}
 module _ (conv : Converter) (r q : Run) (e : sequence conv.channels r ≡ sequence conv.channels q) (g : r.frames ≡ q.frames) where
   unclamped_same : unclamped conv r ≡ unclamped conv q
   unfolding unclamped
-  unclamped_same = ap {B = ℕ → ℕ → ℤ} (λ (l : List ℕ). λ c n. scaled conv.gain.linear (y conv.rate conv.cutoff (taps_of conv.filter) (channel_byte conv.channels l c) (samples_per_frame conv.rate + n))) e
+  unclamped_same = ap {B = ℕ → ℕ → ℤ}
+      (λ (l : List ℕ). λ c n. scaled conv.gain.linear (y conv.rate conv.cutoff (taps_of conv.filter) (channel_byte conv.channels l c) (samples_per_frame conv.rate + n))) e
 
   pub samples_same : samples conv r ≡ samples conv q
   unfolding samples item sample all_samples channel_samples
@@ -46,7 +47,10 @@ module _ (conv : Converter) (r q : Run) (e : sequence conv.channels r ≡ sequen
   stats_same =
       ap₂ {C = ConvertStats} (λ (u : ℕ → ℕ → ℤ) (f : List ℕ).
       let n = frame_count conv.channels f * samples_per_frame conv.rate in
-      record { channels = tabulate (λ c. record { clipped = cond (ltb c conv.channels) (count (λ k. clips (u c k)) 0 n) 0; extremes = cond (ltb c conv.channels) (extremes_of (u c) 0 n) None }) 0 6 }) unclamped_same g
+      record {
+        channels = tabulate
+            (λ c. record { clipped = cond (ltb c conv.channels) (count (λ k. clips (u c k)) 0 n) 0; extremes = cond (ltb c conv.channels) (extremes_of (u c) 0 n) None }) 0 6;
+      }) unclamped_same g
 
   pub frame_clips_same : frame_clips conv r ≡ frame_clips conv q
   unfolding frame_clips clipped

@@ -1,6 +1,6 @@
-// What a run is turned down for: its length, its neighbours'. Each function that asks for an accepted converter reads its
-// stored numbers. It asks by one clause: a record with that fact would be made by each caller from `held`'s answer and
-// opened here for its fields.
+// What a run is turned down for: its length, its neighbours'. Each function that asks for an accepted converter reads
+// its stored numbers. It asks by one clause: a record with that fact would be made by each caller from `held`'s answer
+// and opened here for its fields.
 #![tactic(auto)]
 
 ghost use Rattle.std.specs.Prelude.{◌≡◌, [], ◌∷◌, ◌*◌, ◌≤◌, option_copied};

@@ -29,8 +29,8 @@ NeverTooWide =
     (conv : Converter) (r : Run) → ConverterHeld conv → AcceptedConverter conv → AcceptedRun conv r → (channels n : ℕ)
     → refusal_number (decide (sheet_places channels (stats conv r) n)) ≡ 20 → ⊥
 
--- for a list as in demand 3: joined one after the other, the calls' statistics are the whole run's, so that their sheet is its sheet, and is refused just
--- where that is
+-- for a list as in demand 3: joined one after the other, the calls' statistics are the whole run's, so that their sheet
+-- is its sheet, and is refused just where that is
 pub record SheetOfRun {conv : Converter} (r : Run) (calls : List (Call conv)) (channels : ℕ) : Type 0 where
   pub from_first : joined_on no_stats (map (λ call. stats_told (answer_of call)) (accepted_calls calls)) ≡ stats conv r
   pub same_text : sheet channels (all_joined (map (λ call. stats_told (answer_of call)) (accepted_calls calls))) ≡ sheet channels (stats conv r)

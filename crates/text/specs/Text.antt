@@ -35,7 +35,8 @@ signed_decimal (negsuc n) = 45 ∷ decimal (suc n)
 unfoldable pub with_text : List ℕ → ℕ → List ℕ → List ℕ
 with_text l at t = take at l ++ (t ++ drop (at + length t) l)
 
--- what a function that prints promises: it puts the text from a place on, keeps all else, and answers the place after it
+-- what a function that prints promises: it puts the text from a place on, keeps all else, and answers the place after
+-- it
 pub record Printed (t old : List ℕ) (at : ℕ) (new : List ℕ) (next : ℕ) : Type 0 where
   pub written : new ≡ with_text old at t
   pub after : next ≡ at + length t

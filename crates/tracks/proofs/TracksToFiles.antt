@@ -193,7 +193,11 @@ module _ (ts : List Track) (s : Settings) (taken : decide (open_places (heads ts
       let h = within from p ps e in
       let first = step_agree p h in
       let rest = all_agree (from + p.count) ps e.1 in
-      rw (step_count p h) (subst (λ (k : ℕ). Agree conv (frame n (sequence n (tracks_run n ts)) k) (run_of (step_call p h)) (frame n (sequence n (tracks_run n ts)) (suc (k + p.count)))) e.0 first, rest)
+      rw (step_count p h) (
+        subst (λ (k : ℕ). Agree conv (frame n (sequence n (tracks_run n ts)) k)
+            (run_of (step_call p h)) (frame n (sequence n (tracks_run n ts)) (suc (k + p.count)))) e.0 first,
+        rest,
+      )
 
   whole_run : run_from F f 0 f ≡ tracks_run n ts
   unfolding run_from tracks_run there

@@ -83,12 +83,19 @@ own_clip t o a b =
     let n = channels t.head.bytes in
     let byte = turn_byte t.read n (bits_per_sample t.head.bytes) (samples t.head.bytes) in
     sym
-    (rw (sub_times a o n, sub_times b o n, take_tabulate byte ((b - o) * n) (head_length t.head * n), drop_tabulate byte ((a - o) * n) (min (head_length t.head * n) ((b - o) * n)), lesser_times (head_length t.head) (b - o) (a - o) n) refl)
+    (rw (
+      sub_times a o n,
+      sub_times b o n,
+      take_tabulate byte ((b - o) * n) (head_length t.head * n),
+      drop_tabulate byte ((a - o) * n) (min (head_length t.head * n) ((b - o) * n)),
+      lesser_times (head_length t.head) (b - o) (a - o) n,
+    ) refl)
 
 stretch_clip : (t : Track) (n o a b : ℕ) → channels t.head.bytes ≡ n
     → stretch t.read n (bits_per_sample t.head.bytes) (samples t.head.bytes) (a - o) (min (head_length t.head) (b - o)) ≡ clip (a * n) (b * n) (o * n) (track_bytes t)
 stretch_clip t n o a b e =
-    subst (λ (n : ℕ). stretch t.read n (bits_per_sample t.head.bytes) (samples t.head.bytes) (a - o) (min (head_length t.head) (b - o)) ≡ clip (a * n) (b * n) (o * n) (track_bytes t)) e (own_clip t o a b)
+    subst (λ (n : ℕ). stretch t.read n (bits_per_sample t.head.bytes) (samples t.head.bytes) (a - o) (min (head_length t.head) (b - o))
+    ≡ clip (a * n) (b * n) (o * n) (track_bytes t)) e (own_clip t o a b)
 
 -- ---- texts one after the other
 two_texts : (old s t : List ℕ) (at : ℕ) → at ≡ length s → with_text (with_text old 0 s) at t ≡ with_text old 0 (s ++ t)

@@ -119,7 +119,8 @@ module _ {heads' lengths : List ℕ} {n : ℕ} {frames : Span} {size room : ℕ}
           short = omega (arith, bytes_there y, g.short);
         }
 
-    pub goes_on : (k : ℕ) (start next : Start) (out new : List ℕ) → k < length lengths → Goes k start out → TrackTaken (head_at heads' lengths k) start span w out new next → length new ≡ length out → Goes (k + 1) next new
+    pub goes_on : (k : ℕ) (start next : Start) (out new : List ℕ) → k < length lengths → Goes k start out
+        → TrackTaken (head_at heads' lengths k) start span w out new next → length new ≡ length out → Goes (k + 1) next new
     goes_on k start next out new h x t e = go_on (rw (front heads' lengths k h) at x) t e
 
     -- when no track is left

@@ -50,7 +50,9 @@ fn take(
 // The frames `frames.from` to `frames.to` of an album of tracks, out of their windows, which stand end to end.
 pub fn gather(tracks: Tracks<'_>, channels: u64, frames: Span, windows: &[u8], out: &mut [u8])
     requires { GatherArgs tracks.heads.now tracks.lengths.now channels frames (length windows.now) (length out.old) }
-    ensures { out.new ≡ frames_from (tracks_frame channels (windowed channels (frames.from * frame_bytes) (frames.to * frame_bytes) 0 0 windows.now (heads_of tracks.entry.heads.now tracks.entry.lengths.now))) frames.from (frames.to - frames.from) }
+    ensures { out.new ≡ frames_from
+        (tracks_frame channels (windowed channels (frames.from * frame_bytes) (frames.to * frame_bytes) 0 0
+        windows.now (heads_of tracks.entry.heads.now tracks.entry.lengths.now))) frames.from (frames.to - frames.from) }
 {
     let span = Span {
         from: frames.from * 4704,

@@ -52,7 +52,8 @@ another_type type k h = sym (at_first _ _ (ap not (ne_eqb k type h)))
 pub same_type : (type k : ℕ) → k ≡ type → accepted ≡ decide (other_type type k ∷ [])
 same_type type k h = sym (at_next _ _ (ap not (eq-eqb k type h)) ∙ at_end)
 
-pub two_places : (p q : Place) {A B : Type 0} (a : Result A PcmError) (b : Result B PcmError) → decision a ≡ decide (p ∷ []) → decision b ≡ decide (q ∷ []) → decision (result_and a b) ≡ decide (p ∷ q ∷ [])
+pub two_places : (p q : Place) {A B : Type 0} (a : Result A PcmError) (b : Result B PcmError) → decision a
+    ≡ decide (p ∷ []) → decision b ≡ decide (q ∷ []) → decision (result_and a b) ≡ decide (p ∷ q ∷ [])
 two_places p q a b h k = one_after (p ∷ []) (q ∷ []) a b h k
 
 module _ (head : List ℕ) (n type before : ℕ) where

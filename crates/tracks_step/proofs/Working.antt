@@ -104,10 +104,13 @@ module _ (heads' lengths : List ℕ) (s : Settings) (first count : ℕ) (w scrat
         } in
         rw (channels_are, span_is) args
 
-    pub frames_are : {new : List ℕ} → new ≡ frames_from (tracks_frame r.album.channels (windowed r.album.channels (r.frames.from * 4704) (r.frames.to * 4704) 0 0 w hs)) r.frames.from (r.frames.to - r.frames.from) → new ≡ piece_frames hs first count w
+    pub frames_are : {new : List ℕ} → new
+        ≡ frames_from (tracks_frame r.album.channels (windowed r.album.channels (r.frames.from * 4704) (r.frames.to * 4704) 0 0 w hs))
+        r.frames.from (r.frames.to - r.frames.from) → new ≡ piece_frames hs first count w
     frames_are e = rw (channels_are, span_is) at e
 
-    pub framed : {new : List ℕ} → new ≡ frames_from (tracks_frame r.album.channels (windowed r.album.channels (r.frames.from * 4704) (r.frames.to * 4704) 0 0 w hs)) r.frames.from (r.frames.to - r.frames.from)
+    pub framed : {new : List ℕ} → new
+        ≡ frames_from (tracks_frame r.album.channels (windowed r.album.channels (r.frames.from * 4704) (r.frames.to * 4704) 0 0 w hs)) r.frames.from (r.frames.to - r.frames.from)
         → FramesPromise hs s first count w scratch new (Ok r.album)
     framed e = record { decided = p.decided; named = _; album = ap (λ (x : Gathered). x.album) p.ready; gathered = frames_are e ∙ sym (exit_accepted _ _ _ (sym p.decided)) }
 

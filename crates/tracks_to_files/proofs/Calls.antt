@@ -108,7 +108,8 @@ module _ (files : List (List ℕ)) (hs : List Head) (s : Settings) (g : HeadsOf 
     piece_within = rw (piece_first, piece_counted) (omega (arith, begins))
 
     -- a step on it is accepted
-    pub piece_taken : (windows scratch out : ℕ) → windows ≡ piece_windows hs p.first p.count → scratch ≡ p.scratch → out ≡ p.bytes → decide (step_places hs s p.first p.count windows scratch out) ≡ accepted
+    pub piece_taken : (windows scratch out : ℕ) → windows ≡ piece_windows hs p.first p.count → scratch
+        ≡ p.scratch → out ≡ p.bytes → decide (step_places hs s p.first p.count windows scratch out) ≡ accepted
     piece_taken windows scratch out w h o = step_taken p.first p.count windows scratch out piece_within w (h ∙ piece_scratch) (o ∙ piece_bytes)
 
   -- ---- a call

@@ -57,7 +57,8 @@ pub plan_to_file : PlanToFile
 unfolding tracks_channels tracks_type
 plan_to_file file h s jobs ps g taken more most e =
     let gives = plan_to_files (file ∷ []) (h ∷ []) s jobs ps (g, tt) (opened file s taken) more most e in
-    let written : (kind : HeaderKind) (out : List ℕ) → AllWritten ps kind out → out ≡ wave_file kind s.rate (channels file) (channel_type file) (file_sample_bytes file s) = λ kind out w. gives.all kind out w ∙ ap (wave_file kind s.rate (channels file) (channel_type file)) (data_is file s taken) in
+    let written : (kind : HeaderKind) (out : List ℕ) → AllWritten ps kind out → out ≡ wave_file kind s.rate (channels file) (channel_type file)
+    (file_sample_bytes file s) = λ kind out w. gives.all kind out w ∙ ap (wave_file kind s.rate (channels file) (channel_type file)) (data_is file s taken) in
     record {
       taken = gives.taken;
       written = written;

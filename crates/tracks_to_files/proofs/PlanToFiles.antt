@@ -68,7 +68,8 @@ module _ (files : List (List ℕ)) (hs : List Head) (s : Settings) (g : HeadsOf 
       abbrev Told : PieceStep files hs s → Type 0
       Told c = HoldsAt out (header_length kind + (write_for low high c).at) (part (write_for low high c).begin (write_for low high c).end c.out')
 
-      held : (c : PieceStep files hs s) → Told c → HoldsAt out (length front + (c.piece.first * album_frame (tracks_of files) s - low)) (clip low high (c.piece.first * album_frame (tracks_of files) s) c.out')
+      held : (c : PieceStep files hs s) → Told c
+          → HoldsAt out (length front + (c.piece.first * album_frame (tracks_of files) s - low)) (clip low high (c.piece.first * album_frame (tracks_of files) s) c.out')
       held c e = rw (front_long, ← place_of c) (told_held c.piece.place low high (header_length kind) c.out' out (rw (bytes_of c) at e))
 
       each_both : (l m : List (PieceStep files hs s)) → Each Told l → Each Told m → Each Told (l ++ m)

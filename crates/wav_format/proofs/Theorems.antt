@@ -1,5 +1,5 @@
--- Files written and read: the reader takes exactly the files of the definition, what is written is read back, what is read is written back; and a promise
--- leaves nothing free.
+-- Files written and read: the reader takes exactly the files of the definition, what is written is read back, what is
+-- read is written back; and a promise leaves nothing free.
 use mathlib.Core.Path.{◌≡◌, refl, sym, ap, subst, ◌∙◌}
 use mathlib.Core.List.{List}
 use mathlib.Core.Bool.{true}
@@ -94,5 +94,6 @@ read_exact file (Ok f) b p q = let t = answered_taken file f p in p.told t ∙ s
 read_exact file (Err e) (Ok g) p q = let t = answered_taken file g q in p.told t ∙ sym (q.told t)
 read_exact file (Err e) (Err f) p q = ap Err (same_error e f (decision_exact (Err e) (Err f) (p.decided ∙ sym q.decided)))
 
-pub write_exact : (rate : PcmRate) (channels : ℕ) (l out o o' : List ℕ) (a b : Result (Unit {0}) PcmError) → WritePromise rate channels l out o a → WritePromise rate channels l out o' b → (a ≡ b) × (o ≡ o')
+pub write_exact : (rate : PcmRate) (channels : ℕ) (l out o o' : List ℕ) (a b : Result (Unit {0}) PcmError)
+    → WritePromise rate channels l out o a → WritePromise rate channels l out o' b → (a ≡ b) × (o ≡ o')
 write_exact rate channels l out o o' a b p q = (decision_exact a b (p.decided ∙ sym q.decided), p.written ∙ sym q.written)

@@ -19,7 +19,8 @@ use Rattle.wav_header.specs.Header as wav
 use Rattle.wav_header.specs.Header.{sample_bytes}
 use Rattle.wav_format.specs.Wav.{wav_file}
 use Rattle.wave_headers.specs.Speakers.{mask}
-use Rattle.wave_headers.specs.Headers.{header_length, pad, riff_size, sample_count, elsewhere, riff_fields, rf64, samples_told, plain_format, extensible_format, data_fields, kind_fields, kind_header, padded, wave_file}
+use Rattle.wave_headers.specs.Headers.{header_length, pad, riff_size, sample_count, elsewhere, riff_fields, rf64, samples_told}
+use Rattle.wave_headers.specs.Headers.{plain_format, extensible_format, data_fields, kind_fields, kind_header, padded, wave_file}
 use Rattle.wave_headers.specs.Choice.{most_of_kind, holds, short, long, kind_of, few_for, placed, whole_samples, writable, kind_places}
 use Rattle.wave_headers.specs.Fields.{format_at, FormatAt, LongSizes, SizesTold, SpeakersTold}
 use Rattle.wave_headers.specs.Laws.{PlainHeader, PlainFile, LengthHeader, ToldSize, AllFound, AutoAccepted, Rf64Accepted, WavAccepted}

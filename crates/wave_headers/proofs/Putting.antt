@@ -21,7 +21,8 @@ module _ (rate channels speakers n : ℕ) where
   unfolding kind_header kind_fields rf64 plain_format samples_told data_fields parts.format_part parts.data_head joined text bytes
   long_is = refl
 
-  pub long_extensible_is : kind_header Rf64Extensible rate channels speakers n ≡ joined (rf64 (riff_size Rf64Extensible n) n (sample_count channels n)) ++ (joined (extensible_format rate channels speakers) ++ parts.data_head elsewhere)
+  pub long_extensible_is : kind_header Rf64Extensible rate channels speakers n ≡ joined (rf64 (riff_size Rf64Extensible n) n (sample_count channels n))
+      ++ (joined (extensible_format rate channels speakers) ++ parts.data_head elsewhere)
   unfolding kind_header kind_fields rf64 extensible_format samples_told data_fields parts.data_head joined text bytes
   long_extensible_is = refl
 

@@ -20,5 +20,6 @@ loop-c-preserved c =
     let a = c.args in (
       omega (arith, c.level_line-at.ensures.upper_bound),
       rw l.invariant.1 (states_more a.samples.now a.ch a.states l.c (omega arith) c.level-next.ensures.next_value),
-      more (λ c. level_line a.number c (level_of (channel_of a.stats c).clipped a.samples.now a.ch c (slice_index_or a.states c none))) l.c l.invariant.2 c.level_line-at.ensures.printed (ap (level_line a.number l.c) c.level-next.ensures.level_value),
+      more (λ c. level_line a.number c (level_of (channel_of a.stats c).clipped a.samples.now a.ch c (slice_index_or a.states c none)))
+          l.c l.invariant.2 c.level_line-at.ensures.printed (ap (level_line a.number l.c) c.level-next.ensures.level_value),
     )

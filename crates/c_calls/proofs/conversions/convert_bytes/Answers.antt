@@ -24,4 +24,5 @@ returns c =
       | else-input-eq1 w ↦ rw (ne_eqb _ _ w.if-input-eq1.false, w.out-is, w.counts-is, w.made-is, ← w.run-else-input-eq1.ensures) (any_unlent a.kind a.counts.now w.uncounted-made.ensures)
     ] in
     done_so (both_hold _ _ k.0 (search rules))
-    (bytes_done k.1 refl m.made (results a.stats.now a.«data».now a.decibels.now) (results told.new.stats told.new.«data» told.new.decibels) told.ensures.told_whole told.ensures.stats_after a.kind made)
+    (bytes_done k.1 refl m.made (results a.stats.now a.«data».now a.decibels.now)
+    (results told.new.stats told.new.«data» told.new.decibels) told.ensures.told_whole told.ensures.stats_after a.kind made)

@@ -22,4 +22,5 @@ returns c =
     let old = outputs a.album.now a.marks.now a.track.now a.«data».now a.decibels.now in
     let new = outputs c.tell_album.new.list c.put_marks.new.marks (c.named.result ∷ []) c.tell.new.«data» c.tell.new.decibels in
     done_so (both_hold _ _ k.0 room)
-    (rw k.1 (open_done (asked_heads (as_asked a.asked)) c.in-Some.settings c.open-opened.result c.open-opened.ensures old new (rw c.reason.ensures at c.tell.ensures) (ap (λ (k : ℕ). k ∷ []) c.named.ensures) c.tell_album.ensures c.put_marks.ensures))
+    (rw k.1 (open_done (asked_heads (as_asked a.asked)) c.in-Some.settings c.open-opened.result c.open-opened.ensures old new
+    (rw c.reason.ensures at c.tell.ensures) (ap (λ (k : ℕ). k ∷ []) c.named.ensures) c.tell_album.ensures c.put_marks.ensures))

@@ -21,7 +21,8 @@ returns-in-Ok c =
     let k = some_known _ _ _ (sym c.in-Some.ensures) in
     let room : eqb (length a.reads.now) (2 * length a.asked.tracks.lengths.now) ≡ true = eq-eqb _ _ c.if-reads-asked.false in
     done_so (both_hold _ _ k.0 room)
-    (rw k.1 (piece_told (asked_heads (as_asked a.asked)) c.in-Some.settings c.in-Ok.album c.in-Ok.ensures a.piece a.plan.now c.put_piece.new.plan a.reads.now c.put_piece.new.reads c.put_piece.ensures.written c.put_piece.ensures.asked))
+    (rw k.1 (piece_told (asked_heads (as_asked a.asked)) c.in-Some.settings c.in-Ok.album c.in-Ok.ensures a.piece
+    a.plan.now c.put_piece.new.plan a.reads.now c.put_piece.new.reads c.put_piece.ensures.written c.put_piece.ensures.asked))
 
 pub returns-in-Err : goal.returns-in-Err
 returns-in-Err c =

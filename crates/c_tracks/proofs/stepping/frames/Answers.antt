@@ -15,4 +15,5 @@ returns c =
     let k = some_known _ _ _ (sym c.in-Some.ensures) in
     let made = c.frames-made in
     done_so k.0
-    (rw k.1 (frames_done (asked_heads (as_asked a.asked)) c.in-Some.settings a.first a.count a.windows.now a.scratch.now made.new.scratch made.result made.ensures (rw c.reason.ensures at c.tell.ensures)))
+    (rw k.1 (frames_done (asked_heads (as_asked a.asked)) c.in-Some.settings a.first a.count a.windows.now
+    a.scratch.now made.new.scratch made.result made.ensures (rw c.reason.ensures at c.tell.ensures)))
