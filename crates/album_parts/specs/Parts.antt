@@ -1,5 +1,7 @@
 -- Parts of an album: whole pieces.
 use Rattle.std.specs.Prelude.{◌≡◌, Option, Some, None, unwrap_or, cond, ◌&&◌, ℕ, ◌+◌, ◌*◌, ◌/◌, ◌<◌, ltb, leb}
+use Rattle.reference.specs.Refusals.{most}
+use Rattle.reference.specs.declared.Limit.TheVariants as limit
 use Rattle.tracks_open.specs.Open.{piece_total}
 use Rattle.album_parts.specs.declared.Part.{Part}
 
@@ -9,7 +11,7 @@ part_first n jobs j = n * j / jobs
 
 unfoldable pub part_at : ℕ → ℕ → ℕ → Option Part
 part_at f jobs j =
-    cond (leb f 540000 && (leb jobs 64 && ltb j jobs))
+    cond (leb f (most limit.Rack) && (leb jobs 64 && ltb j jobs))
     (Some (record { first = part_first (piece_total f) jobs j; end = part_first (piece_total f) jobs (j + 1) }))
     None
 

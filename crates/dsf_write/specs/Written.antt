@@ -2,9 +2,10 @@
 use Rattle.std.specs.Prelude.{◌≡◌, List, [], ◌∷◌, ◌++◌, Result, IfOk, cond, not, ◌&&◌, ℕ, ◌+◌, ◌*◌, ◌/◌, ◌%◌, ◌≤◌, ◌<◌, T, eqb, ltb, leb, length, get_or}
 use Rattle.numbers.specs.Lists.{tabulate}
 use Rattle.reference.specs.Frames.{frame_count, frame_bytes, frame_length}
-use Rattle.reference.specs.Refusals.{Place, place, decide, decision, number, lent_length}
+use Rattle.reference.specs.Refusals.{Place, place, decide, decision, number, lent_length, most}
 use Rattle.reference.specs.Promises.{by_decision}
 use Rattle.reference.specs.declared.PcmError.{PcmError}
+use Rattle.reference.specs.declared.Limit.TheVariants as limit
 use Rattle.text.specs.Bytes.{number_at, bytes}
 use Rattle.dsf.specs.Dsf.{pair, block, blocks, data_bytes, data_place, channel_type, channels, bits_per_sample, samples, needed, accepts, frames, turned, turn_byte, file_data}
 use Rattle.dsf.specs.Headers.{header_with}
@@ -57,7 +58,7 @@ unfoldable pub length_places : ℕ → ℕ → List Place
 length_places channels n =
     place (not (leb 1 channels && leb channels 6)) 1 (number channels ∷ [])
     ∷ place (not (eqb (n % frame_length channels) 0)) 4 (number n ∷ number 0 ∷ [])
-    ∷ place (ltb 540000 (n / frame_length channels)) 5 (number (n / frame_length channels) ∷ [])
+    ∷ place (ltb (most limit.Rack) (n / frame_length channels)) 5 (number (n / frame_length channels) ∷ [])
     ∷ []
 
 -- then an output of another length
@@ -104,7 +105,7 @@ pub record Plain (file : List ℕ) : Type 0 where
   pub written_type : channel_type file ≡ type_of (channels file)
   pub no_more : length file ≡ 92 + needed file
   pub whole_frames : samples file / 8 ≡ frames file * frame_bytes
-  pub few : frames file ≤ 540000
+  pub few : frames file ≤ most limit.Rack
   pub zero_padded : (c q : ℕ) → c < channels file → samples file / 8 ≤ q → q < blocks (samples file / 8) * block → file_data file (data_place (channels file) c q) ≡ 0
 
 -- frames that can be written: 1 to 6 channels, 0 to 540,000 whole frames
@@ -112,4 +113,4 @@ pub record Writable (channels : ℕ) (bytes_in : List ℕ) : Type 0 where
   pub one : 1 ≤ channels
   pub six : channels ≤ 6
   pub whole : length bytes_in ≡ frame_count channels bytes_in * frame_length channels
-  pub few : frame_count channels bytes_in ≤ 540000
+  pub few : frame_count channels bytes_in ≤ most limit.Rack

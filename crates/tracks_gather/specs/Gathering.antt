@@ -2,6 +2,8 @@
 use Rattle.std.specs.Prelude.{◌≡◌, List, [], ◌∷◌, ℕ, ◌+◌, ◌-◌, ◌*◌, ◌≤◌, ◌<◌, min, length}
 use Rattle.numbers.specs.Lists.{Each}
 use Rattle.reference.specs.Frames.{frame_bytes, frame_length}
+use Rattle.reference.specs.Refusals.{most}
+use Rattle.reference.specs.declared.Limit.TheVariants as limit
 use Rattle.dsf.specs.Dsf.{channels, bits_per_sample, samples}
 use Rattle.tracks.specs.Tracks.{Head, Track, head_length, all_length, head_at, heads_of}
 use Rattle.tracks.specs.Windows.{read_start, read_bytes, windowed_data, windows_length}
@@ -55,6 +57,6 @@ pub record GatherArgs (heads lengths : List ℕ) (n : ℕ) (frames : Span) (size
   pub alike : Each (λ h. channels h.bytes ≡ n) (heads_of heads lengths)
   pub short : all_length (heads_of heads lengths) ≤ 2540160000
   pub order : frames.from ≤ frames.to
-  pub most : frames.to ≤ 540000
+  pub most : frames.to ≤ most limit.Rack
   pub windows : size ≡ windows_length n (frames.from * frame_bytes) (frames.to * frame_bytes) 0 (heads_of heads lengths)
   pub lent : room ≡ (frames.to - frames.from) * frame_length n

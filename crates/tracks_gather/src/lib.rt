@@ -10,6 +10,7 @@ ghost use Rattle.tracks_gather.specs.Gathering.{TakeArgs, TrackTaken, GatherArgs
 
 use dsf::header_numbers;
 use dsf_columns::Stretch;
+use reference::FRAME_BYTES;
 use tracks_open::Tracks;
 use tracks_put::{Span, fill, put_track};
 use tracks_reads::read;
@@ -55,8 +56,8 @@ pub fn gather(tracks: Tracks<'_>, channels: u64, frames: Span, windows: &[u8], o
         windows.now (heads_of tracks.entry.heads.now tracks.entry.lengths.now))) frames.from (frames.to - frames.from) }
 {
     let span = Span {
-        from: frames.from * 4704,
-        to: frames.to * 4704,
+        from: frames.from * FRAME_BYTES as u64,
+        to: frames.to * FRAME_BYTES as u64,
     };
     let mut next = Start { byte: 0, window: 0 };
     for k in 0..tracks.lengths.len() {

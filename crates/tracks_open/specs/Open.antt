@@ -1,9 +1,10 @@
 -- What opening an album of tracks promises.
 use Rattle.std.specs.Prelude.{◌≡◌, Result, Ok, Err, IfOk, List, ℕ, ◌+◌, ◌-◌, ◌*◌, ◌/◌, ◌≤◌, length}
 use Rattle.reference.specs.Frames.{frame_bytes}
-use Rattle.reference.specs.Refusals.{Decision, accepted, error_decision, decide}
+use Rattle.reference.specs.Refusals.{Decision, accepted, error_decision, decide, most}
 use Rattle.reference.specs.declared.PcmRate.{PcmRate}
 use Rattle.reference.specs.declared.Settings.{Settings}
+use Rattle.reference.specs.declared.Limit.TheVariants as limit
 use Rattle.wav_format.specs.Wav.{frame_size}
 use Rattle.tracks.specs.Tracks.{Head, all_length, frames_of_bytes, tracks_channels, tracks_type, open_places, refused_track}
 use Rattle.tracks_open.specs.declared.Album.{Album}
@@ -54,7 +55,7 @@ pub record OpenPromise (hs : List Head) (s : Settings) (answer : Result Album Re
 
 pub record AlbumFits (a : Album) : Type 0 where
   pub few : a.channels ≤ 6
-  pub most : a.frames ≤ 540000
+  pub most : a.frames ≤ most limit.Rack
   pub sized : a.frame ≤ 84672
 
 -- proved in proofs/Accepted, `album_fits`

@@ -11,7 +11,7 @@ ghost use Rattle.tracks_open.specs.Open.{TracksArgs, OpenPromise};
 ghost use Rattle.tracks_open.specs.Trying.{a_head, opened_places, other_type, joined_places, FirstTried, NextTried, RestTried, NumbersArgs, most_bytes};
 
 use dsf::{DsfHeader, number, read_header};
-use reference::{MOST_FRAMES, PcmError, PcmRate, Settings};
+use reference::{FRAME_BYTES, MOST_FRAMES, PcmError, PcmRate, Settings};
 use refusals::opening;
 
 // What is known of the tracks' files before their data are read: the first 92 bytes of each, end to end, and their
@@ -82,7 +82,7 @@ fn few(bytes: u64) -> Result<(), PcmError>
     requires { bytes ≤ most_bytes }
     ensures { decision result ≡ decide (too_long bytes ∷ []) }
 {
-    let frames = (bytes + 4703) / 4704;
+    let frames = bytes.div_ceil(FRAME_BYTES as u64);
     if frames > MOST_FRAMES as u64 {
         return Err(PcmError::Frames(frames as usize));
     }
@@ -176,7 +176,7 @@ fn numbers(rate: PcmRate, header: DsfHeader, bytes: u64) -> Album
     requires { NumbersArgs header.channels bytes }
     ensures { result ≡ albums.numbers rate header.channels header.channel_type bytes }
 {
-    let frames = (bytes + 4703) / 4704;
+    let frames = bytes.div_ceil(FRAME_BYTES as u64);
     let frame = frame_size(rate, header.channels);
     Album {
         channels: header.channels,
@@ -185,7 +185,7 @@ fn numbers(rate: PcmRate, header: DsfHeader, bytes: u64) -> Album
         frames,
         data: frames * frame,
         frame,
-        filled: frames * 4704 - bytes,
+        filled: frames * FRAME_BYTES as u64 - bytes,
         pieces: frames.div_ceil(128),
     }
 }

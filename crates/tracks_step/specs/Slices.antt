@@ -2,9 +2,10 @@
 use Rattle.std.specs.Prelude.{◌≡◌, Ok, false, List, [], ℕ, ◌+◌, ◌*◌, ◌≤◌, ltb, min, length, take, drop}
 use Rattle.reference.specs.Frames.{Run, run, frame_length}
 use Rattle.reference.specs.Output.{samples, stats, s24le}
-use Rattle.reference.specs.Refusals.{rack, decide, accepted, convert_places}
+use Rattle.reference.specs.Refusals.{rack, decide, accepted, convert_places, most}
 use Rattle.reference.specs.Promises.{Converted}
 use Rattle.reference.specs.declared.Converter.{Converter}
+use Rattle.reference.specs.declared.Limit.TheVariants as limit
 
 -- how many of them stand before it
 abbrev pub before_of : ℕ → ℕ
@@ -19,7 +20,7 @@ sliced n first count l =
 
 pub record SliceArgs (conv : Converter) (first count : ℕ) (frames out : List ℕ) : Type 0 where
   pub six : conv.channels ≤ 6
-  pub few : count ≤ 540000
+  pub few : count ≤ most limit.Rack
   pub within : before_of first * frame_length conv.channels + count * frame_length conv.channels ≤ length frames
   pub taken : decide (convert_places rack conv (sliced conv.channels first count frames) out false []) ≡ accepted
 

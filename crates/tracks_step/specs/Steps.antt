@@ -1,10 +1,11 @@
 -- What the parts of a step ask for and give; no part of a promise.
 use Rattle.std.specs.Prelude.{◌≡◌, Result, IfOk, List, [], ◌∷◌, ℕ, ◌+◌, ◌-◌, ◌*◌, ◌≤◌, not, eqb, leb}
 use Rattle.reference.specs.Frames.{frame_bytes, frame_length}
-use Rattle.reference.specs.Refusals.{Place, place, number, decide, accepted, held_places, lent_length}
+use Rattle.reference.specs.Refusals.{Place, place, number, decide, accepted, held_places, lent_length, most}
 use Rattle.reference.specs.Refusals as refusals
 use Rattle.reference.specs.declared.PcmError.{PcmError}
 use Rattle.reference.specs.declared.Settings.{Settings}
+use Rattle.reference.specs.declared.Limit.TheVariants as limit
 use Rattle.tracks.specs.Tracks.{Head, heads_of, tracks_channels, tracks_frames, all_length, refused_track}
 use Rattle.tracks.specs.Windows.{low, high, windows_length}
 use Rattle.tracks_open.specs.Open.{TracksArgs, tracks_decision, Names, album_of}
@@ -29,7 +30,7 @@ pub record LentArgs (heads lengths : List ℕ) (n : ℕ) (frames : Span) : Type 
   pub is : TracksArgs heads lengths
   pub six : n ≤ 6
   pub order : frames.from ≤ frames.to
-  pub most : frames.to ≤ 540000
+  pub most : frames.to ≤ most limit.Rack
   pub short : all_length (heads_of heads lengths) ≤ 2540160000
 
 -- ---- the frames that are asked
@@ -39,7 +40,7 @@ pub record FitArgs (heads lengths : List ℕ) (a : Album) : Type 0 where
   pub channels : a.channels ≡ tracks_channels (heads_of heads lengths)
   pub frames : a.frames ≡ tracks_frames (heads_of heads lengths)
   pub six : a.channels ≤ 6
-  pub most : a.frames ≤ 540000
+  pub most : a.frames ≤ most limit.Rack
   pub short : all_length (heads_of heads lengths) ≤ 2540160000
 
 abbrev pub piece_span : List Head → ℕ → ℕ → Span
