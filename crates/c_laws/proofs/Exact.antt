@@ -12,13 +12,13 @@ use Rattle.c_calls.specs.Calls.{GainCall, OpenCall, CWanted, ChangeCall, Samples
 use Rattle.c_calls.specs.declared.conversions.ToSamples.{ToSamples}
 use Rattle.c_calls.specs.declared.conversions.ToBytes.{ToBytes}
 use Rattle.c_studio.specs.Calls.{JoinCall, SheetCall, OversCall, TurnsCall}
-use Rattle.text.specs.Bytes.{ToBytes as AreBytes}
+use Rattle.text.specs.Bytes.{Bytes}
 use Rattle.wav_format.proofs.Theorems.{read_exact}
 use Rattle.dsf_upload.proofs.Early.{one_answer}
-use Rattle.c_wav.specs.Calls.{ReadCall as WavReadCall, WavHeaderCall}
+use Rattle.c_wav.specs.Calls.{WavReadCall, WavHeaderCall}
 use Rattle.c_dsf.specs.Calls.{WhyCall, GiveUpCall}
 use Rattle.c_tracks.specs.Asked.{Asked}
-use Rattle.c_tracks.specs.Calls.{Outputs, OpenCall as AlbumCall, PieceCall}
+use Rattle.c_tracks.specs.Calls.{Outputs, OpenAlbumCall, PieceCall}
 use Rattle.c_tracks.specs.Steps.{Lists, FramesCall, StepCall}
 
 -- the answers are equal, and what R says holds, if both follow in either case of the call
@@ -89,7 +89,7 @@ module _ (frames dues : List ℕ) (turn : ℕ) (finishes f f' : List ℕ) (late 
 -- ---- about an album
 
 module _ (w : Asked) (a a' : ℕ) where
-  pub album_exact : (old x y : Outputs) → AlbumCall w old x a → AlbumCall w old y a' → (a ≡ a') × (x ≡ y)
+  pub album_exact : (old x y : Outputs) → OpenAlbumCall w old x a → OpenAlbumCall w old y a' → (a ≡ a') × (x ≡ y)
   album_exact old x y p q =
       call_exact _ p q (λ k m. k ∙ sym m)
       (λ k m.
@@ -135,7 +135,7 @@ module _ (head : List ℕ) (n : ℕ) (t t' : List ℕ) (a a' : ℕ) where
   pub why_exact : WhyCall head n t a → WhyCall head n t' a' → (a ≡ a') × (t ≡ t')
   why_exact p q = (p.0 ∙ sym q.0, p.1 ∙ sym q.1)
 
-module _ (file : List ℕ) (bytes : AreBytes file) (place x y : List ℕ) (a a' : ℕ) where
+module _ (file : List ℕ) (bytes : Bytes file) (place x y : List ℕ) (a a' : ℕ) where
   pub upload_exact : GiveUpCall file place x a → GiveUpCall file place y a' → (a ≡ a') × (x ≡ y)
   upload_exact p q =
       let e = one_answer file bytes p.made q.made p.promise q.promise in
