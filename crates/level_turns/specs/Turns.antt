@@ -1,6 +1,6 @@
 -- The buffer of three frames (the one before, the one at hand, the one after), and a turn of the report: it reads the
 -- frame after and tells the one at hand.
-use Rattle.std.specs.Prelude.{◌≡◌, Bool, List, ◌++◌, ℕ, ◌+◌, ◌-◌, ◌*◌, ◌<◌, ◌≤◌, Option, eqb, ltb, length, take, drop}
+use Rattle.std.specs.Prelude.{◌≡◌, Bool, List, ◌++◌, ℕ, ◌+◌, ◌*◌, ◌<◌, ◌≤◌, Option, eqb, ltb, length, take}
 use Rattle.std.specs.Io.KnownBytes.{Consumes, Appends, IsAtEnd}
 use Rattle.reference.specs.Frames.{Run, run, frame_length}
 use Rattle.reference.specs.Output.{frame_clips}
