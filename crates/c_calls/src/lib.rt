@@ -10,7 +10,7 @@ use codes::{NOT_UNDERSTOOD, cutoff_of, rate_of};
 
 mod conversions;
 
-pub use conversions::{Bytes, Samples, convert_bytes, convert_samples};
+pub use conversions::{ToBytes, ToSamples, convert_bytes, convert_samples};
 
 // The gain record of some decibels.
 pub fn gain(db: f64, gain: &mut [f64; 2], decibels: &mut [f64; 1]) -> u8
