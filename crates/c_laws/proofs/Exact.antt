@@ -17,6 +17,7 @@ use Rattle.wav_format.proofs.Theorems.{read_exact}
 use Rattle.dsf_upload.proofs.Early.{one_answer}
 use Rattle.c_wav.specs.Calls.{ReadCall as WavReadCall, HeaderCall}
 use Rattle.c_dsf.specs.Calls.{WhyCall, GiveUpCall}
+use Rattle.c_laws.specs.Exact.{WaveHeaderExact, LevelsExact, LastLineExact, PartLeaves, WritesLeave}
 use Rattle.c_tracks.specs.Asked.{Asked}
 use Rattle.c_tracks.specs.Calls.{Outputs, OpenCall as AlbumCall, PieceCall}
 use Rattle.c_tracks.specs.Steps.{Lists, FramesCall, StepCall}
@@ -119,7 +120,41 @@ module _ (w : Asked) (a a' : ℕ) where
       let o = x.written ∙ sym y.written in
       (t.0, ((λ i. record { scratch = s i; out = o i }), t.1)))
 
+pub part_leaves : PartLeaves
+part_leaves frames jobs j m m' p q = p ∙ sym q
+
+pub writes_leave : WritesLeave
+writes_leave marks place bytes out m m' p q = p ∙ sym q
+
+-- ---- of the level report
+
+pub levels_exact : LevelsExact
+levels_exact b i number old x y a a' p q =
+    call_exact _ p q (λ k m. k ∙ sym m)
+    (λ k m.
+    let t = whole_exact k.told m.told in
+    let s = k.standings ∙ sym m.standings in
+    let e = k.sampled ∙ sym m.sampled in
+    let l = k.lines ∙ sym m.lines in
+    let c = k.counted ∙ sym m.counted in
+    (t.0, λ i. record { standings = s i; samples = e i; lines = l i; told = c i; «data» = t.1.0 i; decibels = t.1.1 i }))
+
+pub last_line_exact : LastLineExact
+last_line_exact frames clips lines m m' a a' p q = (p.after ∙ sym q.after, p.written ∙ sym q.written)
+
 -- ---- about files
+
+pub wave_header_exact : WaveHeaderExact
+wave_header_exact format rate channels type n out told m m' a a' p q =
+    call_exact _ p q
+    (λ k l.
+    let o = k.0 ∙ sym l.0 in
+    let t = k.1 ∙ sym l.1 in
+    λ i. (o i, t i))
+    (λ k l.
+    let o = k.written ∙ sym l.written in
+    let t = k.lengths ∙ sym l.lengths in
+    (k.number ∙ sym l.number, λ i. (o i, t i)))
 
 module _ (file told t t' : List ℕ) (a a' : ℕ) where
   pub wav_read_exact : WavReadCall file told t a → WavReadCall file told t' a' → (a ≡ a') × (t ≡ t')
