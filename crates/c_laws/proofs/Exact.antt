@@ -15,9 +15,10 @@ use Rattle.c_studio.specs.Calls.{JoinCall, SheetCall, OversCall, TurnsCall}
 use Rattle.text.specs.Bytes.{Bytes as AreBytes}
 use Rattle.wav_format.proofs.Theorems.{read_exact}
 use Rattle.dsf_upload.proofs.Early.{one_answer}
+use Rattle.dsf_upload.proofs.Beginnings.{seen}
 use Rattle.c_wav.specs.Calls.{ReadCall as WavReadCall, HeaderCall}
 use Rattle.c_dsf.specs.Calls.{WhyCall, GiveUpCall}
-use Rattle.c_laws.specs.Exact.{WaveHeaderExact, LevelsExact, LastLineExact, PartLeaves, WritesLeave}
+use Rattle.c_laws.specs.Exact.{WaveHeaderExact, LevelsExact, LastLineExact, PartLeaves, WritesLeave, WindowLeaves, PackLeaves, UploadHeaderExact}
 use Rattle.c_tracks.specs.Asked.{Asked}
 use Rattle.c_tracks.specs.Calls.{Outputs, OpenCall as AlbumCall, PieceCall}
 use Rattle.c_tracks.specs.Steps.{Lists, FramesCall, StepCall}
@@ -175,3 +176,15 @@ module _ (file : List ℕ) (bytes : AreBytes file) (place x y : List ℕ) (a a' 
   upload_exact p q =
       let e = one_answer file bytes p.made q.made p.promise q.promise in
       (rw (p.number, e) (sym q.number), rw (p.written, e) (sym q.written))
+
+pub upload_header_exact : UploadHeaderExact
+upload_header_exact head n place file bytes g m m' a a' p q =
+    let h = seen file head n g in
+    let e = one_answer file bytes p.made q.made (p.promise file bytes h) (q.promise file bytes h) in
+    (rw (p.number, e) (sym q.number), rw (p.written, e) (sym q.written))
+
+pub window_leaves : WindowLeaves
+window_leaves channels samples f m m' p q = p ∙ sym q
+
+pub pack_leaves : PackLeaves
+pack_leaves samples bytes m m' p q = p.written ∙ sym q.written

@@ -1,6 +1,10 @@
 -- A call leaves nothing free: two answers to one call are equal, and so is all that they leave in memory.
-use Rattle.std.specs.Prelude.{◌≡◌, List, ℕ}
+use Rattle.std.specs.Prelude.{◌≡◌, List, ℕ, ℤ}
+use Rattle.text.specs.Bytes.{Bytes}
+use Rattle.reference.specs.Promises.{PackPromise}
+use Rattle.dsf.specs.Reading.{HeadOf}
 use Rattle.c_converter.specs.Blocks.{Block, Input}
+use Rattle.c_dsf.specs.Calls.{WindowCall, GiveUpHeaderCall}
 use Rattle.c_levels.specs.Calls.{Lent, LevelsCall, LastLineCall}
 use Rattle.c_tracks.specs.Calls.{PartCall, WritesCall}
 use Rattle.c_wave.specs.Calls.{HeaderCall}
@@ -30,3 +34,14 @@ PartLeaves = (frames jobs j : ℕ) → Leaves (PartCall frames jobs j)
 
 abbrev pub WritesLeave : Type 0
 WritesLeave = (marks : List ℕ) (place bytes : ℕ) (out : List ℕ) → Leaves (WritesCall marks place bytes out)
+
+-- what to read for a frame, `window_leaves`, and samples packed, `pack_leaves`
+abbrev pub WindowLeaves : Type 0
+WindowLeaves = (channels samples f : ℕ) → Leaves (WindowCall channels samples f)
+
+abbrev pub PackLeaves : Type 0
+PackLeaves = (samples : List ℤ) (bytes : List ℕ) → Leaves (PackPromise samples bytes)
+
+-- an upload by its beginning and length, where there is a file with them, `upload_header_exact`
+abbrev pub UploadHeaderExact : Type 0
+UploadHeaderExact = (head : List ℕ) (n : ℕ) (place file : List ℕ) → Bytes file → HeadOf file head n → Exact (GiveUpHeaderCall head n place)
