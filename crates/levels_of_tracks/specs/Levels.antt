@@ -91,3 +91,13 @@ LevelsOfTracks =
     → (cs : List (FrameTold files hs s)) → FramesTold 0 (tracks_frames hs) cs
     → let conv = tracks_converter s hs in
     joined (map lines cs) ++ last_line (tracks_frames hs) (sum (map clips cs)) ≡ text_by conv (album_frames files) (lines_of conv (album_frames files))
+
+-- ---- it can be met
+
+pub record AllTold (files : List (List ℕ)) (hs : List Head) (s : Settings) : Type 0 where
+  pub calls : List (FrameTold files hs s)
+  pub are : FramesTold 0 (tracks_frames hs) calls
+
+-- for every accepted album there are such calls. Proved in proofs/CanBeMet, `levels_told`
+abbrev pub LevelsCanBeTold : Type 0
+LevelsCanBeTold = (files : List (List ℕ)) (hs : List Head) (s : Settings) → HeadsOf files hs → decide (open_places hs s) ≡ accepted → AllTold files hs s
