@@ -53,17 +53,23 @@ module _ (files : List (List ℕ)) (hs : List Head) (s : Settings) (g : HeadsOf 
   unfolding album_of numbers tracks_frames
   frames_are = refl
 
-  -- a step on some frames, with lists of the right lengths
-  step_taken : (first count windows scratch out : ℕ) → first + count ≤ f → windows ≡ piece_windows hs first count → scratch ≡ (high hs first count - low first) * frame_length n → out ≡ count * size
-      → decide (step_places hs s first count windows scratch out) ≡ accepted
-  unfolding step_places frames_places piece_places lent_length
-  step_taken first count windows scratch out within w h o =
-      decide_skip (frames_places hs s first count windows scratch) _
-      (decide_skip (open_places hs s) _ (opens files hs s g taken)
+  -- some frames are given, with lists of the right lengths
+  pub frames_taken : (first count windows scratch : ℕ) → first + count ≤ f → windows ≡ piece_windows hs first count → scratch ≡ (high hs first count - low first) * frame_length n
+      → decide (frames_places hs s first count windows scratch) ≡ accepted
+  unfolding frames_places piece_places lent_length
+  frames_taken first count windows scratch within w h =
+      decide_skip (open_places hs s) _ (opens files hs s g taken)
       ∙ at_next _ _ (rw (le-leb (first + count) f within) refl)
       ∙ at_next _ _ (rw (eq-eqb windows (piece_windows hs first count) w) refl)
       ∙ at_next _ _ (rw (eq-eqb scratch ((high hs first count - low first) * frame_length n) h) refl)
-      ∙ at_end)
+      ∙ at_end
+
+  -- and a step on them
+  step_taken : (first count windows scratch out : ℕ) → first + count ≤ f → windows ≡ piece_windows hs first count → scratch ≡ (high hs first count - low first) * frame_length n → out ≡ count * size
+      → decide (step_places hs s first count windows scratch out) ≡ accepted
+  unfolding step_places lent_length
+  step_taken first count windows scratch out within w h o =
+      decide_skip (frames_places hs s first count windows scratch) _ (frames_taken first count windows scratch within w h)
       ∙ at_next _ _ (rw (eq-eqb out (count * size) o) refl)
       ∙ at_end
 

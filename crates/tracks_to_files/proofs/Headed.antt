@@ -17,7 +17,7 @@ use Rattle.wav_header.specs.Header.{sample_bytes}
 use Rattle.wav_format.specs.Wav.{frame_size}
 use Rattle.wave_headers.specs.Speakers.{loudspeakers}
 use Rattle.wave_headers.specs.Choice.{placed}
-use Rattle.wave_headers.proofs.Laws.{accepted_auto, accepted_rf64}
+use Rattle.wave_headers.proofs.Laws.{accepted_auto, accepted_rf64, wav_exactly}
 use Rattle.tracks.specs.Tracks.{Head, tracks_channels, tracks_type, tracks_frames, open_places, first_sample, offset, data_start}
 use Rattle.tracks.proofs.Opened as Opened
 use Rattle.tracks.proofs.Opened.{is_opened, six_channels, with_pair}
@@ -59,7 +59,7 @@ module _ (hs : List Head) (s : Settings) (taken : decide (open_places hs s) ≡ 
       let o = is_opened hs s taken in
       let p = all_placed hs (Opened.some hs s o) o.taken in
       let l : m * (sample_bytes * n) ≤ 18446744073709551518 = le_trans h small in
-      record { auto = accepted_auto n (tracks_type hs) m p l; rf64 = accepted_rf64 n (tracks_type hs) m p l }
+      record { auto = accepted_auto n (tracks_type hs) m p l; rf64 = accepted_rf64 n (tracks_type hs) m p l; wav = wav_exactly n (tracks_type hs) m p }
 
   track_headed : (k : ℕ) → k < length hs → HeadersAccepted hs (data_start s.rate n hs (k + 1) - data_start s.rate n hs k)
   unfolding data_start

@@ -30,12 +30,12 @@ use Rattle.tracks_to_files.proofs.Steps.{opened}
 
 -- ---- windows
 module _ (n a b : ℕ) where
-  made : ℕ → List (List ℕ) → List Head → List ℕ
+  pub made : ℕ → List (List ℕ) → List Head → List ℕ
   made o [] hs = []
   made o (f ∷ fs) [] = []
   made o (f ∷ fs) (h ∷ hs) = tabulate (λ j. file_data f (read_start n h o a b + j)) 0 (read_bytes n h o a b) ++ made (o + head_length h) fs hs
 
-  made_long : (o : ℕ) (fs : List (List ℕ)) (hs : List Head) → HeadsOf fs hs → length (made o fs hs) ≡ windows_length n a b o hs
+  pub made_long : (o : ℕ) (fs : List (List ℕ)) (hs : List Head) → HeadsOf fs hs → length (made o fs hs) ≡ windows_length n a b o hs
   unfolding made windows_length
   made_long o [] [] g = refl
   made_long o [] (h ∷ hs) g = absurd g
@@ -44,7 +44,7 @@ module _ (n a b : ℕ) where
       length-append (tabulate (λ j. file_data f (read_start n h o a b + j)) 0 (read_bytes n h o a b)) (made (o + head_length h) fs hs)
       ∙ rw (length_tabulate (λ j. file_data f (read_start n h o a b + j)) 0 (read_bytes n h o a b), made_long (o + head_length h) fs hs g.1) refl
 
-  made_at : (o p : ℕ) (front : List ℕ) (fs : List (List ℕ)) (hs : List Head) → length front ≡ p → HeadsOf fs hs → WindowsFrom n a b o p (front ++ made o fs hs) fs hs
+  pub made_at : (o p : ℕ) (front : List ℕ) (fs : List (List ℕ)) (hs : List Head) → length front ≡ p → HeadsOf fs hs → WindowsFrom n a b o p (front ++ made o fs hs) fs hs
   unfolding made
   made_at o p front [] [] e g = tt
   made_at o p front [] (h ∷ hs) e g = absurd g

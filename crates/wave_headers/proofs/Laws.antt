@@ -1,6 +1,6 @@
 -- Laws of the headers: the plain one is wav_header's, lengths, what a reader finds in the fields, what is accepted.
 use mathlib.Core.Path.{◌≡◌, refl, sym, ap, ◌∙◌}
-use mathlib.Core.List.{List, append-nil}
+use mathlib.Core.List.{List, [], ◌∷◌, append-nil}
 use mathlib.Core.Bool.{Bool, true, false, cond, not, ◌&&◌}
 use Prim.Native.Nat.{ℕ, ◌+◌, ◌-◌, ◌*◌, ◌%◌, ◌^◌, ◌≤◌, ◌<◌}
 use native.Mathlib.Nat.{mul-le-mul, mul-div_cancel, mul-mod_left, div-le_self}
@@ -12,7 +12,7 @@ use Rattle.text.specs.Text.{text, joined}
 use Rattle.text.specs.Bytes.{bytes, number_of, number_at}
 use Rattle.text.proofs.Bytes.{number_bytes}
 use Rattle.reference.specs.Codes.{hertz}
-use Rattle.reference.specs.Refusals.{decide, accepted}
+use Rattle.reference.specs.Refusals.{place, decide, accepted, refused}
 use Rattle.reference.specs.declared.PcmRate.{PcmRate}
 use Rattle.reference.proofs.Refusals.{at_next, at_end, pass}
 use Rattle.wav_header.specs.Header as wav
@@ -23,12 +23,12 @@ use Rattle.wave_headers.specs.Headers.{header_length, pad, riff_size, sample_cou
 use Rattle.wave_headers.specs.Headers.{plain_format, extensible_format, data_fields, kind_fields, kind_header, padded, wave_file}
 use Rattle.wave_headers.specs.Choice.{most_of_kind, holds, short, long, kind_of, few_for, placed, whole_samples, writable, kind_places}
 use Rattle.wave_headers.specs.Fields.{format_at, FormatAt, LongSizes, SizesTold, SpeakersTold}
-use Rattle.wave_headers.specs.Laws.{PlainHeader, PlainFile, LengthHeader, ToldSize, AllFound, AutoAccepted, Rf64Accepted, WavAccepted}
+use Rattle.wave_headers.specs.Laws.{PlainHeader, PlainFile, LengthHeader, ToldSize, AllFound, AutoAccepted, Rf64Accepted, plain_takes, WavExactly, AutoKind}
 use Rattle.wave_headers.specs.declared.Format.{Format}
 use Rattle.wave_headers.specs.declared.Format.TheVariants as format
 use Rattle.wave_headers.specs.declared.HeaderKind.{HeaderKind}
 use Rattle.wave_headers.specs.declared.HeaderKind.TheVariants.{Plain, Extensible, Rf64, Rf64Extensible}
-use Rattle.wave_headers.proofs.Choosing.{few_placed, few_speakers, writable_placed, writable_holds, held_size, long_most, long_extensible_most}
+use Rattle.wave_headers.proofs.Choosing.{few_placed, few_speakers, writable_placed, writable_holds, held_size, plain_most, extensible_most, long_most, long_extensible_most}
 use Rattle.wave_headers.proofs.Writing as writing
 use Rattle.wave_headers.proofs.Writing.{hertz_small}
 
@@ -191,6 +191,28 @@ pub accepted_rf64 : Rf64Accepted
 unfolding kind_of
 accepted_rf64 channels type m there h = goes channels type m there format.Rf64 refl (long_holds channels _ h)
 
-pub accepted_wav : WavAccepted
-unfolding kind_of
-accepted_wav channels type m there few h = goes channels type m there format.Wav (le-leb _ _ few) h
+front : (a b c d : Bool) → a ≡ true → b ≡ true → (a && (b && (c && d))) ≡ (c && d)
+front a b c d h k = rw (h, k) refl
+
+decided : (b : Bool) → decide (place (not b) 12 [] ∷ []) ≡ cond b accepted (refused 12 [])
+unfolding decide
+decided true = refl
+decided false = refl
+
+pub wav_exactly : WavExactly
+unfolding header_places writable kind_of
+wav_exactly channels type m there =
+    let n = m * (sample_bytes * channels) in
+    ap (λ (b : Bool). decide (place (not b) 12 [] ∷ []))
+    (front _ _ (leb channels 2) (holds Plain n) there (whole_is channels type m there) ∙ ap (λ (b : Bool). leb channels 2 && b) (sym (plain_most n)))
+    ∙ decided (plain_takes channels n)
+
+pub auto_kind : AutoKind
+unfolding kind_of short long
+auto_kind channels n = go (leb channels 2)
+  where
+    go : (b : Bool)
+        → cond (holds (cond b Plain Extensible) n) (cond b Plain Extensible) (cond b Rf64 Rf64Extensible)
+        ≡ cond b (cond (leb n 4294967258) Plain Rf64) (cond (leb n 4294967234) Extensible Rf64Extensible)
+    go true = sym (ap (λ (h : Bool). cond h Plain Rf64) (plain_most n))
+    go false = sym (ap (λ (h : Bool). cond h Extensible Rf64Extensible) (extensible_most n))

@@ -1,18 +1,18 @@
 -- What is proved of the headers, in proofs/Laws: `plain_file`, `plain_header`, `length_header`, `told_size`, `found`,
--- `accepted_auto`, `accepted_rf64`, `accepted_wav`.
-use Rattle.std.specs.Prelude.{◌≡◌, List, true, ℕ, ◌+◌, ◌*◌, ◌%◌, ◌≤◌, length}
+-- `accepted_auto`, `accepted_rf64`, `wav_exactly`, `auto_kind`.
+use Rattle.std.specs.Prelude.{◌≡◌, List, [], Bool, true, cond, ◌&&◌, ℕ, ◌+◌, ◌*◌, ◌%◌, ◌≤◌, leb, length}
 use Rattle.reference.specs.Codes.{hertz}
-use Rattle.reference.specs.Refusals.{decide, accepted}
+use Rattle.reference.specs.Refusals.{decide, accepted, refused}
 use Rattle.reference.specs.declared.PcmRate.{PcmRate}
 use Rattle.wav_header.specs.Header as wav
 use Rattle.wav_header.specs.Header.{sample_bytes}
 use Rattle.wav_format.specs.Wav.{wav_file}
 use Rattle.wave_headers.specs.Speakers.{mask}
 use Rattle.wave_headers.specs.Headers.{kind_header, header_length, riff_size, wave_file}
-use Rattle.wave_headers.specs.Choice.{placed, holds, kind_of, kind_places}
+use Rattle.wave_headers.specs.Choice.{placed, kind_of, kind_places}
 use Rattle.wave_headers.specs.Fields.{Found}
 use Rattle.wave_headers.specs.declared.HeaderKind.{HeaderKind}
-use Rattle.wave_headers.specs.declared.HeaderKind.TheVariants.{Plain}
+use Rattle.wave_headers.specs.declared.HeaderKind.TheVariants.{Plain, Extensible, Rf64, Rf64Extensible}
 use Rattle.wave_headers.specs.declared.Format.{Format}
 use Rattle.wave_headers.specs.declared.Format.TheVariants as format
 
@@ -51,8 +51,15 @@ Rf64Accepted =
     (channels type m : ℕ) → placed channels type ≡ true → m * (sample_bytes * channels) ≤ 18446744073709551518
     → decide (kind_places format.Rf64 channels type (m * (sample_bytes * channels))) ≡ accepted
 
--- the plain one holds one or two channels, and what four bytes tell with header and pad
-abbrev pub WavAccepted : Type 0
-WavAccepted =
-    (channels type m : ℕ) → placed channels type ≡ true → channels ≤ 2 → holds Plain (m * (sample_bytes * channels)) ≡ true
-    → decide (kind_places format.Wav channels type (m * (sample_bytes * channels))) ≡ accepted
+-- the plain one holds one or two channels, and what four bytes tell with header and pad; else it is refused 12
+abbrev pub plain_takes : ℕ → ℕ → Bool
+plain_takes channels n = leb channels 2 && leb n 4294967258
+
+abbrev pub WavExactly : Type 0
+WavExactly =
+    (channels type m : ℕ) → placed channels type ≡ true → let n = m * (sample_bytes * channels) in
+    decide (kind_places format.Wav channels type n) ≡ cond (plain_takes channels n) accepted (refused 12 [])
+
+-- the header that `Auto` gives, in numbers
+abbrev pub AutoKind : Type 0
+AutoKind = (channels n : ℕ) → kind_of format.Auto channels n ≡ cond (leb channels 2) (cond (leb n 4294967258) Plain Rf64) (cond (leb n 4294967234) Extensible Rf64Extensible)
