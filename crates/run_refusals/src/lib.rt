@@ -50,7 +50,7 @@ fn wrong_length(neighbour: Option<&[u8]>, size: usize) -> Option<usize>
 }
 
 // Run length, before, after.
-#[tactic(auto, using(crate::proofs::Inputs::some_size, crate::proofs::Inputs::part_frame, crate::proofs::Inputs::too_long, crate::proofs::Inputs::long_before, crate::proofs::Inputs::long_after, crate::proofs::Inputs::right_input))]
+#[tactic(auto, using(crate::proofs::Inputs::some_size, crate::proofs::Inputs::part_frame, crate::proofs::Inputs::too_long, crate::proofs::Inputs::right_input))]
 pub fn input<'a>(whose: Limit, conv: Converter, run: Run<'a>) -> Result<(), PcmError>
     requires { decide (held_places conv) ≡ table.accepted }
     ensures { decision result ≡ decide (input_places whose conv (run_of run.entry)) }
