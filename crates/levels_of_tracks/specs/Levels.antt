@@ -25,8 +25,8 @@ use Rattle.tracks_to_files.specs.Heads.{tracks_of}
 abbrev pub album_frames : List (List ℕ) → List ℕ
 album_frames files = (tracks_run (tracks_channels (heads (tracks_of files))) (tracks_of files)).frames
 
--- a piece of one frame, f, cut with those next to it out of the list that an accepted call left: of any frames that f is
--- among. That list begins with frame `low first`
+-- the piece is frame f with the frames next to it, cut out of the list that an accepted call for frames left. The call
+-- may be for any frames that f is among; its list begins with frame `low first`
 pub record Gathered (files : List (List ℕ)) (hs : List Head) (s : Settings) (f : ℕ) (piece : Run) : Type 0 where
   pub first : ℕ
   pub count : ℕ
