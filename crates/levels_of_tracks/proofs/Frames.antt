@@ -8,11 +8,11 @@ use native.Mathlib.Omega.{arith}
 use lib.Dec.{ltb, leb}
 use lib.ListN.{length}
 use borrow.Author.Tests.{lt-ltb, le-ltb, leb-true, not-false}
+use Rattle.std.specs.Prelude.{min}
 use Rattle.numbers.proofs.Lists.{below_or}
 use Rattle.reference.specs.Frames.{Run, frame_length, frame_count, frame}
 use Rattle.reference.specs.Refusals.{decide, accepted}
 use Rattle.reference.proofs.Refusals.{decide_first, decide_skip, pass}
-use Rattle.dsf_frames.specs.Reading.{lesser}
 use Rattle.levels.specs.Levels.{FrameOf}
 use Rattle.tracks.specs.Runs.{frames_from}
 use Rattle.tracks.specs.Tracks.{heads, tracks_channels, tracks_frames, tracks_frame, tracks_run, open_places}
@@ -47,10 +47,10 @@ module _ (n : ℕ) (some : 0 < n) (F : ℕ → List ℕ) (long : (k : ℕ) → l
   same_frame a m b k j h l e = frame_is a m k h ∙ ap F (e ∙ sym (zero-add j)) ∙ sym (frame_is 0 b j l)
 
   pub of_all : (f all first count : ℕ) (piece : Run) → first ≤ f → f < first + count → first + count ≤ all
-      → FrameOf n (frames_from F (first - 1) (lesser (first + count + 1) all - (first - 1))) (f - (first - 1)) piece → FrameOf n (frames_from F 0 all) f piece
+      → FrameOf n (frames_from F (first - 1) (min (first + count + 1) all - (first - 1))) (f - (first - 1)) piece → FrameOf n (frames_from F 0 all) f piece
   of_all f all first count piece from to fits p =
       let a = first - 1 in
-      let m = lesser (first + count + 1) all - (first - 1) in
+      let m = min (first + count + 1) all - (first - 1) in
       let k = f - (first - 1) in
       record {
         some_channel = p.some_channel;
