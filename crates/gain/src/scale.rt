@@ -30,7 +30,7 @@ fn nearest_even(x: f64) -> f64
     (x + MAGIC) - MAGIC
 }
 
-// z brought into a sample's range. Of whole numbers the machine takes the lower or the greater without a branch.
+// z brought into a sample's range. As whole numbers: no float is compared, which takes several instructions each.
 #[tactic(auto, unfolding(reference::specs::Scaling::clamp))]
 fn clip(z: i64) -> i64
     ensures { result ≡ clamp z }

@@ -10,8 +10,8 @@ ghost use Rattle.band.specs.Bands.{odd_sizes};
 // x has what the last filter reads, v of Standard and Low, u of Wide; `kept` has the values of w that are woven at
 // 352,800. In front both keep their margin, the values before a block that its filters read. `odd` is scratch, and
 // `lifted` and `second` are lent to the filters for their copies: arrays made for each block would be zeroed each time.
-// The half band's sizes stand here, where the compiler does not see their values: of taps that it sees it makes products that
-// take longer.
+// The half band's sizes stand here, where the compiler does not see their values: of taps that it sees it makes
+// products that take longer.
 #[derive(Drop)]
 pub struct Buffers {
     pub odd: [i64; 247],
