@@ -146,30 +146,32 @@ pub fn half_sizes() -> [u32; 8]
 }
 
 // HB at half the rate, in place: y holds the values at even places, xo those at odd ones. Of the even taps only the
-// centre is not 0.
-pub fn half(y: &mut [i64], sizes: &[u32], xo: &[i64])
+// centre is not 0. v is lent for the copy.
+pub fn half(y: &mut [i64], sizes: &[u32], xo: &[i64], v: &mut [u64])
     requires lent { sizes.now ≡ odd_sizes }
-    requires y_in_bounds { (length y.old + 15 ≤ length xo.now) × (length xo.now ≤ 247) }
+    requires y_in_bounds { (length y.old + 15 ≤ length xo.now) × (length xo.now ≤ length v.old) × (length v.old ≤ 512) }
+    requires low { Low v.old }
     requires small { Small (2 ^ 29) y.old }
     requires small_2 { Small (2 ^ 29) xo.now }
     requires fit { Fit (half_rate alone (odd_taps HB) y.old xo.now) (length y.old) }
-    ensures { Filled (λ i. R (half_rate alone (odd_taps HB) y.old xo.now i) 24) y.old y.new }
+    ensures filled { Filled (λ i. R (half_rate alone (odd_taps HB) y.old xo.now i) 24) y.old y.new }
+    ensures still_low { Low v.new }
 {
-    let mut v = [0u64; 247];
-    filters::raise(xo, &mut v);
-    places::<24>(y, Band { sizes, v: &v });
+    filters::raise(xo, v);
+    places::<24>(y, Band { sizes, v });
 }
 
 // HB's places between those of x: over a y of zeros the centre adds nothing.
-pub fn interp(y: &mut [i64], sizes: &[u32], x: &[i64])
+pub fn interp(y: &mut [i64], sizes: &[u32], x: &[i64], v: &mut [u64])
     requires lent { sizes.now ≡ odd_sizes }
-    requires y_in_bounds { (length y.old + 15 ≤ length x.now) × (length x.now ≤ 256) }
+    requires y_in_bounds { (length y.old + 15 ≤ length x.now) × (length x.now ≤ length v.old) × (length v.old ≤ 512) }
+    requires low { Low v.old }
     requires small { Small (2 ^ 29) x.now }
     requires fit { Fit (middle (odd_taps HB) x.now) (length y.old) }
-    ensures { Filled (λ i. R (middle (odd_taps HB) x.now i) 23) y.old y.new }
+    ensures filled { Filled (λ i. R (middle (odd_taps HB) x.now i) 23) y.old y.new }
+    ensures still_low { Low v.new }
 {
-    let mut v = [0u64; 256];
-    filters::raise(x, &mut v);
+    filters::raise(x, v);
     y.fill(0);
-    places::<23>(y, Band { sizes, v: &v });
+    places::<23>(y, Band { sizes, v });
 }

@@ -6,14 +6,8 @@ use Rattle.filters.specs.Filters.{half_rate, seconds}
 use Rattle.filters.specs.Lifts.{Raised}
 use Rattle.filters.proofs.Bias.{half_sums, filled_sums, filled_round}
 use Rattle.lanes.proofs.Pairs.{raised_size, centre_size, arms_size}
-use Rattle.filters.proofs.Places.{low_zeros, filled_small, gained_small, length_seconds}
+use Rattle.filters.proofs.Places.{filled_small, gained_small, length_seconds}
 use Rattle.filters.proofs.dec2.Goals as goal
-
-pub raise_second-requires-clause-low : goal.raise_second-requires-clause-low
-raise_second-requires-clause-low c = low_zeros 200
-
-pub raise_second-requires-2-clause-low : goal.raise_second-requires-2-clause-low
-raise_second-requires-2-clause-low c = low_zeros 200
 
 pub add-requires-clause-small : goal.add-requires-clause-small
 add-requires-clause-small c =
@@ -44,8 +38,8 @@ all-requires c =
     let sums = half_sums he ho (seconds f x) (seconds g x) _ _ (omega (arith, length_seconds f x)) (omega (arith, length_seconds g x)) even odd c.requires.phases (rw e at c.centre.ensures) c.add.ensures c.add-2.ensures in
     (omega arith, omega arith, filled_sums (half_rate he ho (seconds f x) (seconds g x)) sums _ (omega (arith, sums.same)) c.requires.fit)
 
-pub returns : goal.returns
-returns c =
+pub returns-clause-filled : goal.returns-clause-filled
+returns-clause-filled c =
     let he = c.args.he.now in
     let ho = c.args.ho.now in
     let x = c.args.x.now in

@@ -28,8 +28,8 @@ dec2-requires-clause-fit c =
       fits = λ i m. rw (sum_is f.F c.args.x.now (even_half f.F f.halved) (odd_half f.F f.halved) i (omega (arith, long)) (omega (arith, long))) (fit.fits (2 * i) (omega arith));
     }
 
-pub returns : goal.returns
-returns c =
+pub returns-clause-filled : goal.returns-clause-filled
+returns-clause-filled c =
     λ F halved.
     let long = halves_length F halved in
-    filled_as c.dec2.ensures (λ i m. ap (λ (z : ℤ). R z 24) (sum_is F c.args.x.now (even_half F halved) (odd_half F halved) i (omega (arith, c.requires, long)) (omega (arith, c.requires, long))))
+    filled_as c.dec2.ensures.filled (λ i m. ap (λ (z : ℤ). R z 24) (sum_is F c.args.x.now (even_half F halved) (odd_half F halved) i (omega (arith, c.requires, long)) (omega (arith, c.requires, long))))
