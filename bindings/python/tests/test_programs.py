@@ -122,8 +122,8 @@ class Lines(Case):
         be.
         """
         blocks = [re.findall(r"```python\n(.*?)```", path.read_text(encoding="utf-8"), re.S) for path in (HERE / "README.md", ROOT / "README.md")]
-        self.assertEqual(blocks[1][:1] or blocks[0][:1], blocks[0][:1])
-        lines = blocks[0][0]
+        self.assertEqual(*blocks)
+        lines, = blocks[0]
         self.assertLessEqual(len(lines.splitlines()), 10)
         path = self.folder()
         (path / "album.dsf").write_bytes(dsf(2, 3 * FRAME + 3, 7, loud=True))
@@ -162,6 +162,7 @@ class Wheel(Case):
             self.assertEqual([row.split(",")[0] for row in record.splitlines()], names)
             for needed in ("puigneht/py.typed", "puigneht/libpuigneht.so", "puigneht/__main__.py", f"puigneht-{puigneht.__version__}.dist-info/METADATA"):
                 self.assertIn(needed, names)
+            self.assertEqual(wheel.read(f"puigneht-{puigneht.__version__}.dist-info/NOTICE"), (ROOT / "NOTICE").read_bytes())
             wheel.extractall(path / "site")
         env = {key: value for key, value in os.environ.items() if key not in ("PUIGNEHT_LIBRARY", "PYTHONPATH")}
         done = ran(sys.executable, "-m", "puigneht", "a.dsf", "a.wav", cwd=path, env={**env, "PYTHONPATH": str(path / "site")})
