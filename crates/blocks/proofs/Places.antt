@@ -14,7 +14,7 @@ use Rattle.reference.specs.declared.PcmRate.TheVariants.{Hz88200, Hz176400, Hz35
 use Rattle.reference.specs.declared.Cutoff.{Cutoff}
 use Rattle.reference.specs.declared.Cutoff.TheVariants.{Standard, Low, Wide}
 use Rattle.reference.proofs.Locality.{F40_last, F80_last}
-use Rattle.routes.specs.Routes.{LastFilter, lent_taps, Taps, stride, around, first_byte, block_length, fresh, margin_from}
+use Rattle.routes.specs.Routes.{LastFilter, lent_taps, RouteTaps, stride, around, first_byte, block_length, fresh, margin_from}
 use Rattle.routes.proofs.Filters.{halves_length}
 
 -- ---- blocks
@@ -46,7 +46,7 @@ lent_length Hz176400 Low F e = ap length e
 lent_length Hz176400 Wide F e = halves_length F e
 lent_length Hz352800 cutoff F e = ap length e
 
-module _ {rate : PcmRate} {cutoff : Cutoff} {F h : List ℤ} (t : Taps rate cutoff F h) where
+module _ {rate : PcmRate} {cutoff : Cutoff} {F h : List ℤ} (t : RouteTaps rate cutoff F h) where
   pub some_taps : 0 < length h
   some_taps = omega (arith, (filter_length rate cutoff F t.last).0, lent_length rate cutoff F t.lent)
 

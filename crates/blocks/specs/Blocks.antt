@@ -5,7 +5,7 @@ use Rattle.reference.specs.Output.{unclamped, sample}
 use Rattle.reference.specs.declared.Converter.{Converter}
 use Rattle.reference.specs.declared.ChannelStats.{ChannelStats}
 use Rattle.channel_bytes.specs.Lent.{Lent}
-use Rattle.routes.specs.Routes.{FirstTables, Taps, last_of}
+use Rattle.routes.specs.Routes.{FirstTables, RouteTaps, last_of}
 use Rattle.gain.specs.Scale.{bounded}
 use Rattle.gain.specs.Tallies.{tally}
 use Rattle.output.specs.Fills.{Layout, Drawn}
@@ -14,7 +14,7 @@ use Rattle.output.specs.Fills.{Layout, Drawn}
 pub record Ready (conv : Converter) (count : ℕ) (b f a : List ℕ) (tables taps : List ℤ) : Type 0 where
   pub slices : Lent conv.channels count b f a
   pub first : FirstTables conv.cutoff tables
-  pub last : Taps conv.rate conv.cutoff (last_of conv) taps
+  pub last : RouteTaps conv.rate conv.cutoff (last_of conv) taps
   pub factor : T (bounded conv.gain.linear)
 
 -- m samples of channel c from sample n on, written to the output, and what they tell. S is any signal that has these samples at their places, so

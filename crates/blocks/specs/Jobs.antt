@@ -7,12 +7,12 @@ use Rattle.channel_bytes.specs.Runs as slices
 use Rattle.blocks.specs.declared.job.Job.{Job}
 
 -- its run
-abbrev pub run_of : Job → Run
-run_of j = slices.run_of j.slices
+abbrev pub job_run : Job → Run
+job_run j = slices.slices_run j.slices
 
 -- the bytes of channel c by position
-abbrev pub bytes_of : Job → ℕ → ℕ → ℕ
-bytes_of j c = byte_at j.conv.channels j.slices.before.now j.slices.frames.now j.slices.after.now c
+abbrev pub job_bytes : Job → ℕ → ℕ → ℕ
+job_bytes j c = byte_at j.conv.channels j.slices.before.now j.slices.frames.now j.slices.after.now c
 
 -- samples of a channel: in a frame, and in the run
 abbrev pub in_frame : Job → ℕ

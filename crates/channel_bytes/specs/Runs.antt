@@ -5,9 +5,9 @@ use Rattle.channel_bytes.specs.Lent.{lent_run, byte_at}
 use Rattle.channel_bytes.specs.declared.slices.Slices.{Slices}
 
 -- the run
-abbrev pub run_of : Slices → Run
-run_of s = lent_run s.before.now s.frames.now s.after.now
+abbrev pub slices_run : Slices → Run
+slices_run s = lent_run s.before.now s.frames.now s.after.now
 
 -- the bytes of channel c by position
-abbrev pub bytes_of : Slices → ℕ → ℕ → ℕ
-bytes_of s c = byte_at s.channels s.before.now s.frames.now s.after.now c
+abbrev pub slices_bytes : Slices → ℕ → ℕ → ℕ
+slices_bytes s c = byte_at s.channels s.before.now s.frames.now s.after.now c

@@ -15,7 +15,7 @@ use Rattle.numbers.proofs.Lists.{below_or, length_tabulate, get_d_tabulate, is_t
 use Rattle.reference.specs.Rounding.{R}
 use Rattle.reference.specs.Stages.{tap, M, fir}
 use Rattle.lanes.specs.Lanes.{Small, Filled, arms}
-use Rattle.filters.specs.Filters.{even_taps, odd_taps, between_by, same_rate, middle, half_rate, Fit, ones, Filter, Phases}
+use Rattle.filters.specs.Filters.{even_taps, odd_taps, between_by, same_rate, middle, half_rate, Fit, ones, UnityGain, Phases}
 use Rattle.filters.proofs.Pairs.{fir_is}
 
 -- 0 past the end
@@ -176,7 +176,7 @@ module _ {h he ho : List ℤ} (t : Halves h he ho) where
     half_held u l m = filled_held u (λ i a. ap (λ (z : ℤ). R z 24) (half_signal i (omega arith) (omega arith)))
 
   -- a filter's halves are as its taps are
-  pub halves_phases : Filter h → Phases he ho
+  pub halves_phases : UnityGain h → Phases he ho
   unfolding fir between_by
   halves_phases f =
       record {

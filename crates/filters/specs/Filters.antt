@@ -50,7 +50,7 @@ abbrev pub ones : ℕ → ℤ
 ones k = pos 1
 
 -- the taps, each as often as it is used, sum to 2^24: a signal of ones becomes 2^24, at any place
-pub record Filter (h : List ℤ) : Type 0 where
+pub record UnityGain (h : List ℤ) : Type 0 where
   pub small : Small (2 ^ 25) h
   pub whole : fir h ones (M h) ≡ pos (2 ^ 24)
 

@@ -9,7 +9,7 @@
 ghost use Rattle.std.specs.Prelude.{◌≡◌, ◌+◌, ◌*◌, ◌-◌, ◌^◌, ◌≤◌, ◌<◌, length};
 ghost use Rattle.reference.specs.Rounding.{R};
 ghost use Rattle.lanes.specs.Lanes.{Small, Filled, Low};
-ghost use Rattle.filters.specs.Filters.{seconds, same_rate, half_rate, Fit, Filter, Phases};
+ghost use Rattle.filters.specs.Filters.{seconds, same_rate, half_rate, Fit, UnityGain, Phases};
 
 mod copy;
 mod round;
@@ -24,7 +24,7 @@ pub use start::raise;
 pub fn fir1(y: &mut [i64], h: &[i64], x: &[i64], v: &mut [u64])
     requires h_nonzero { (0 < length h.now) × (length h.now ≤ 117) × (length y.old + 2 * (length h.now - 1) ≤ length x.now) × (length x.now ≤ length v.old) × (length v.old ≤ 512) }
     requires low { Low v.old }
-    requires filter { Filter h.now }
+    requires filter { UnityGain h.now }
     requires small { Small (2 ^ 29) x.now }
     requires fit { Fit (same_rate h.now x.now) (length y.old) }
     ensures filled { Filled (λ i. R (same_rate h.now x.now i) 24) y.old y.new }

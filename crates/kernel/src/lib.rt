@@ -6,7 +6,7 @@
 ghost use Rattle.std.specs.Prelude.{◌≡◌, ℕ, ◌+◌, ◌*◌, ◌%◌, ◌^◌, ◌≤◌, ◌<◌, List, true, false, ℤ, pos, length, get_or};
 ghost use Rattle.numbers.specs.Lists.{Held};
 ghost use Rattle.routes.specs.Routes as Routes;
-ghost use Rattle.routes.specs.Routes.{SomeTaps, Taps, FirstTables, State, Brought, y_of, input, block_length, first_byte, margin_from};
+ghost use Rattle.routes.specs.Routes.{SomeTaps, RouteTaps, FirstTables, State, Brought, y_of, filter_input, block_length, first_byte, margin_from};
 
 use reference::{Cutoff, PcmRate};
 use stages::Buffers;
@@ -97,7 +97,7 @@ pub fn margin(cutoff: Cutoff, tables: &[i32], bytes: &[u8], n: usize, buffers: &
     requires first_tables { FirstTables cutoff tables.now }
     requires n_bound { (n ≤ 232) × (length bytes.now ≡ 512) }
     ensures kept { buffers.new.kept ≡ buffers.old.kept }
-    ensures held { (β : ℕ → ℕ) (i : ℕ) → 10 ≤ i → Held 0 β (first_byte cutoff i) (Routes.stride cutoff * n + Routes.around cutoff) bytes.now → Held (pos 0) (input cutoff β) i n buffers.new.x }
+    ensures held { (β : ℕ → ℕ) (i : ℕ) → 10 ≤ i → Held 0 β (first_byte cutoff i) (Routes.stride cutoff * n + Routes.around cutoff) bytes.now → Held (pos 0) (filter_input cutoff β) i n buffers.new.x }
 {
     match cutoff {
         Cutoff::Standard | Cutoff::Low => buffers.bring_v(tables, &bytes[..2 * n + 36], 0, n),
@@ -120,7 +120,7 @@ pub fn block(
     requires first_tables { FirstTables cutoff tables.now }
     requires some_taps { SomeTaps rate cutoff h.now }
     requires lengths { (length bytes.now ≡ 512) × (length y.old ≡ 336) }
-    ensures { (F : List ℤ) (β : ℕ → ℕ) (n : ℕ) → Taps rate cutoff F h.now → 1000 ≤ n → Brought rate cutoff F first β n bytes.now → State rate cutoff F first β n buffers.old.x buffers.old.kept → Held (pos 0) (y_of rate cutoff F β) n (block_length rate cutoff) y.new × State rate cutoff F false β (n + block_length rate cutoff) buffers.new.x buffers.new.kept }
+    ensures { (F : List ℤ) (β : ℕ → ℕ) (n : ℕ) → RouteTaps rate cutoff F h.now → 1000 ≤ n → Brought rate cutoff F first β n bytes.now → State rate cutoff F first β n buffers.old.x buffers.old.kept → Held (pos 0) (y_of rate cutoff F β) n (block_length rate cutoff) y.new × State rate cutoff F false β (n + block_length rate cutoff) buffers.new.x buffers.new.kept }
 {
     match cutoff {
         Cutoff::Standard | Cutoff::Low => match rate {

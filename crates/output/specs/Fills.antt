@@ -25,8 +25,8 @@ items = record { width = 1; part = λ z b. z; past = pos 0 }
 unfoldable pub third : ℤ → ℕ → ℕ
 third z b = low24 z / 256 ^ b % 256
 
-abbrev pub bytes : Layout ℕ
-bytes = record { width = 3; part = third; past = 0 }
+abbrev pub byte_layout : Layout ℕ
+byte_layout = record { width = 3; part = third; past = 0 }
 
 module _ {A : Type 0} (o : Layout A) where
   -- the places of item k hold the sample z, and the others what they held

@@ -10,7 +10,7 @@ use Rattle.reference.specs.declared.Cutoff.TheVariants.{Standard, Low, Wide}
 use Rattle.reference.specs.declared.Converter.{Converter}
 use Rattle.reference.specs.Sizes.{absolute_sum}
 use Rattle.tables.specs.Tables.{ByteTables}
-use Rattle.filters.specs.Filters.{even_taps, odd_taps, Filter}
+use Rattle.filters.specs.Filters.{even_taps, odd_taps, UnityGain}
 
 -- ---- filters
 
@@ -18,7 +18,7 @@ use Rattle.filters.specs.Filters.{even_taps, odd_taps, Filter}
 pub record LowPass (F : List ℤ) : Type 0 where
   pub some : 0 < length F
   pub few : length F ≤ 117
-  pub keeps : Filter F
+  pub keeps : UnityGain F
   pub small : absolute_sum F ≤ 40000000
 
 -- the last filter of a route may be F: any low-pass for Standard and Low, its own for Wide
@@ -57,7 +57,7 @@ pub record HalvedFilter (h : List ℤ) : Type 0 where
   pub few : length h ≤ 117
   pub F : List ℤ
   pub halved : h ≡ halves_of F
-  pub keeps : Filter F
+  pub keeps : UnityGain F
   pub small : absolute_sum F ≤ 40100000
 
 -- the taps as they are lent: in halves where y is at half the rate of what the last filter reads
@@ -69,14 +69,14 @@ lent_taps Hz176400 Wide F = halves_of F
 lent_taps Hz352800 cutoff F = F
 
 -- h is F, a filter that may be the route's last, as it is lent
-pub record Taps (rate : PcmRate) (cutoff : Cutoff) (F h : List ℤ) : Type 0 where
+pub record RouteTaps (rate : PcmRate) (cutoff : Cutoff) (F h : List ℤ) : Type 0 where
   pub last : LastFilter rate cutoff F
   pub lent : h ≡ lent_taps rate cutoff F
 
 -- h is some such filter
 pub record SomeTaps (rate : PcmRate) (cutoff : Cutoff) (h : List ℤ) : Type 0 where
   pub F : List ℤ
-  pub taps : Taps rate cutoff F h
+  pub taps : RouteTaps rate cutoff F h
 
 -- y of the route with the last filter F. `y` of the reference is so with `last_taps` (`y_of_is`, proofs/Routes)
 unfoldable pub y_of : PcmRate → Cutoff → List ℤ → (ℕ → ℕ) → ℕ → ℤ
@@ -87,10 +87,10 @@ y_of rate Wide F β n = y_wide rate β n
 -- ---- what the last filter reads
 
 -- v of Standard and Low, u of Wide
-unfoldable pub input : Cutoff → (ℕ → ℕ) → ℕ → ℤ
-input Standard β i = v β i
-input Low β i = v β i
-input Wide β i = u S1_WIDE β i
+unfoldable pub filter_input : Cutoff → (ℕ → ℕ) → ℕ → ℤ
+filter_input Standard β i = v β i
+filter_input Low β i = v β i
+filter_input Wide β i = u S1_WIDE β i
 
 -- bytes from one value of it to the next
 unfoldable pub stride : Cutoff → ℕ
@@ -154,7 +154,7 @@ Kept Hz352800 Wide F first β n l = Unit {0}
 
 -- the arrays before the block that starts at sample n, counted from the frame before the run; `first` tells a frame's first block
 pub record State (rate : PcmRate) (cutoff : Cutoff) (F : List ℤ) (first : Bool) (β : ℕ → ℕ) (n : ℕ) (x kept : List ℤ) : Type 0 where
-  pub margin : Held (pos 0) (input cutoff β) (margin_from rate cutoff (M F) first n) (2 * M F) x
+  pub margin : Held (pos 0) (filter_input cutoff β) (margin_from rate cutoff (M F) first n) (2 * M F) x
   pub w_kept : Kept rate cutoff F first β n kept
 
 -- the bytes that the block at sample n brings

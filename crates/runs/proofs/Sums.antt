@@ -27,7 +27,7 @@ use Rattle.gain.proofs.Tallies.{tally_none, tally_join, tally_clipped, tally_few
 use Rattle.output.specs.Fills.{Layout, Drawn, Room, written}
 use Rattle.output.proofs.Boxes.{no_rows, no_cols, rows, cols, all_samples}
 use Rattle.blocks.specs.Blocks.{Made}
-use Rattle.blocks.specs.Jobs.{run_of, in_run}
+use Rattle.blocks.specs.Jobs.{job_run, in_run}
 use Rattle.blocks.specs.declared.job.Job.{Job}
 use Rattle.blocks.proofs.Sums.{made_drawn, run_samples, ready_of}
 use Rattle.runs.specs.Loops.{channel_tally, Tallied, clips_below, Ran}
@@ -177,20 +177,20 @@ module _ {A : Type 0} {o : Layout A} {conv : Converter} {r : Run} {x : List A} {
 
 -- ---- the whole run
 
-module _ {A : Type 0} {o : Layout A} (some : 0 < o.width) (j : Job) {x y : List A} {l : List ChannelStats} {s t : List ℕ} (a : Frames o j.conv (run_of j) j.slices.count x y l s t) where
-  pub run_done : {told : ConvertStats} → Room o (in_run j * j.conv.channels) x → length s ≤ j.slices.count → length t ≡ length s → told.channels ≡ l → Ran o j.conv (run_of j) told y s t
+module _ {A : Type 0} {o : Layout A} (some : 0 < o.width) (j : Job) {x y : List A} {l : List ChannelStats} {s t : List ℕ} (a : Frames o j.conv (job_run j) j.slices.count x y l s t) where
+  pub run_done : {told : ConvertStats} → Room o (in_run j * j.conv.channels) x → length s ≤ j.slices.count → length t ≡ length s → told.channels ≡ l → Ran o j.conv (job_run j) told y s t
   unfolding samples item run_all stats
   run_done room few same e =
       let slices = (ready_of j).slices in
       let n = run_samples j.conv slices in
       record {
-        places = rw n (whole some (sample j.conv (run_of j)) slices.some room a.box);
-        counted = is_tabulate (frame_clips j.conv (run_of j)) 0 (length s) 0 t same (λ i m.
+        places = rw n (whole some (sample j.conv (job_run j)) slices.some room a.box);
+        counted = is_tabulate (frame_clips j.conv (job_run j)) 0 (length s) 0 t same (λ i m.
             let z : 0 + i ≡ i = omega arith in
             rw z (a.counted i (omega arith) (omega arith)));
-        is_stats = rw (e ∙ is_tabulate (channel_stats j.conv (run_of j)) 0 6 no_samples l a.tallied.six (λ i m.
+        is_stats = rw (e ∙ is_tabulate (channel_stats j.conv (job_run j)) 0 6 no_samples l a.tallied.six (λ i m.
             let z : 0 + i ≡ i = omega arith in
-            rw z (a.tallied.rest i (omega arith) ∙ tally_is j.conv (run_of j) (in_run j) i n))) refl;
+            rw z (a.tallied.rest i (omega arith) ∙ tally_is j.conv (job_run j) (in_run j) i n))) refl;
       }
     where
       whole : 0 < o.width → (S : ℕ → ℕ → ℤ) → 0 < j.conv.channels → Room o (in_run j * j.conv.channels) x → Drawn o S j.conv.channels 0 (in_run j) 0 j.conv.channels x y

@@ -4,7 +4,7 @@
 ghost use Rattle.std.specs.Prelude.{◌≡◌, ◌*◌, ◌≤◌, length};
 ghost use Rattle.reference.specs.Stages.{taps_of};
 ghost use Rattle.reference.specs.Output.{samples_per_frame};
-ghost use Rattle.channel_bytes.specs.Runs.{run_of};
+ghost use Rattle.channel_bytes.specs.Runs.{slices_run};
 ghost use Rattle.routes.specs.Routes.{last_of, halves_of, lent_taps};
 ghost use Rattle.output.specs.Fills.{Room};
 ghost use Rattle.runs.specs.Loops.{Ran};
@@ -83,7 +83,7 @@ pub fn convert_slices<'a, P: Place>(
     requires same { slices.channels ≡ conv.channels }
     requires room { Room P.layout (slices.count * samples_per_frame conv.rate * conv.channels) out.old }
     requires few { length counts.old ≤ slices.count }
-    ensures { Ran P.layout conv (run_of slices.entry) result out.new counts.old counts.new }
+    ensures { Ran P.layout conv (slices_run slices.entry) result out.new counts.old counts.new }
 {
     let bound = last_taps(&conv);
     let taps = bound.as_slice();
