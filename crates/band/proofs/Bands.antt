@@ -60,7 +60,8 @@ whole_part y₀ y v i j w e l =
     }
 
 -- a block more is done
-pub done_then : (q : ℕ) (y₀ : List ℤ) (v : List ℕ) {i j k : ℕ} {mid new : List ℤ} → Written (done q y₀ v) 0 i y₀ mid → Written (done q mid v) i j mid new → i ≤ j → j ≡ k → Written (done q y₀ v) 0 k y₀ new
+pub done_then : (q : ℕ) (y₀ : List ℤ) (v : List ℕ) {i j k : ℕ} {mid new : List ℤ} → Written (done q y₀ v) 0 i y₀ mid
+    → Written (done q mid v) i j mid new → i ≤ j → j ≡ k → Written (done q y₀ v) 0 k y₀ new
 done_then q y₀ v {mid = mid} u w p e =
     rw e at
     (written_then u w (omega arith) p (λ m l n. ap (λ (z : ℤ). R (z -ℤ pos (2 ^ 53)) q) (band_same y₀ mid v m (u.above m l))))

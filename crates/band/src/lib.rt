@@ -61,7 +61,8 @@ fn pair(s: i64, minus: bool, size: u32, v: &[u64], i: usize, j: usize) -> i64
     tap(s, minus, size, (v[i] + v[j]) % 4294967296)
 }
 
-// Every lane gains two taps of one sign, two places apart. `minus` is a number that the callers write: no sign is tested.
+// Every lane gains two taps of one sign, two places apart. `minus` is a number that the callers write: no sign is
+// tested.
 fn two<const L: usize>(
     acc: [i64; L],
     minus: bool,

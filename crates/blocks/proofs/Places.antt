@@ -119,7 +119,8 @@ module _ (m n : ℕ) (few : m ≤ 116) (late : 1000 ≤ n) where
 
     pub block_byte_next : first_byte cutoff (margin_from rate cutoff m false (n + block_length rate cutoff) + 2 * m) ≡ block_byte + stride cutoff * fresh rate cutoff first
     block_byte_next =
-        let e : margin_from rate cutoff m false (n + block_length rate cutoff) + 2 * m ≡ margin_from rate cutoff m first n + 2 * m + fresh rate cutoff first = omega (arith, margin_next rate cutoff first) in
+        let e : margin_from rate cutoff m false (n + block_length rate cutoff) + 2 * m
+        ≡ margin_from rate cutoff m first n + 2 * m + fresh rate cutoff first = omega (arith, margin_next rate cutoff first) in
         ap (first_byte cutoff) e ∙ first_byte_more cutoff (margin_from rate cutoff m first n + 2 * m) (fresh rate cutoff first) (omega (arith, margin_low rate cutoff first))
 
 -- what is gathered fits its array

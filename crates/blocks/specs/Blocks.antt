@@ -17,8 +17,8 @@ pub record Ready (conv : Converter) (count : ℕ) (b f a : List ℕ) (tables tap
   pub last : RouteTaps conv.rate conv.cutoff (last_of conv) taps
   pub factor : T (bounded conv.gain.linear)
 
--- m samples of channel c from sample n on, written to the output, and what they tell. S is any signal that has these samples at their places, so
--- that every other place keeps what it held
+-- m samples of channel c from sample n on, written to the output, and what they tell. S is any signal that has these
+-- samples at their places, so that every other place keeps what it held
 pub record Made {A : Type 0} (o : Layout A) (conv : Converter) (r : Run) (c n m : ℕ) (told : ChannelStats) (x y : List A) : Type 0 where
   pub box : (S : ℕ → ℕ → ℤ) → ((k : ℕ) → k < m → S c (n + k) ≡ sample conv r c (n + k)) → Drawn o S conv.channels n (n + m) c (c + 1) x y
   pub is_told : told ≡ tally (unclamped conv r c) n m

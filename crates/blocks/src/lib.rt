@@ -51,8 +51,8 @@ impl<'a> Job<'a> {
         told
     }
 
-    // A channel of the frame whose first sample is n. The arrays are of fixed length, and filled a block at a time: nothing
-    // here is on the heap.
+    // A channel of the frame whose first sample is n. The arrays are of fixed length, and filled a block at a time:
+    // nothing here is on the heap.
     pub fn channel<P: Place>(&self, channel: usize, n: usize, out: &mut [P]) -> ChannelStats
         requires place { (channel < self.now.conv.channels) × (n + in_frame self.now ≤ in_run self.now) × (n % 2 ≡ 0) }
         requires room { Room P.layout (in_run self.now * self.now.conv.channels) out.old }

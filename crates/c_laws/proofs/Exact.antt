@@ -10,7 +10,9 @@ use Rattle.c_stats.specs.Conversions.{Results, ConversionDone}
 use Rattle.wav_format.proofs.Theorems.{read_exact}
 use Rattle.dsf_upload.proofs.Early.{one_answer}
 use Rattle.dsf_upload.proofs.Beginnings.{seen}
-use Rattle.c_laws.specs.Exact.{GainExact, OpenExact, ChangeExact, SamplesExact, BytesExact, PackLeaves, JoinExact, OversExact, SheetExact, TurnsExact, LevelsExact, LastLineExact, AlbumExact, PartLeaves, PieceExact, WritesLeave, FramesExact, StepExact, WrittenExact, WhyExact, WindowLeaves, UploadExact, WavReadExact, HeaderExact, WaveHeaderExact, UploadHeaderExact}
+use Rattle.c_laws.specs.Exact.{GainExact, OpenExact, ChangeExact, SamplesExact, BytesExact, PackLeaves, JoinExact, OversExact, SheetExact}
+use Rattle.c_laws.specs.Exact.{TurnsExact, LevelsExact, LastLineExact, AlbumExact, PartLeaves, PieceExact, WritesLeave, FramesExact, StepExact}
+use Rattle.c_laws.specs.Exact.{WrittenExact, WhyExact, WindowLeaves, UploadExact, WavReadExact, HeaderExact, WaveHeaderExact, UploadHeaderExact}
 
 -- ---- what several lists hold
 module _ {A B : Type 0} (m m' : A × B) where

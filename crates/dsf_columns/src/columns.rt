@@ -44,7 +44,8 @@ pub struct Channel {
 // A channel of a frame: its pieces, block by block, and idle bytes past the data.
 pub fn column(window: &Stretch, table: &[u8; 256], channel: Channel, out: &mut [u8])
     requires { ColumnArgs channel.channels channel.number channel.first channel.end window.now.start (length window.now.bytes.now) (length out.old) }
-    ensures { Column channel.channels channel.number frame_bytes (column_byte window.now.bytes.now table.now channel.channels channel.first channel.end window.now.start channel.number) out.old out.new }
+    ensures { Column channel.channels channel.number frame_bytes
+        (column_byte window.now.bytes.now table.now channel.channels channel.first channel.end window.now.start channel.number) out.old out.new }
 {
     let stride = channel.channels as usize;
     let mut q = channel.first;

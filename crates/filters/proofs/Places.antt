@@ -39,7 +39,10 @@ gained_small g {old} B u a e l = filled_small B u (λ k. omega (arith, abs_add (
 
 -- ---- the copy
 pub low_zeros : (n : ℕ) → Low (replicate n 0)
-low_zeros n = record { size = λ k. ⊎_elim (λ l. rw (get_or-replicate {A = ℕ} n k 0 0 l) (omega arith)) (λ l. rw (get_or-eq_default {A = ℕ} (replicate n 0) 0 {n = k} (past k l)) (omega arith)) (below_or k n) }
+low_zeros n = record {
+  size = λ k. ⊎_elim (λ l. rw (get_or-replicate {A = ℕ} n k 0 0 l) (omega arith))
+      (λ l. rw (get_or-eq_default {A = ℕ} (replicate n 0) 0 {n = k} (past k l)) (omega arith)) (below_or k n);
+}
   where
     past : (k : ℕ) → n ≤ k → length {A = ℕ} (replicate n 0) ≤ k
     past k l = rw (length-replicate {A = ℕ} n 0) l

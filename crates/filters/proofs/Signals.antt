@@ -1,4 +1,5 @@
--- From a block to the signal that it is a part of: each place of the output is the reference's sum over the signal. For every filter h.
+-- From a block to the signal that it is a part of: each place of the output is the reference's sum over the signal. For
+-- every filter h.
 use mathlib.Core.Path.{◌≡◌, refl, sym, ◌∙◌, ap, ap₂}
 use mathlib.Core.List.{List}
 use mathlib.Core.Logic.{⊎_elim}

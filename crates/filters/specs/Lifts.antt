@@ -1,4 +1,5 @@
--- How the sums are made. A copy of the block has every value lifted by 2^29, so that the machine multiplies numbers that are not negative.
+-- How the sums are made. A copy of the block has every value lifted by 2^29, so that the machine multiplies numbers
+-- that are not negative.
 use Rattle.std.specs.Prelude.{◌≡◌, List, ℕ, ◌^◌, ◌≤◌, ◌<◌, ℤ, pos, nat_abs, ◌+ℤ◌, ◌-ℤ◌}
 use Rattle.numbers.specs.Sums.{at0}
 use Rattle.reference.specs.Rounding.{R}

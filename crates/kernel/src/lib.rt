@@ -120,7 +120,9 @@ pub fn block(
     requires first_tables { FirstTables cutoff tables.now }
     requires some_taps { SomeTaps rate cutoff h.now }
     requires lengths { (length bytes.now ≡ 512) × (length y.old ≡ 336) }
-    ensures { (F : List ℤ) (β : ℕ → ℕ) (n : ℕ) → RouteTaps rate cutoff F h.now → 1000 ≤ n → Brought rate cutoff F first β n bytes.now → State rate cutoff F first β n buffers.old.x buffers.old.kept → Held (pos 0) (y_of rate cutoff F β) n (block_length rate cutoff) y.new × State rate cutoff F false β (n + block_length rate cutoff) buffers.new.x buffers.new.kept }
+    ensures { (F : List ℤ) (β : ℕ → ℕ) (n : ℕ) → RouteTaps rate cutoff F h.now → 1000 ≤ n → Brought rate cutoff F first β n bytes.now
+        → State rate cutoff F first β n buffers.old.x buffers.old.kept → Held (pos 0) (y_of rate cutoff F β) n (block_length rate cutoff) y.new
+        × State rate cutoff F false β (n + block_length rate cutoff) buffers.new.x buffers.new.kept }
 {
     match cutoff {
         Cutoff::Standard | Cutoff::Low => match rate {

@@ -77,6 +77,7 @@ gathered_frame files hs s f piece g c =
     let fits : c.first + c.count ≤ tracks_frames (heads ts) = rw told.frames at within in
     let left : c.scratch' ≡ files_frames files c.first c.count = frames_of_files files hs s c.first c.count c.windows c.scratch c.scratch' c.answer g c.of_windows c.promise c.taken in
     let of_files : FrameOf n (files_frames files c.first c.count) (f - (c.first - 1)) piece =
-    subst (λ (m : ℕ). FrameOf m (files_frames files c.first c.count) (f - (c.first - 1)) piece) told.channels (subst (λ (l : List ℕ). FrameOf (tracks_channels hs) l (f - (c.first - 1)) piece) left c.cut) in
+    subst (λ (m : ℕ). FrameOf m (files_frames files c.first c.count) (f - (c.first - 1)) piece) told.channels
+    (subst (λ (l : List ℕ). FrameOf (tracks_channels hs) l (f - (c.first - 1)) piece) left c.cut) in
     subst (λ (m : ℕ). FrameOf m (album_frames files) f piece) (sym told.channels)
     (of_all n of_files.some_channel (tracks_frame n ts) (tracks_frame_length n ts) f (tracks_frames (heads ts)) c.first c.count piece c.from c.to fits of_files)

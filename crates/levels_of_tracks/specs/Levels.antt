@@ -49,7 +49,8 @@ GatheredFrame =
 
 -- ---- what is in progress before a frame
 
--- what a call on frame f left, from whatever was in progress: whoever takes up at a piece tells the frame before it first
+-- what a call on frame f left, from whatever was in progress: whoever takes up at a piece tells the frame before it
+-- first
 pub record Left (files : List (List ℕ)) (hs : List Head) (s : Settings) (f : ℕ) (states : List Progress) : Type 0 where
   pub piece : Run
   pub gathered : Gathered files hs s f piece

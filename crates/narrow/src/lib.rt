@@ -43,7 +43,8 @@ fn newest(h: &[i64], x: &[i64], k: usize, lifted: &mut [u64], kept: &mut [i64])
     requires low { Low lifted.old × (length lifted.old ≡ 456) }
     ensures still_low { Low lifted.new }
     ensures small_3 { Small (2 ^ 29) kept.new }
-    ensures held { (β : ℕ → ℕ) (i : ℕ) → M h.now ≤ i + 184 - k → Held (pos 0) (v β) (i + 184 - k - M h.now) (2 * M h.now + k) x.now → Held (pos 0) (w h.now β) i (184 - k) kept.old → Held (pos 0) (w h.now β) i 184 kept.new }
+    ensures held { (β : ℕ → ℕ) (i : ℕ) → M h.now ≤ i + 184 - k → Held (pos 0) (v β) (i + 184 - k - M h.now) (2 * M h.now + k) x.now
+        → Held (pos 0) (w h.now β) i (184 - k) kept.old → Held (pos 0) (w h.now β) i 184 kept.new }
 {
     let e = 2 * (h.len() - 1) + k;
     filters::fir1(&mut kept[184 - k..184], h, &x[..e], lifted);
@@ -56,7 +57,8 @@ pub fn narrow88(tables: &[i32], h: &[i64], bytes: &[u8], buffers: &mut Buffers, 
     requires halved_filter { HalvedFilter h.now }
     requires lengths { (length bytes.now ≡ 372) × (length y.old ≡ 84) }
     ensures kept { buffers.new.kept ≡ buffers.old.kept }
-    ensures held { (F : List ℤ) (β : ℕ → ℕ) (n : ℕ) → LowPass F → h.now ≡ halves_of F → 1000 ≤ n → Held 0 β (2 * (2 * n + M F) - 19) 372 bytes.now → Held (pos 0) (v β) (2 * n - M F) (2 * M F) buffers.old.x → Held (pos 0) (y_narrow Hz88200 F β) n 84 y.new × Held (pos 0) (v β) (2 * (n + 84) - M F) (2 * M F) buffers.new.x }
+    ensures held { (F : List ℤ) (β : ℕ → ℕ) (n : ℕ) → LowPass F → h.now ≡ halves_of F → 1000 ≤ n → Held 0 β (2 * (2 * n + M F) - 19) 372 bytes.now
+        → Held (pos 0) (v β) (2 * n - M F) (2 * M F) buffers.old.x → Held (pos 0) (y_narrow Hz88200 F β) n 84 y.new × Held (pos 0) (v β) (2 * (n + 84) - M F) (2 * M F) buffers.new.x }
 {
     let m = 2 * (h.len() - 1);
     buffers.bring_v(tables, bytes, m, 168);
@@ -78,7 +80,8 @@ pub fn narrow176(tables: &[i32], h: &[i64], bytes: &[u8], buffers: &mut Buffers,
     requires low_pass { LowPass h.now }
     requires lengths { (length bytes.now ≡ 372) × (length y.old ≡ 168) }
     ensures kept { buffers.new.kept ≡ buffers.old.kept }
-    ensures held { (β : ℕ → ℕ) (n : ℕ) → 1000 ≤ n → Held 0 β (2 * (n + M h.now) - 19) 372 bytes.now → Held (pos 0) (v β) (n - M h.now) (2 * M h.now) buffers.old.x → Held (pos 0) (y_narrow Hz176400 h.now β) n 168 y.new × Held (pos 0) (v β) (n + 168 - M h.now) (2 * M h.now) buffers.new.x }
+    ensures held { (β : ℕ → ℕ) (n : ℕ) → 1000 ≤ n → Held 0 β (2 * (n + M h.now) - 19) 372 bytes.now → Held (pos 0) (v β) (n - M h.now) (2 * M h.now) buffers.old.x
+        → Held (pos 0) (y_narrow Hz176400 h.now β) n 168 y.new × Held (pos 0) (v β) (n + 168 - M h.now) (2 * M h.now) buffers.new.x }
 {
     let m = 2 * (h.len() - 1);
     buffers.bring_v(tables, bytes, m, 168);
@@ -99,7 +102,10 @@ pub fn narrow352(
     requires byte_tables { ByteTables S1 8 tables.now }
     requires low_pass { LowPass h.now }
     requires le_k { (168 ≤ k) × (k ≤ 184) × (length bytes.now ≡ 2 * k + 36) × (length y.old ≡ 336) }
-    ensures { (β : ℕ → ℕ) (n : ℕ) → 1000 ≤ n → n % 2 ≡ 0 → Held 0 β (2 * (n / 2 + 176 - k + M h.now) - 19) (2 * k + 36) bytes.now → Held (pos 0) (v β) (n / 2 + 176 - k - M h.now) (2 * M h.now) buffers.old.x → Held (pos 0) (w h.now β) (n / 2 - 8) (184 - k) buffers.old.kept → Held (pos 0) (y_narrow Hz352800 h.now β) n 336 y.new × Held (pos 0) (v β) (n / 2 + 176 - M h.now) (2 * M h.now) buffers.new.x × Held (pos 0) (w h.now β) (n / 2 + 160) 16 buffers.new.kept }
+    ensures { (β : ℕ → ℕ) (n : ℕ) → 1000 ≤ n → n % 2 ≡ 0 → Held 0 β (2 * (n / 2 + 176 - k + M h.now) - 19) (2 * k + 36) bytes.now
+        → Held (pos 0) (v β) (n / 2 + 176 - k - M h.now) (2 * M h.now) buffers.old.x → Held (pos 0) (w h.now β) (n / 2 - 8) (184 - k) buffers.old.kept
+        → Held (pos 0) (y_narrow Hz352800 h.now β) n 336 y.new
+        × Held (pos 0) (v β) (n / 2 + 176 - M h.now) (2 * M h.now) buffers.new.x × Held (pos 0) (w h.now β) (n / 2 + 160) 16 buffers.new.kept }
 {
     let m = 2 * (h.len() - 1);
     buffers.bring_v(tables, bytes, m, k);

@@ -1,4 +1,5 @@
--- Laws of `tabulate` and `total`: equal stretches, stretches joined, the element at a place; and of a list that is filled from a place on.
+-- Laws of `tabulate` and `total`: equal stretches, stretches joined, the element at a place; and of a list that is
+-- filled from a place on.
 use mathlib.Core.Path.{◌≡◌, refl, ap₂, sym, ◌∙◌}
 use mathlib.Core.List.{List, [], ◌∷◌, ◌++◌, append_assoc, append-nil}
 use mathlib.Core.Bool.{Bool, true, false, cond, not}

@@ -8,7 +8,7 @@ lesser x y = cond (lt_z y x) y x
 unfoldable pub greater : ℤ → ℤ → ℤ
 greater x y = cond (lt_z x y) y x
 
--- what is picked of `start`, f a, …, f (a + n - 1), one after the other: the least by `lesser`, the greatest by `greater`
+-- what is picked of `start`, f a, …, f (a + n - 1) in turn: the least by `lesser`, the greatest by `greater`
 unfoldable pub picked : (ℤ → ℤ → ℤ) → ℤ → (ℕ → ℤ) → ℕ → ℕ → ℤ
 picked pick start f a zero = start
 picked pick start f a (suc n) = pick (picked pick start f a n) (f (a + n))

@@ -124,7 +124,8 @@ three_bytes x k v room =
     at : (b : ℕ) → b < 3 → get_or (set z (3 * k + 2) (third v 2)) (3 * k + b) 0 ≡ third v b
     at zero l =
         let e : 3 * k + 0 ≡ 3 * k = omega arith in
-        rw e (get_or-set_other z (3 * k + 2) (3 * k) (third v 2) 0 (omega arith) ∙ get_or-set_other y (3 * k + 1) (3 * k) (third v 1) 0 (omega arith) ∙ get_or-set_same x (3 * k) (third v 0) 0 (omega arith))
+        rw e (get_or-set_other z (3 * k + 2) (3 * k) (third v 2) 0 (omega arith)
+        ∙ get_or-set_other y (3 * k + 1) (3 * k) (third v 1) 0 (omega arith) ∙ get_or-set_same x (3 * k) (third v 0) 0 (omega arith))
     at (suc zero) l = get_or-set_other z (3 * k + 2) (3 * k + 1) (third v 2) 0 (omega arith) ∙ get_or-set_same y (3 * k + 1) (third v 1) 0 (simp length-set (omega arith))
     at (suc (suc zero)) l = get_or-set_same z (3 * k + 2) (third v 2) 0 (simp length-set (omega arith))
     at (suc (suc (suc b))) l = absurd (omega arith)

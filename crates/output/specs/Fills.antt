@@ -1,4 +1,5 @@
--- What a function that fills a part of a list says of it. Each place has a row and a column; the part is a box of rows and columns.
+-- What a function that fills a part of a list says of it. Each place has a row and a column; the part is a box of rows
+-- and columns.
 use Rattle.std.specs.Prelude.{◌≡◌, List, ℕ, ◌+◌, ◌*◌, ◌/◌, ◌%◌, ◌^◌, ◌≤◌, ◌<◌, ℤ, pos, length, get_or}
 use Rattle.numbers.specs.Lists.{tabulate}
 use Rattle.reference.specs.Output.{low24}
@@ -11,7 +12,8 @@ pub record Fills {A : Type 0} (d : A) (D : ℕ → A) (row col : ℕ → ℕ) (l
 
 -- ---- the forms of an output
 
--- how samples stand in a list: each takes so many places, one for each of its parts; and what a place past the list is read as
+-- how samples stand in a list: each takes so many places, one for each of its parts; and what a place past the list is
+-- read as
 pub record Layout (A : Type 0) : Type 0 where
   pub width : ℕ
   pub part : ℤ → ℕ → A
@@ -35,7 +37,8 @@ module _ {A : Type 0} (o : Layout A) where
     pub here : (b : ℕ) → b < o.width → get_or new (o.width * k + b) o.past ≡ o.part z b
     pub others : (j : ℕ) → (j / o.width ≡ k → ⊥) → get_or new j o.past ≡ get_or old j o.past
 
-  -- place j is part j % width of item j / width; item i is sample i / ch of channel i % ch; S c n is sample n of channel c
+  -- place j is part j % width of item j / width; item i is sample i / ch of channel i % ch; S c n is sample n of
+  -- channel c
   abbrev pub place_of : ℕ → (ℕ → ℕ → ℤ) → ℕ → A
   place_of ch S j = o.part (S (j / o.width % ch) (j / o.width / ch)) (j % o.width)
 

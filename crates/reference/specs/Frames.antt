@@ -56,7 +56,7 @@ after_frame channels r = neighbour channels r.has_after r.after
 unfoldable pub sequence : ℕ → Run → List ℕ
 sequence channels r = before_frame channels r ++ (r.frames ++ after_frame channels r)
 
--- the byte of channel c at position p. Positions count from the first byte of the frame before the run, so that they are natural
--- numbers: p here is p - 4,704 in document 01. No sample of a run reads a position before that frame (`no-earlier-byte`, proofs/Frames)
+-- the byte of channel c at position p, counted from the first byte of the frame before the run: p is p - 4,704 in
+-- document 01. No sample of a run reads an earlier one (`no_earlier_byte`, proofs/Frames)
 unfoldable pub channel_byte : ℕ → List ℕ → ℕ → ℕ → ℕ
 channel_byte channels bytes c p = get_or bytes (p * channels + c) idle

@@ -214,7 +214,8 @@ pub struct Extremes {
     pub highest: i64,
 }
 
-// What a stretch of a channel's samples tells beside them: how many the clamp changed, and the extremes before it, where there are samples.
+// What a stretch of a channel's samples tells beside them: how many the clamp changed, and the extremes before it,
+// where there are samples.
 #[derive(Clone, Copy)]
 pub struct ChannelStats {
     pub clipped: u64,

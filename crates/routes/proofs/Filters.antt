@@ -1,4 +1,5 @@
--- What the filters of `filters` give over the first e places of an array that holds a signal; the taps of a filter in halves; and the values between those of w.
+-- What the filters of `filters` give over the first e places of an array that holds a signal; the taps of a filter in
+-- halves; and the values between those of w.
 use mathlib.Core.Path.{◌≡◌, refl, ◌∙◌, ap}
 use mathlib.Core.List.{List}
 use Prim.Native.Nat.{ℕ, ◌+◌, ◌-◌, ◌*◌, ◌/◌, ◌%◌, ◌^◌, ◌≤◌, ◌<◌}

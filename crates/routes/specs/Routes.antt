@@ -1,4 +1,5 @@
--- A route: the filters of a rate and a cutoff, the y that they give, and what the kernel's arrays hold between two blocks of a channel.
+-- A route: the filters of a rate and a cutoff, the y that they give, and what the kernel's arrays hold between two
+-- blocks of a channel.
 use Rattle.std.specs.Prelude.{◌≡◌, List, ◌++◌, Bool, true, false, ℕ, ◌+◌, ◌-◌, ◌*◌, ◌/◌, ◌%◌, ◌≤◌, ◌<◌, ℤ, pos, length}
 use Rattle.numbers.specs.Lists.{Held}
 use Rattle.reference.specs.Taps.{S1, S1_WIDE, F40, F30, F80}
@@ -120,7 +121,8 @@ block_length Hz176400 Low = 168
 block_length Hz176400 Wide = 84
 block_length Hz352800 cutoff = 336
 
--- the values that a block brings. At 352,800 the first block of a frame brings, for Standard and Low, also those of the 16 values of w before its own
+-- the values that a block brings. At 352,800 the first block of a frame brings, for Standard and Low, also those of the
+-- 16 values of w before its own
 unfoldable pub fresh : PcmRate → Cutoff → Bool → ℕ
 fresh Hz88200 cutoff first = 168
 fresh Hz176400 cutoff first = 168
@@ -130,7 +132,8 @@ fresh Hz352800 Low true = 184
 fresh Hz352800 Low false = 168
 fresh Hz352800 Wide first = 336
 
--- the margin of the block at sample n, for a last filter of m + 1 taps, is 2m values from this one on: those that the block's values follow
+-- the margin of the block at sample n, for a last filter of m + 1 taps, is 2m values from this one on: those that the
+-- block's values follow
 unfoldable pub margin_from : PcmRate → Cutoff → ℕ → Bool → ℕ → ℕ
 margin_from Hz88200 cutoff m first n = 2 * n - m
 margin_from Hz176400 Standard m first n = n - m
@@ -152,7 +155,8 @@ Kept Hz352800 Low F true β n l = n % 2 ≡ 0
 Kept Hz352800 Low F false β n l = (n % 2 ≡ 0) × Held (pos 0) (w F β) (n / 2 - 8) 16 l
 Kept Hz352800 Wide F first β n l = Unit {0}
 
--- the arrays before the block that starts at sample n, counted from the frame before the run; `first` tells a frame's first block
+-- the arrays before the block that starts at sample n, counted from the frame before the run; `first` tells a frame's
+-- first block
 pub record State (rate : PcmRate) (cutoff : Cutoff) (F : List ℤ) (first : Bool) (β : ℕ → ℕ) (n : ℕ) (x kept : List ℤ) : Type 0 where
   pub margin : Held (pos 0) (filter_input cutoff β) (margin_from rate cutoff (M F) first n) (2 * M F) x
   pub w_kept : Kept rate cutoff F first β n kept

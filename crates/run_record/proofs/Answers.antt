@@ -96,7 +96,8 @@ module _ (whose : Limit) (conv : Converter) (r : Run) (out counts : List ℕ) wh
           per_frame = k ∙ sym (exit_accepted (decide places) (if_lent lent (per_frame_clips conv r) counts) counts (sym ok));
         }
 
-  pub lent_promise : (told : ConvertStats) → told ≡ stats conv r → accepted ≡ decide (convert_places whose conv r out true counts) → (out' counts' : List ℕ) → out' ≡ written byte_layout (samples conv r)
+  pub lent_promise : (told : ConvertStats) → told ≡ stats conv r → accepted
+      ≡ decide (convert_places whose conv r out true counts) → (out' counts' : List ℕ) → out' ≡ written byte_layout (samples conv r)
       → length counts ≡ frame_count conv.channels r.frames → counts' ≡ tabulate (frame_clips conv r) 0 (length counts) → BytesPromise whose conv r true out counts out' counts' (Ok told)
   unfolding if_lent per_frame_clips
   lent_promise told is_stats ok out' counts' w l k = bytes_promise true told is_stats ok out' counts' (w ∙ written_bytes (samples conv r)) (k ∙ ap (λ n. tabulate (frame_clips conv r) 0 n) l)

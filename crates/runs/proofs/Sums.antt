@@ -17,7 +17,8 @@ use Rattle.numbers.specs.Lists.{total, count, tabulate}
 use Rattle.numbers.proofs.Lists.{get_d_any, below_or, is_tabulate}
 use Rattle.reference.specs.Frames.{Run}
 use Rattle.reference.specs.Statistics.{extremes_of, no_samples, joined_channel}
-use Rattle.reference.specs.Output.{samples_per_frame, unclamped, sample, clipped, item, channel_samples, all_samples as run_all, samples, channel_clips, channel_extremes, channel_stats, stats, frame_clips}
+use Rattle.reference.specs.Output.{samples_per_frame, unclamped, sample, clipped, item, channel_samples, all_samples as run_all}
+use Rattle.reference.specs.Output.{samples, channel_clips, channel_extremes, channel_stats, stats, frame_clips}
 use Rattle.reference.specs.declared.Converter.{Converter}
 use Rattle.reference.specs.declared.ConvertStats.{ConvertStats}
 use Rattle.reference.specs.declared.ChannelStats.{ChannelStats}
@@ -50,7 +51,8 @@ module _ (conv : Converter) (r : Run) where
   unfolding channel_tally channel_stats channel_clips channel_extremes clipped tally no_samples
   tally_is n c e = go (ltb c conv.channels)
     where
-      go : (b : Bool) → cond b (tally (unclamped conv r c) 0 n) no_samples ≡ record { clipped = cond b (count (clipped conv r c) 0 (channel_samples conv r)) 0; extremes = cond b (extremes_of (unclamped conv r c) 0 (channel_samples conv r)) None }
+      go : (b : Bool) → cond b (tally (unclamped conv r c) 0 n) no_samples
+          ≡ record { clipped = cond b (count (clipped conv r c) 0 (channel_samples conv r)) 0; extremes = cond b (extremes_of (unclamped conv r c) 0 (channel_samples conv r)) None }
       go true = rw e refl
       go false = refl
 
@@ -97,7 +99,8 @@ module _ {conv : Converter} {r : Run} where
         whole : both ≡ channel_tally conv r (n + m) c
         whole =
             let z : 0 + n ≡ n = omega arith in
-            j ∙ rw (get_d_any l c d no_samples (omega (arith, f.six)), sum_so_far, g) (ap (λ (k : ℕ). joined_channel (tally (unclamped conv r c) 0 n) (tally (unclamped conv r c) k m)) (sym z) ∙ tally_join (unclamped conv r c) 0 n m s)
+            j ∙ rw (get_d_any l c d no_samples (omega (arith, f.six)), sum_so_far, g)
+            (ap (λ (k : ℕ). joined_channel (tally (unclamped conv r c) 0 n) (tally (unclamped conv r c) k m)) (sym z) ∙ tally_join (unclamped conv r c) 0 n m s)
             ∙ sym (tally_in conv r (n + m) c h)
 
   -- all the channels: the tallies of n + m samples

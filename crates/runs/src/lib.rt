@@ -11,8 +11,8 @@ use blocks::Job;
 use output::Place;
 use reference::ConvertStats;
 
-// The frame whose first sample is n. What its samples tell is joined to the statistics; its clips over all channels come
-// back.
+// The frame whose first sample is n. What its samples tell is joined to the statistics; its clips over all channels
+// come back.
 fn frame<'a, P: Place>(job: &Job<'a>, n: usize, out: &mut [P], stats: &mut ConvertStats) -> u64
     requires place { (n + in_frame job.now ≤ in_run job.now) × (n % 2 ≡ 0) }
     requires room { Room P.layout (in_run job.now * job.now.conv.channels) out.old }

@@ -95,7 +95,8 @@ around {n = n} rule byte long e o at_even at_odd β i l held =
     }
 
 -- the bytes are of some signal
-pub some_signal : {even odd : List ℤ} {bytes : List ℕ} {n : ℕ} → ((β : ℕ → ℕ) (i : ℕ) → 10 ≤ i → Held 0 β (2 * i - 19) (length bytes) bytes → Around β i n even odd) → Around (λ k. get_or bytes (k - 1) 0) 10 n even odd
+pub some_signal : {even odd : List ℤ} {bytes : List ℕ} {n : ℕ}
+    → ((β : ℕ → ℕ) (i : ℕ) → 10 ≤ i → Held 0 β (2 * i - 19) (length bytes) bytes → Around β i n even odd) → Around (λ k. get_or bytes (k - 1) 0) 10 n even odd
 some_signal {bytes = bytes} at = at (λ k. get_or bytes (k - 1) 0) 10 (lit≤ tt) (any_bytes bytes 1 (length bytes))
 
 -- values of v are below 2^27
@@ -103,7 +104,8 @@ pub v_small : (β : ℕ → ℕ) (i : ℕ) {n : ℕ} {l : List ℤ} → length l
 v_small β i e h = held_small h e (λ k. omega (arith, v_size β k))
 
 -- ---- Wide: the sums of every window are u
-module _ {tables new : List ℤ} {n : ℕ} (bytes : List ℕ) (rule : ByteTables S1_WIDE 12 tables) (byte : (i : ℕ) → get_or bytes i 0 < 256) (room : n + 11 ≤ length bytes) (sums : Held (pos 0) (λ k. window_sum tables 6 bytes (0 + 1 * k)) 0 n new) where
+module _ {tables new : List ℤ} {n : ℕ} (bytes : List ℕ) (rule : ByteTables S1_WIDE 12 tables) (byte : (i : ℕ) → get_or bytes i 0 < 256)
+    (room : n + 11 ≤ length bytes) (sums : Held (pos 0) (λ k. window_sum tables 6 bytes (0 + 1 * k)) 0 n new) where
   pub wide_held : (β : ℕ → ℕ) (base i : ℕ) → base + 6 ≡ i → Held 0 β base (length bytes) bytes → Held (pos 0) (u S1_WIDE β) i n new
   wide_held β base i e held = held_moved (first_held 6 S1_WIDE_length (lit< tt) rule byte held 0 1 n new (omega arith) sums) (λ k m. ap (u S1_WIDE β) (omega arith))
 

@@ -37,5 +37,6 @@ unfolding FirstTables
 narrow_tables cutoff tables is t = elim is [ inl e ↦ rw e t | inr e ↦ rw e t ]
 
 -- the tables and the taps that are bound are the route's
-pub made_ready : {conv : Converter} {n : ℕ} {b f a : List ℕ} {tables taps : List ℤ} → Accepted conv n b f a → FirstTables conv.cutoff tables → taps ≡ lent_taps conv.rate conv.cutoff (last_of conv) → Ready conv n b f a tables taps
+pub made_ready : {conv : Converter} {n : ℕ} {b f a : List ℕ} {tables taps : List ℤ} → Accepted conv n b f a
+    → FirstTables conv.cutoff tables → taps ≡ lent_taps conv.rate conv.cutoff (last_of conv) → Ready conv n b f a tables taps
 made_ready x t e = record { slices = x.slices; first = t; last = record { last = x.last; lent = e }; factor = x.factor }

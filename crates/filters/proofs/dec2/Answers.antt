@@ -35,7 +35,8 @@ all-requires c =
     let e : to_z w64 (of_z w64 (at0 he 0)) ≡ tap he 0 = search rules in
     let even : Raised (length (seconds f x)) (seconds f x) c.raise_second.new.v = rw (length_seconds f x) c.raise_second.ensures in
     let odd : Raised (length (seconds g x)) (seconds g x) c.raise_second-2.new.v = rw (length_seconds g x) c.raise_second-2.ensures in
-    let sums = half_sums he ho (seconds f x) (seconds g x) _ _ (omega (arith, length_seconds f x)) (omega (arith, length_seconds g x)) even odd c.requires.phases (rw e at c.centre.ensures) c.add.ensures c.add-2.ensures in
+    let sums = half_sums he ho (seconds f x) (seconds g x) _ _ (omega (arith, length_seconds f x))
+    (omega (arith, length_seconds g x)) even odd c.requires.phases (rw e at c.centre.ensures) c.add.ensures c.add-2.ensures in
     (omega arith, omega arith, filled_sums (half_rate he ho (seconds f x) (seconds g x)) sums _ (omega (arith, sums.same)) c.requires.fit)
 
 pub returns-clause-filled : goal.returns-clause-filled
@@ -48,5 +49,6 @@ returns-clause-filled c =
     let e : to_z w64 (of_z w64 (at0 he 0)) ≡ tap he 0 = search rules in
     let even : Raised (length (seconds f x)) (seconds f x) c.raise_second.new.v = rw (length_seconds f x) c.raise_second.ensures in
     let odd : Raised (length (seconds g x)) (seconds g x) c.raise_second-2.new.v = rw (length_seconds g x) c.raise_second-2.ensures in
-    let sums = half_sums he ho (seconds f x) (seconds g x) _ _ (omega (arith, length_seconds f x)) (omega (arith, length_seconds g x)) even odd c.requires.phases (rw e at c.centre.ensures) c.add.ensures c.add-2.ensures in
+    let sums = half_sums he ho (seconds f x) (seconds g x) _ _ (omega (arith, length_seconds f x))
+    (omega (arith, length_seconds g x)) even odd c.requires.phases (rw e at c.centre.ensures) c.add.ensures c.add-2.ensures in
     filled_round (half_rate he ho (seconds f x) (seconds g x)) sums 24 c.all.ensures

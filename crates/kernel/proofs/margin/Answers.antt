@@ -23,7 +23,8 @@ pub returns-in-Standard : goal.returns-in-Standard
 unfolding filter_input stride around first_byte
 returns-in-Standard c =
     let n = c.args.n in
-    let values : Margined Standard n c.args.bytes.now c.bring_v.new.self.x = λ β i l bytes. held_some n (omega arith) (c.bring_v.ensures.held β i (omega arith) (held_at _ (omega arith) (front_held bytes (2 * n + 36) (omega arith))) held_none) in
+    let values : Margined Standard n c.args.bytes.now c.bring_v.new.self.x =
+    λ β i l bytes. held_some n (omega arith) (c.bring_v.ensures.held β i (omega arith) (held_at _ (omega arith) (front_held bytes (2 * n + 36) (omega arith))) held_none) in
     record { kept = c.bring_v.ensures.kept; held = ⊎_elim (λ e. rw e values) (λ e. rw e values) c.in-Standard.is }
 
 pub returns-in-Wide-clause-held : goal.returns-in-Wide-clause-held

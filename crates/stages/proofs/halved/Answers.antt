@@ -32,4 +32,5 @@ pub returns-clause-filled : goal.returns-clause-filled
 returns-clause-filled c =
     λ F halved.
     let long = halves_length F halved in
-    filled_as c.dec2.ensures.filled (λ i m. ap (λ (z : ℤ). R z 24) (sum_is F c.args.x.now (even_half F halved) (odd_half F halved) i (omega (arith, c.requires, long)) (omega (arith, c.requires, long))))
+    filled_as c.dec2.ensures.filled
+    (λ i m. ap (λ (z : ℤ). R z 24) (sum_is F c.args.x.now (even_half F halved) (odd_half F halved) i (omega (arith, c.requires, long)) (omega (arith, c.requires, long))))

@@ -52,7 +52,13 @@ ends job b spf m n l e f h =
 pub gather-at-requires-in-loop-b : goal.gather-at-requires-in-loop-b
 gather-at-requires-in-loop-b g c =
     let job = c.args.self.now in
-    let near = staged_near (ready_of job) _ (c.args.n + c.loop-b.b * c.block_length-m.result) c.loop-b.invariant.staged (omega (arith, ends job c.loop-b.b c.samples_per_frame-spf.result c.block_length-m.result c.args.n c.loop-b-test.true c.samples_per_frame-spf.ensures.0 c.block_length-m.ensures.0 c.requires.place.1, frame_samples job.conv.rate)) in
+    let near = staged_near (ready_of job) _ (c.args.n + c.loop-b.b * c.block_length-m.result) c.loop-b.invariant.staged
+    (omega (
+      arith,
+      ends job c.loop-b.b c.samples_per_frame-spf.result c.block_length-m.result c.args.n c.loop-b-test.true
+          c.samples_per_frame-spf.ensures.0 c.block_length-m.ensures.0 c.requires.place.1,
+      frame_samples job.conv.rate,
+    )) in
     (c.requires.place.0, near, c.fresh-new.ensures.1, omega (arith, block_fits job.conv.rate job.conv.cutoff (eqb c.loop-b.b 0), ap (λ z. stride job.conv.cutoff * z) c.fresh-new.ensures.0))
 
 pub write-more-requires-clause-held : goal.write-more-requires-clause-held
