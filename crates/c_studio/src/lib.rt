@@ -93,7 +93,7 @@ pub fn overs(samples: &[i32], channels: usize, channel: usize, told: &mut [u64; 
 }
 
 // Finishing turn and lateness of each album.
-#[tactic(auto, using(codes::proofs::Calls::turned_away, codes::proofs::Calls::done_so, codes::proofs::Calls::not_left, codes::proofs::Calls::not_right, codes::proofs::Calls::both_hold, crate::proofs::Done::turns_done))]
+#[tactic(auto, using(codes::proofs::Calls::turned_away, codes::proofs::Calls::not_left, codes::proofs::Calls::not_right))]
 pub fn turns(frames: &[u64], dues: &[u64], turn: u64, finishes: &mut [u64], late: &mut [i32]) -> u8
     ensures { TurnsCall frames.now dues.now turn finishes.old late.old finishes.new late.new result }
 {
