@@ -12,10 +12,10 @@ use Rattle.numbers.proofs.Lists.{length_tabulate, get_d_tabulate}
 use Rattle.numbers.proofs.Integers.{abs_add}
 use Rattle.reference.specs.Rounding.{R}
 use Rattle.reference.specs.Taps.{HB}
-use Rattle.lanes.specs.Lanes.{Filled, raised, arms, Lanes, Added, Written}
-use Rattle.filters.specs.Filters.{alone, odd_taps, half_rate, middle, Fit}
-use Rattle.filters.specs.Lifts.{lifted, rounded, Sums, Raised}
-use Rattle.band.specs.Bands.{band_sum, Hold, Whole}
+use Rattle.lanes.specs.inner.Lanes.{Filled, raised, arms, Lanes, Added, Written}
+use Rattle.filters.specs.inner.Filters.{alone, odd_taps, half_rate, middle, Fit}
+use Rattle.filters.specs.inner.Lifts.{lifted, rounded, Sums, Raised}
+use Rattle.band.specs.inner.Bands.{band_sum, Hold, Whole}
 use Rattle.lanes.proofs.Pairs.{product_size}
 use Rattle.lanes.proofs.Places.{written_then}
 use Rattle.filters.proofs.Places.{filled_as}

@@ -5,10 +5,10 @@ ghost use Rattle.std.specs.Prelude.{◌≡◌, ℕ, ◌+◌, ◌-◌, ◌*◌, �
 ghost use Rattle.numbers.specs.Sums.{at0};
 ghost use Rattle.reference.specs.Rounding.{R};
 ghost use Rattle.reference.specs.Taps.{HB};
-ghost use Rattle.lanes.specs.Lanes.{Small, Filled, raised, arms, Low, Lanes, Added, Written};
-ghost use Rattle.filters.specs.Filters.{odd_taps, alone, half_rate, middle, Fit};
-ghost use Rattle.band.specs.Bands.{odd_sizes, signed, band_sum, Hold, Whole};
-ghost use Rattle.filters.specs.Lifts.{lifted, rounded, Sums};
+ghost use Rattle.lanes.specs.inner.Lanes.{Small, Filled, raised, arms, Low, Lanes, Added, Written};
+ghost use Rattle.filters.specs.inner.Filters.{odd_taps, alone, half_rate, middle, Fit};
+ghost use Rattle.band.specs.inner.Bands.{odd_sizes, signed, band_sum, Hold, Whole};
+ghost use Rattle.filters.specs.inner.Lifts.{lifted, rounded, Sums};
 
 // The sizes of HB's odd taps, lent, and a copy of the odd places.
 #[derive(Clone, Copy)]
@@ -42,7 +42,7 @@ fn centre<const L: usize>(y: &[i64], i: usize) -> [i64; L]
 }
 
 // s + size * w or, by `minus`, s - size * w
-#[tactic(auto, using(crate::proofs::Turns::signed_product), unfolding(crate::specs::Bands::signed))]
+#[tactic(auto, using(crate::proofs::Turns::signed_product), unfolding(crate::specs::inner::Bands::signed))]
 fn tap(s: i64, minus: bool, size: u32, w: u64) -> i64
     requires { nat_abs s + size * w < 2 ^ 63 }
     ensures { result ≡ s +ℤ signed minus size *ℤ pos w }
@@ -52,7 +52,7 @@ fn tap(s: i64, minus: bool, size: u32, w: u64) -> i64
 }
 
 // A sum gains a tap of this size, or minus it, with two values of the copy.
-#[tactic(auto, unfolding(lanes::specs::Lanes::raised))]
+#[tactic(auto, unfolding(lanes::specs::inner::Lanes::raised))]
 fn pair(s: i64, minus: bool, size: u32, v: &[u64], i: usize, j: usize) -> i64
     requires i_in_bounds { (i < length v.now) × (j < length v.now) × (size ≤ 2 ^ 25) × (nat_abs s ≤ 126 * 2 ^ 56) }
     requires low { Low v.now }

@@ -14,7 +14,7 @@ use Rattle.reference.specs.declared.PcmRate.TheVariants.{Hz88200, Hz176400, Hz35
 use Rattle.reference.specs.declared.Cutoff.{Cutoff}
 use Rattle.reference.specs.declared.Cutoff.TheVariants.{Standard, Low, Wide}
 use Rattle.reference.proofs.Locality.{F40_last, F80_last}
-use Rattle.routes.specs.Routes.{LastFilter, lent_taps, RouteTaps, stride, around, first_byte, block_length, fresh, margin_from}
+use Rattle.routes.specs.inner.Routes.{LastFilter, lent_taps, RouteTaps, stride, around, first_byte, block_length, fresh, margin_from}
 use Rattle.routes.proofs.Filters.{halves_length}
 
 -- ---- blocks

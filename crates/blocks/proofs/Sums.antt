@@ -12,7 +12,7 @@ use lib.Seq.{get_or-take}
 use lib.IntN.{ℤ, pos, nat_abs}
 use lib.ListN.{length, take, length-take}
 use Rattle.numbers.specs.Sums.{at0}
-use Rattle.numbers.specs.Lists.{Held}
+use Rattle.numbers.specs.inner.Lists.{Held}
 use Rattle.reference.specs.Frames.{Run, frame_length, frame_count}
 use Rattle.reference.specs.Scaling.{scaled, clamp}
 use Rattle.reference.specs.Stages.{taps_of, M, y}
@@ -25,16 +25,16 @@ use Rattle.reference.specs.declared.Cutoff.TheVariants.{Standard, Low, Wide}
 use Rattle.reference.specs.declared.Converter.{Converter}
 use Rattle.reference.specs.declared.ChannelStats.{ChannelStats}
 use Rattle.reference.proofs.Frames.{frame_samples}
-use Rattle.channel_bytes.specs.Lent.{Lent, lent_run, byte_at}
-use Rattle.routes.specs.Routes.{last_of, y_of, stride, around, first_byte, block_length, fresh, margin_from, Kept, State}
+use Rattle.channel_bytes.specs.inner.Lent.{Lent, lent_run, byte_at}
+use Rattle.routes.specs.inner.Routes.{last_of, y_of, stride, around, first_byte, block_length, fresh, margin_from, Kept, State}
 use Rattle.routes.proofs.Routes.{a_frame, y_of_is, y_of_size}
 use Rattle.gain.specs.Tallies.{tally}
 use Rattle.gain.proofs.Tallies.{tally_none, tally_join, tally_same, tally_few}
-use Rattle.output.specs.Fills.{Layout, Drawn}
+use Rattle.output.specs.inner.Fills.{Layout, Drawn}
 use Rattle.output.proofs.Boxes.{no_rows, rows}
 use Rattle.kernel.proofs.Blocks.{Margined, Blocked}
 use Rattle.blocks.proofs.Places.{whole_blocks, few_taps, last_place, first_byte_more, margin_low, block_byte_near, block_byte_next}
-use Rattle.blocks.specs.Blocks.{Ready, Made}
+use Rattle.blocks.specs.inner.Blocks.{Ready, Made}
 use Rattle.blocks.specs.declared.job.Job.{Job}
 
 -- ---- numbers of a rate

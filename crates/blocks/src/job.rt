@@ -1,6 +1,6 @@
 // What a conversion goes by.
 ghost use Rattle.std.specs.Prelude.{◌≡◌, T};
-ghost use Rattle.routes.specs.Routes.{FirstTables, RouteTaps, last_of};
+ghost use Rattle.routes.specs.inner.Routes.{FirstTables, RouteTaps, last_of};
 ghost use Rattle.routes.proofs.Props.{first_prop, taps_prop};
 ghost use Rattle.gain.specs.Scale.{bounded};
 

@@ -3,12 +3,12 @@
 #![tactic(auto)]
 
 ghost use Rattle.std.specs.Prelude.{◌≡◌, ℕ, ◌+◌, ◌*◌, ◌%◌, ◌^◌, ◌≤◌, ◌<◌, ℤ, pos, length};
-ghost use Rattle.numbers.specs.Lists.{Held};
+ghost use Rattle.numbers.specs.inner.Lists.{Held};
 ghost use Rattle.reference.specs.Output.{samples_per_frame};
-ghost use Rattle.routes.specs.Routes.{stride, around, last_of, y_of};
-ghost use Rattle.output.specs.Fills.{Room};
-ghost use Rattle.blocks.specs.Blocks.{Made};
-ghost use Rattle.blocks.specs.Jobs.{job_run, job_bytes, in_frame, in_run};
+ghost use Rattle.routes.specs.inner.Routes.{stride, around, last_of, y_of};
+ghost use Rattle.output.specs.inner.Fills.{Room};
+ghost use Rattle.blocks.specs.inner.Blocks.{Made};
+ghost use Rattle.blocks.specs.inner.Jobs.{job_run, job_bytes, in_frame, in_run};
 
 use output::Place;
 use reference::ChannelStats;

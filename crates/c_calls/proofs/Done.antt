@@ -26,7 +26,7 @@ use Rattle.c_stats.specs.Stats.{stat_numbers}
 use Rattle.c_stats.specs.Conversions.{Results}
 use Rattle.c_stats.proofs.Conversions.{conversion_done}
 use Rattle.c_calls.specs.Calls.{GainCall, OpenDone, CWanted, change_of, new_converter, ChangeDone, samples_places, SamplesDone, bytes_places, bytes_written, BytesDone}
-use Rattle.c_calls.specs.Made.{BytesMade}
+use Rattle.c_calls.specs.inner.Made.{BytesMade}
 use Rattle.c_calls.specs.declared.conversions.ToSamples.{ToSamples}
 use Rattle.c_calls.specs.declared.conversions.ToBytes.{ToBytes}
 use Rattle.c_calls.specs.declared.conversions.ToBytes.TheVariants as bytes_of

@@ -2,10 +2,10 @@
 ghost use Rattle.std.specs.Prelude.{true, false, []};
 ghost use Rattle.reference.specs.Frames.{run_of};
 ghost use Rattle.reference.specs.Promises.{SamplesPromise};
-ghost use Rattle.c_converter.specs.Blocks.{as_converter, as_input};
+ghost use Rattle.c_converter.specs.inner.Blocks.{as_converter, as_input};
 ghost use Rattle.c_stats.specs.Conversions.{results};
 ghost use Rattle.c_calls.specs.Calls.{samples_places, SamplesCall, BytesCall};
-ghost use Rattle.c_calls.specs.Made.{BytesMade};
+ghost use Rattle.c_calls.specs.inner.Made.{BytesMade};
 
 use c_converter::{Blocks, Input};
 use c_stats::tell_conversion;

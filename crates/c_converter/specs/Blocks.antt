@@ -10,8 +10,6 @@ use Rattle.reference.specs.declared.Gain.{Gain}
 use Rattle.reference.specs.declared.Settings.{Settings}
 use Rattle.reference.specs.declared.Converter.{Converter}
 use Rattle.codes.specs.Codes.{rate_of, known_rate, cutoff_of, known_cutoff, known_channels, known_flag, flag}
-use Rattle.c_converter.specs.declared.Blocks.{Blocks}
-use Rattle.c_converter.specs.declared.Input as code
 
 -- ---- what is read
 
@@ -25,10 +23,6 @@ pub record CConverter : Type 0 where
 
 abbrev pub converter_lists : List ℕ → List Float → List ℤ → CConverter
 converter_lists n g t = record { numbers = n; gain = g; taps = t }
-
--- as the code has it
-abbrev pub as_converter : Blocks → CConverter
-as_converter b = converter_lists b.numbers.now b.gain.now b.taps.now
 
 abbrev pub item : List ℕ → ℕ → ℕ
 item n k = get_or n k 0
@@ -97,7 +91,3 @@ there_counts n = flag (n / 4)
 
 abbrev pub input_run : Input → Run
 input_run i = run (flag (i.presence % 2)) i.before i.frames (flag (i.presence / 2 % 2)) i.after
-
--- as the code has it
-abbrev pub as_input : code.Input → Input
-as_input i = input i.presence i.before.now i.frames.now i.after.now

@@ -6,10 +6,11 @@ ghost use Rattle.std.specs.Prelude.{◌≡◌};
 ghost use Rattle.reference.specs.Frames as frames;
 ghost use Rattle.reference.specs.Refusals.{decision};
 ghost use Rattle.reference.specs.Promises.{by_decision};
-ghost use Rattle.codes.specs.Codes.{if_known};
+ghost use Rattle.codes.specs.inner.Codes.{if_known};
 ghost use Rattle.codes.specs.Told.{if_ok, ToldDecibels, ToldWhole};
 ghost use Rattle.c_converter.specs.Blocks as blocks;
-ghost use Rattle.c_converter.specs.Blocks.{as_converter, as_input, known_numbers, settings_of, held_converter, with_stored, with_changed, gain_floats};
+ghost use Rattle.c_converter.specs.Blocks.{known_numbers, settings_of, held_converter, with_stored, with_changed, gain_floats};
+ghost use Rattle.c_converter.specs.inner.Blocks.{as_converter, as_input};
 
 use codes::{channels_of, cutoff_of, flag_of, rate_of, tell, tell_decibels};
 use reference::{Converter, Filter, Gain, PcmError, Run, Settings};

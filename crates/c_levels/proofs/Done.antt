@@ -13,7 +13,8 @@ use Rattle.reference.proofs.Promises.{exit_accepted, exit_refused}
 use Rattle.reference.proofs.Refusals.{error_refuses}
 use Rattle.text.specs.Text.{with_text}
 use Rattle.overs.specs.Overs.{Progress}
-use Rattle.levels.specs.Levels.{piece_lines, piece_states, told_length, told_clips, told_states, FrameReported}
+use Rattle.levels.specs.Levels.{piece_lines, piece_states}
+use Rattle.levels.specs.inner.Levels.{told_length, told_clips, told_states, FrameReported}
 use Rattle.levels.specs.declared.Reported.{Reported}
 use Rattle.codes.specs.Told.{if_ok, ToldWhole}
 use Rattle.codes.proofs.Calls.{both_hold, not_left, not_right}

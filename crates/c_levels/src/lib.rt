@@ -4,9 +4,9 @@
 
 ghost use Rattle.std.specs.Prelude.{◌≡◌, [], ◌∷◌, ◌<◌, slice_index_or};
 ghost use Rattle.reference.specs.Refusals.{decision};
-ghost use Rattle.codes.specs.Codes.{if_known};
+ghost use Rattle.codes.specs.inner.Codes.{if_known};
 ghost use Rattle.codes.specs.Told.{if_ok, ToldWhole};
-ghost use Rattle.c_converter.specs.Blocks.{as_converter, as_input};
+ghost use Rattle.c_converter.specs.inner.Blocks.{as_converter, as_input};
 ghost use Rattle.c_levels.specs.Standings.{known_standings, held_standings, standing_number, standing_numbers};
 ghost use Rattle.c_levels.specs.Calls.{lent, LevelsCall, LastLineCall};
 
@@ -27,7 +27,7 @@ fn known(standings: &[u64; 12]) -> bool
 }
 
 // What is in progress in each channel, if every end is known.
-#[tactic(auto, unfolding(codes::specs::Codes::if_known, crate::specs::Standings::held_standings))]
+#[tactic(auto, unfolding(codes::specs::inner::Codes::if_known, crate::specs::Standings::held_standings))]
 fn states_of(standings: &[u64; 12]) -> Option<[Progress; 6]>
     ensures { result ≡ if_known (known_standings standings.now) (held_standings standings.now) }
 {

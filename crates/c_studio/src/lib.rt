@@ -3,7 +3,7 @@
 #![tactic(auto)]
 
 ghost use Rattle.std.specs.Prelude.{◌≡◌};
-ghost use Rattle.codes.specs.Codes.{if_known};
+ghost use Rattle.codes.specs.inner.Codes.{if_known};
 ghost use Rattle.c_studio.specs.Progress as numbers;
 ghost use Rattle.c_studio.specs.Calls.{JoinCall, SheetCall, OversCall, TurnsCall};
 
@@ -52,7 +52,7 @@ pub fn progress(end: u64, length: u64) -> Progress
 }
 
 // The same, if its end is known.
-#[tactic(auto, unfolding(codes::specs::Codes::if_known))]
+#[tactic(auto, unfolding(codes::specs::inner::Codes::if_known))]
 fn in_progress(end: u64, length: u64) -> Option<Progress>
     ensures { result ≡ if_known (numbers.known_end end) (numbers.progress_of end «length») }
 {

@@ -1,9 +1,9 @@
 -- What is known.
 use Rattle.std.proofs.Common.{◌≡◌, Option, None, Bool, true, false, ◌&&◌, List, ℕ, length, leb, refl}
 use borrow.Author.Tests.{leb-true, eqb-true}
-use Rattle.codes.specs.Codes.{if_known}
+use Rattle.codes.specs.inner.Codes.{if_known}
 use Rattle.reference.proofs.Refusals.{and_left, and_right}
-use Rattle.tracks_open.specs.Open.{TracksArgs}
+use Rattle.tracks_open.specs.inner.Open.{TracksArgs}
 use Rattle.c_tracks.specs.Asked.{Asked, lists_match, asked_known}
 
 pub unfit : {A : Type 0} (a b : Bool) (x : A) → a ≡ false → None ≡ if_known (a && b) x

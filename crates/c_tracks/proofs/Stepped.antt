@@ -19,7 +19,7 @@ use Rattle.tracks_open.specs.declared.Album.{Album}
 use Rattle.tracks_open.specs.declared.Refused.{Refused}
 use Rattle.tracks_step.specs.Promises.{frames_places, step_places, piece_run, FramesPromise, StepPromise}
 use Rattle.c_tracks.specs.Steps.{FramesDone, Lists, StepDone}
-use Rattle.c_tracks.specs.Told.{reason}
+use Rattle.c_tracks.specs.inner.Told.{reason}
 
 reason_decides : {A : Type 0} (o : Result A Refused) → decision (reason o) ≡ albums.tracks_decision o
 reason_decides (Ok a) = refl

@@ -1,9 +1,8 @@
 -- What a call about an album of tracks is given.
 use Rattle.std.specs.Prelude.{List, Bool, ◌&&◌, ℕ, ◌*◌, eqb, leb, length}
 use Rattle.reference.specs.declared.Settings.{Settings}
-use Rattle.c_converter.specs.Blocks.{CConverter, converter_lists, known_numbers, settings_of}
+use Rattle.c_converter.specs.Blocks.{CConverter, known_numbers, settings_of}
 use Rattle.tracks.specs.Tracks.{Head, heads_of}
-use Rattle.c_tracks.specs.declared.asked.Asked as code
 
 -- settings as a converter's record has them, the first 92 bytes of each file end to end, and the files' lengths
 pub record Asked : Type 0 where
@@ -13,10 +12,6 @@ pub record Asked : Type 0 where
 
 abbrev pub asked : CConverter → List ℕ → List ℕ → Asked
 asked b h l = record { converter = b; heads = h; lengths = l }
-
--- as the code has it
-abbrev pub as_asked : code.Asked → Asked
-as_asked a = asked (converter_lists a.numbers.now a.gain.now a.taps.now) a.tracks.heads.now a.tracks.lengths.now
 
 -- 1 to 99 tracks
 abbrev pub lists_match : List ℕ → List ℕ → Bool

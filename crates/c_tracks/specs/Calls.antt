@@ -1,6 +1,6 @@
 -- What each call about an album of tracks promises: its answer, and what every lent list holds when it returns. A
 -- primed list is one at exit.
-use Rattle.std.specs.Prelude.{◌≡◌, Option, Some, None, Result, Ok, Err, List, [], ◌∷◌, cond, ◌&&◌, ℕ, ◌+◌, ◌-◌, ◌*◌, eqb, length, replicate, Float}
+use Rattle.std.specs.Prelude.{◌≡◌, Option, Some, None, List, [], ◌∷◌, cond, ◌&&◌, ℕ, ◌+◌, ◌-◌, ◌*◌, eqb, length, replicate, Float}
 use Rattle.numbers.specs.Lists.{tabulate}
 use Rattle.reference.specs.Frames.{frame_bytes}
 use Rattle.reference.specs.Refusals.{Decision, decide, refusal_number}
@@ -11,12 +11,10 @@ use Rattle.codes.specs.Calls.{CCall}
 use Rattle.codes.specs.Told.{ToldWhole}
 use Rattle.album_parts.specs.Parts as parts
 use Rattle.album_parts.specs.declared.Part.{Part}
-use Rattle.tracks.specs.Tracks.{Head, tracks_channels, tracks_frames, open_places, refused_track, data_start, heads_of}
+use Rattle.tracks.specs.Tracks.{Head, tracks_channels, open_places, refused_track, data_start}
 use Rattle.tracks.specs.Windows.{low, high, windows_length}
-use Rattle.tracks_open.specs.Open.{album_of, AlbumFits}
+use Rattle.tracks_open.specs.Open.{album_of}
 use Rattle.tracks_open.specs.declared.Album.{Album}
-use Rattle.tracks_open.specs.declared.Refused.{Refused}
-use Rattle.tracks_plan.specs.Asked.{SizedTracks}
 use Rattle.tracks_plan.specs.Plan.{piece_at}
 use Rattle.tracks_plan.specs.Reads.{reads}
 use Rattle.tracks_plan.specs.Writes.{writes}
@@ -40,11 +38,6 @@ outputs a m t d f = record { album = a; marks = m; track = t; «data» = d; deci
 -- where the tracks' bytes begin in the album's data, and where the last's end
 abbrev pub all_marks : PcmRate → ℕ → List Head → List ℕ
 all_marks rate n hs = tabulate (data_start rate n hs) 0 (length hs + 1)
-
--- of an answer
-abbrev pub marks_after : Result Album Refused → Settings → List Head → List ℕ → List ℕ
-marks_after (Ok a) s hs old = all_marks s.rate a.channels hs
-marks_after (Err e) s hs old = old
 
 -- d is what it decides
 pub record OpenAlbumDone (d : Decision) (hs : List Head) (s : Settings) (old new : Outputs) (answer : ℕ) : Type 0 where
@@ -101,11 +94,3 @@ PieceCall a i plan plan' asked asked' answer =
 -- three numbers are lent for each file between two marks
 abbrev pub WritesCall : List ℕ → ℕ → ℕ → List ℕ → List ℕ → Type 0
 WritesCall marks place bytes out out' = out' ≡ cond (eqb (length out) (3 * (length marks - 1))) (writes marks place bytes) out
-
--- ---- what the code asks for; no part of a promise
-
-pub record PlanArgs (bytes lengths : List ℕ) (a : Album) (room : ℕ) : Type 0 where
-  pub sized : SizedTracks bytes lengths
-  pub fits : AlbumFits a
-  pub frames : a.frames ≡ tracks_frames (heads_of bytes lengths)
-  pub lent : room ≡ 2 * length lengths

@@ -1,8 +1,8 @@
 // What a call is given: settings, the first 92 bytes of each track's file end to end, and the files' lengths.
 ghost use Rattle.std.specs.Prelude.{◌≡◌};
-ghost use Rattle.codes.specs.Codes.{if_known};
+ghost use Rattle.codes.specs.inner.Codes.{if_known};
 ghost use Rattle.c_tracks.specs.Asked as calls;
-ghost use Rattle.c_tracks.specs.Asked.{as_asked};
+ghost use Rattle.c_tracks.specs.inner.Asked.{as_asked};
 
 use c_converter::Blocks;
 use reference::Settings;

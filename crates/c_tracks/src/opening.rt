@@ -1,10 +1,10 @@
 // An album opened.
 ghost use Rattle.std.specs.Prelude.{◌≡◌, ◌+◌, length};
 ghost use Rattle.tracks.specs.Tracks.{heads_of};
-ghost use Rattle.tracks_open.specs.Open.{TracksArgs, OpenPromise};
-ghost use Rattle.c_tracks.specs.Asked.{as_asked};
+ghost use Rattle.tracks_open.specs.inner.Open.{TracksArgs, OpenPromise};
+ghost use Rattle.c_tracks.specs.inner.Asked.{as_asked};
 ghost use Rattle.c_tracks.specs.Calls.{OpenAlbumCall, outputs};
-ghost use Rattle.c_tracks.specs.Calls as calls;
+ghost use Rattle.c_tracks.specs.inner.Calls as calls;
 
 use crate::Asked;
 use crate::telling::{named, reason, tell_album};

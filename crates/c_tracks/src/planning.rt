@@ -1,9 +1,10 @@
 // The plan of an album.
 ghost use Rattle.std.specs.Prelude.{◌≡◌, ◌*◌, length};
 ghost use Rattle.tracks.specs.Tracks.{heads_of};
-ghost use Rattle.c_tracks.specs.Asked.{as_asked};
+ghost use Rattle.c_tracks.specs.inner.Asked.{as_asked};
 ghost use Rattle.c_tracks.specs.Calls as calls;
-ghost use Rattle.c_tracks.specs.Calls.{PartCall, PieceCall, WritesCall, PlanArgs};
+ghost use Rattle.c_tracks.specs.Calls.{PartCall, PieceCall, WritesCall};
+ghost use Rattle.c_tracks.specs.inner.Calls.{PlanArgs};
 
 use crate::Asked;
 use album_parts::Part;

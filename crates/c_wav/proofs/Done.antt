@@ -20,7 +20,7 @@ use Rattle.codes.specs.Codes.{rate_of, known_rate}
 use Rattle.codes.specs.Told.{if_ok, ToldData}
 use Rattle.codes.proofs.Told.{told_written}
 use Rattle.c_wav.specs.Calls.{rate_place, format_numbers, WavReadCall, WavWriteCall, WavHeaderCall}
-use Rattle.c_wav.specs.Made.{WavMade, HeaderMade}
+use Rattle.c_wav.specs.inner.Made.{WavMade, HeaderMade}
 
 pub read_done : (file : List ℕ) {told told' : List ℕ} {answer : ℕ} (made : Result WavFormat PcmError) → ReadPromise file made → (n : ℕ) → n ≡ length (file_samples file)
     → (answer ≡ refusal_number (decision made)) × (told' ≡ if_ok (format_numbers n) made told) → WavReadCall file told told' answer

@@ -7,7 +7,7 @@ ghost use Rattle.reference.specs.Promises.{by_decision};
 ghost use Rattle.wav_format.specs.Promises.{file_samples};
 ghost use Rattle.codes.specs.Told.{if_ok};
 ghost use Rattle.c_wav.specs.Calls.{format_numbers, WavReadCall, WavWriteCall, WavHeaderCall};
-ghost use Rattle.c_wav.specs.Made.{WavMade, HeaderMade};
+ghost use Rattle.c_wav.specs.inner.Made.{WavMade, HeaderMade};
 
 use codes::{Answer, rate_of, tell_data};
 use reference::PcmError;

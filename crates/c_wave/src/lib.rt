@@ -5,7 +5,7 @@
 ghost use Rattle.std.specs.Prelude.{◌≡◌, [], ◌∷◌, ◌&&◌};
 ghost use Rattle.reference.specs.Refusals.{decision, refusal_number};
 ghost use Rattle.codes.specs.Codes as codes;
-ghost use Rattle.codes.specs.Codes.{if_known};
+ghost use Rattle.codes.specs.inner.Codes.{if_known};
 ghost use Rattle.codes.specs.Told.{if_ok};
 ghost use Rattle.wave_headers.specs.Headers as headers;
 ghost use Rattle.c_wave.specs.Calls as calls;
@@ -15,7 +15,7 @@ use codes::{Answer, NOT_UNDERSTOOD, rate_of};
 use reference::{PcmError, PcmRate};
 use wave_headers::Format;
 
-#[tactic(auto, unfolding(codes::specs::Codes::if_known, crate::specs::Calls::format_of))]
+#[tactic(auto, unfolding(codes::specs::inner::Codes::if_known, crate::specs::Calls::format_of))]
 fn format_of(n: u64) -> Option<Format>
     ensures { result ≡ if_known (known_format n) (calls.format_of n) }
 {
@@ -28,7 +28,7 @@ fn format_of(n: u64) -> Option<Format>
 }
 
 // What known numbers stand for.
-#[tactic(auto, using(codes::proofs::Known::some_known, codes::proofs::Known::none_known), unfolding(codes::specs::Codes::if_known))]
+#[tactic(auto, using(codes::proofs::Known::some_known, codes::proofs::Known::none_known), unfolding(codes::specs::inner::Codes::if_known))]
 fn asked(format: u64, rate: u64) -> Option<(Format, PcmRate)>
     ensures { result ≡ if_known (known_format format && codes.known_rate rate) (calls.format_of format, codes.rate_of rate) }
 {

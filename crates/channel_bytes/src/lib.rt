@@ -2,10 +2,10 @@
 #![tactic(auto)]
 
 ghost use Rattle.std.specs.Prelude.{◌≡◌, [], ◌+◌, ◌*◌, ◌/◌, ◌≤◌, ◌<◌, length, get_or};
-ghost use Rattle.numbers.specs.Lists.{Held};
+ghost use Rattle.numbers.specs.inner.Lists.{Held};
 ghost use Rattle.reference.specs.Frames.{frame_length};
-ghost use Rattle.channel_bytes.specs.Lent.{frame_part};
-ghost use Rattle.channel_bytes.specs.Runs.{slices_bytes};
+ghost use Rattle.channel_bytes.specs.inner.Lent.{frame_part};
+ghost use Rattle.channel_bytes.specs.inner.Runs.{slices_bytes};
 
 use reference::FRAME_BYTES;
 

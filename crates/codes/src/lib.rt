@@ -5,7 +5,7 @@
 ghost use Rattle.std.specs.Prelude.{◌≡◌};
 ghost use Rattle.reference.specs.Refusals.{error_decision, decision};
 ghost use Rattle.codes.specs.Codes as codes;
-ghost use Rattle.codes.specs.Codes.{if_known, report};
+ghost use Rattle.codes.specs.inner.Codes.{if_known, report};
 ghost use Rattle.codes.specs.Told.{ToldData, ToldDecibels, ToldWhole};
 
 use reference::{Cutoff, PcmError, PcmRate};
@@ -13,7 +13,7 @@ use reference::{Cutoff, PcmError, PcmRate};
 // What a call answers whose arguments are not understood; it writes nothing then.
 pub const NOT_UNDERSTOOD: u8 = 255;
 
-#[tactic(auto, unfolding(reference::specs::Codes::rate_from, crate::specs::Codes::if_known, crate::specs::Codes::rate_of))]
+#[tactic(auto, unfolding(reference::specs::inner::Codes::rate_from, crate::specs::inner::Codes::if_known, crate::specs::Codes::rate_of))]
 pub fn rate_of(n: u64) -> Option<PcmRate>
     ensures { result ≡ if_known (codes.known_rate n) (codes.rate_of n) }
 {
@@ -21,7 +21,7 @@ pub fn rate_of(n: u64) -> Option<PcmRate>
     PcmRate::try_from(n).ok()
 }
 
-#[tactic(auto, unfolding(reference::specs::Codes::cutoff_from, crate::specs::Codes::if_known, crate::specs::Codes::cutoff_of))]
+#[tactic(auto, unfolding(reference::specs::inner::Codes::cutoff_from, crate::specs::inner::Codes::if_known, crate::specs::Codes::cutoff_of))]
 pub fn cutoff_of(n: u64) -> Option<Cutoff>
     ensures { result ≡ if_known (codes.known_cutoff n) (codes.cutoff_of n) }
 {
@@ -30,7 +30,7 @@ pub fn cutoff_of(n: u64) -> Option<Cutoff>
 }
 
 // Channels are a byte.
-#[tactic(auto, unfolding(crate::specs::Codes::if_known))]
+#[tactic(auto, unfolding(crate::specs::inner::Codes::if_known))]
 pub fn channels_of(n: u64) -> Option<u8>
     ensures { result ≡ if_known (codes.known_channels n) n }
 {
@@ -38,7 +38,7 @@ pub fn channels_of(n: u64) -> Option<u8>
 }
 
 // A flag is 0 or 1.
-#[tactic(auto, unfolding(crate::specs::Codes::if_known))]
+#[tactic(auto, unfolding(crate::specs::inner::Codes::if_known))]
 pub fn flag_of(n: u64) -> Option<bool>
     ensures { result ≡ if_known (codes.known_flag n) (codes.flag n) }
 {

@@ -12,7 +12,7 @@ use mir.Val.{bool_byte}
 use lib.ListN.{length, replicate, length-append, length-replicate}
 use Rattle.text.specs.Text.{text, decimal, signed_decimal}
 use Rattle.std.specs.Prelude.{Some, None}
-use Rattle.text.specs.Writing.{Prints}
+use Rattle.text.specs.inner.Writing.{Prints}
 use Rattle.text.specs.declared.putting.Text.{Text}
 use Rattle.text.proofs.Writing.{both}
 use Rattle.columns.specs.Columns.{Cell, cell, column, level_text, too_wide}

@@ -183,9 +183,6 @@ module _ (file : List ℕ) where
   abbrev pub file_data : ℕ → ℕ
   file_data j = get_or file (92 + j) 0
 
-  abbrev pub file_byte : ℕ → ℕ → ℕ
-  file_byte = sample_byte file_data (channels file) (bits_per_sample file) (samples file)
-
   abbrev pub file_frame : ℕ → List ℕ
   file_frame = data_frame file_data (channels file) (bits_per_sample file) (samples file)
 

@@ -11,7 +11,7 @@ use lib.Seq.{get_or-set_same, get_or-set_other, get_or-take, get_or-drop, length
 use Rattle.numbers.proofs.Lists.{below_or}
 use Rattle.reference.specs.Frames.{idle}
 use Rattle.dsf.specs.Dsf.{blocks, data_place}
-use Rattle.dsf_columns.specs.Columns.{Strided, Column, column_byte, ColumnArgs}
+use Rattle.dsf_columns.specs.inner.Columns.{Strided, Column, column_byte, ColumnArgs}
 use Rattle.dsf_columns.proofs.Blocks.{remainder, place_below, group}
 use Rattle.dsf.proofs.Alike.{pick, skip}
 

@@ -1,7 +1,7 @@
 // A channel of a frame: pieces of its blocks through a table of bytes, and idle bytes past the data.
 ghost use Rattle.std.specs.Prelude.{◌≡◌, ◌+◌, ◌*◌, ◌≤◌, ◌<◌, ◌^◌, length, get_or};
 ghost use Rattle.reference.specs.Frames.{idle, frame_bytes};
-ghost use Rattle.dsf_columns.specs.Columns.{Strided, Column, column_byte, ColumnArgs};
+ghost use Rattle.dsf_columns.specs.inner.Columns.{Strided, Column, column_byte, ColumnArgs};
 
 use reference::FRAME_BYTES;
 

@@ -31,7 +31,7 @@ use Rattle.dsf.proofs.Accepted.{sound_at, head_channels}
 use Rattle.dsf.proofs.Head.{whole_head, header_right}
 use Rattle.dsf_frames.specs.Theorems.{WindowRight}
 use Rattle.dsf_frames.specs.Reading.{window_start, window_end, window_of, asked_places, window_places, window_data, window_frame, Framed, WindowOf}
-use Rattle.dsf_frames.specs.Windows.{WindowArgs}
+use Rattle.dsf_frames.specs.inner.Windows.{WindowArgs}
 use Rattle.dsf_frames.specs.declared.FrameWindow.{FrameWindow}
 use Rattle.dsf_columns.proofs.Strides.{place_at, above, within}
 use Rattle.dsf_frames.proofs.Windows.{column_args, turn_at}

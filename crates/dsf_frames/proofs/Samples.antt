@@ -11,7 +11,8 @@ use Rattle.numbers.specs.Lists.{total}
 use Rattle.numbers.proofs.Lists.{get_d_tabulate}
 use Rattle.text.specs.Bytes.{Bytes}
 use Rattle.dsf.specs.Dsf.{data_place, channels, bits_per_sample, samples, frames, frames_in, turned, our_byte, sample_byte, turn_byte}
-use Rattle.dsf.specs.Dsf.{data_frame, file_data, file_byte, file_frame, sample_from_lowest, sample_from_highest, file_sample}
+use Rattle.dsf.specs.Dsf.{data_frame, file_data, file_frame, sample_from_lowest, sample_from_highest, file_sample}
+use Rattle.dsf.specs.inner.Dsf.{file_byte}
 use Rattle.dsf.proofs.Alike.{pick, skip}
 use Rattle.dsf.proofs.Accepted.{sound}
 use Rattle.numbers.specs.Tests.{each_below}

@@ -13,9 +13,9 @@ use Rattle.numbers.proofs.Lists.{below_or, is_tabulate}
 use Rattle.reference.specs.Frames.{idle}
 use Rattle.dsf.specs.Dsf.{data_place, our_byte, sample_byte, turn_byte, data_frame}
 use Rattle.dsf_frames.specs.Reading.{window_start, window_end, window_data}
-use Rattle.dsf_frames.specs.Windows.{WindowArgs}
-use Rattle.dsf_columns.specs.Columns.{Column, column_byte, Ordering, ColumnArgs}
-use Rattle.dsf.specs.Orders.{bit_order}
+use Rattle.dsf_frames.specs.inner.Windows.{WindowArgs}
+use Rattle.dsf_columns.specs.inner.Columns.{Column, column_byte, Ordering, ColumnArgs}
+use Rattle.dsf.specs.inner.Orders.{bit_order}
 use Rattle.dsf_columns.proofs.Turned.{ordered_is}
 use Rattle.dsf_columns.proofs.Blocks.{quotient, remainder}
 use Rattle.dsf.proofs.Alike.{pick, skip}

@@ -5,7 +5,7 @@ ghost use Rattle.reference.specs.Frames.{frame_bytes};
 ghost use Rattle.text.specs.Bytes.{Bytes};
 ghost use Rattle.dsf.specs.Dsf.{data_frame};
 ghost use Rattle.dsf_frames.specs.Reading.{window_start, window_end, window_of, asked_places, window_data, Framed, FramePromise, WindowPromise};
-ghost use Rattle.dsf_frames.specs.Windows.{WindowArgs};
+ghost use Rattle.dsf_frames.specs.inner.Windows.{WindowArgs};
 
 use crate::FrameWindow;
 use dsf::{DsfHeader, read_header};

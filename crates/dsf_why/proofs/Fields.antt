@@ -12,9 +12,10 @@ use Rattle.std.specs.List.{list_any}
 use Rattle.dsf.specs.Dsf.{fixed, alike, any, all, fits}
 use Rattle.dsf.proofs.Tests.{fits_fixed}
 use Rattle.dsf.specs.Dsf as spec
-use Rattle.dsf_why.specs.Fields.{field_of}
+use Rattle.dsf_why.specs.inner.Fields.{field_of}
 use Rattle.dsf_why.specs.declared.table.Field.{Field}
-use Rattle.dsf_why.specs.Why.{first_unfit, readable, all_readable, first_value}
+use Rattle.dsf_why.specs.Why.{first_unfit, first_value}
+use Rattle.dsf_why.specs.inner.Why.{readable, all_readable}
 
 pub first_is : (vs : List (Bor (List ℕ))) (d : Bor (List ℕ)) → 1 ≤ length vs → (get_or vs 0 d).now ≡ get_or (map (λ v. v.now) vs) 0 []
 first_is [] d m = absurd (omega arith)

@@ -13,7 +13,8 @@ use Rattle.numbers.proofs.Lists.{part_end, below_or, length_tabulate, get_d_tabu
 use Rattle.reference.specs.Frames.{frame, frame_count}
 use Rattle.text.specs.Bytes.{Bytes, number_of, number_at, bytes}
 use Rattle.dsf.specs.Dsf.{pair, alike, blocks, data_bytes, data_place, stated_length, channel_type, channels, bits_per_sample, samples}
-use Rattle.dsf.specs.Dsf.{data_size, needed, frames, turned, our_byte, sample_byte, turn_byte, data_frame, file_data, file_byte}
+use Rattle.dsf.specs.Dsf.{data_size, needed, frames, turned, our_byte, sample_byte, turn_byte, data_frame, file_data}
+use Rattle.dsf.specs.inner.Dsf.{file_byte}
 use Rattle.dsf.specs.Headers.{header_with}
 use Rattle.dsf.proofs.Alike.{Alike, seg, join, pick, skip, T_is}
 use Rattle.text.proofs.Bytes.{padded, number_padded, bytes_number, each_padded, each_drop}

@@ -12,7 +12,8 @@ use lib.Seq.{length-take-le, take-length}
 use borrow.Author.Tests.{le-leb, lt-leb, lt-ltb, le-ltb, eq-eqb, ne_eqb, eqb-true, leb-true, ltb-false, not-false}
 use borrow.Rule.Slice.PartMut.{put_mid}
 use Rattle.std.proofs.lemmas.Slice.{take-put_mid}
-use Rattle.numbers.specs.Lists.{tabulate, Wrote}
+use Rattle.numbers.specs.Lists.{tabulate}
+use Rattle.numbers.specs.inner.Lists.{Wrote}
 use Rattle.numbers.proofs.Lists.{below_or, is_tabulate}
 use Rattle.reference.specs.Frames.{frame_count}
 use Rattle.std.specs.Prelude.{Ok, Err}
@@ -28,12 +29,12 @@ use Rattle.dsf.specs.Dsf.{pair, blocks, data_bytes, turned}
 use Rattle.dsf.specs.Headers.{header_with}
 use Rattle.dsf.proofs.Alike.{T_is, T_of, left, right, pick, skip}
 use Rattle.dsf.specs.declared.BitOrder.TheVariants.{LowestFirst}
-use Rattle.dsf_columns.specs.Columns.{Ordering}
+use Rattle.dsf_columns.specs.inner.Columns.{Ordering}
 use Rattle.dsf_columns.proofs.Blocks.{group}
 use Rattle.dsf_write.proofs.Pieces.{long_mid, wrote_piece}
 use Rattle.dsf_write.specs.Written.{type_of, data_channel, data_byte, written_channel, written_data, written_byte, head, laid_out, written}
 use Rattle.dsf_write.specs.Written.{file_length, length_places, dsf_write_places, laid_places, HeadPromise, LaidPromise, WritePromise, Writable}
-use Rattle.dsf_write.specs.Putting.{PutPromise, DataArgs, BlockArgs}
+use Rattle.dsf_write.specs.inner.Putting.{PutPromise, DataArgs, BlockArgs}
 use Rattle.dsf_write.proofs.Written.{by_channels}
 
 -- ---- the header

@@ -15,7 +15,8 @@ use Rattle.text.specs.Text.{text}
 use Rattle.text.specs.Bytes.{Bytes, number_at, bytes}
 use Rattle.dsf.specs.Dsf.{alike, any, all, fits, layout, pairs, orders, blocks, data_bytes, data_place, stated_length}
 use Rattle.dsf.specs.Dsf.{channel_type, channels, bits_per_sample, samples, data_size, needed, accepts, frames, frames_in}
-use Rattle.dsf.specs.Dsf.{turned, our_byte, sample_byte, turn_byte, data_frame, file_data, file_byte, file_frame}
+use Rattle.dsf.specs.Dsf.{turned, our_byte, sample_byte, turn_byte, data_frame, file_data, file_frame}
+use Rattle.dsf.specs.inner.Dsf.{file_byte}
 use Rattle.dsf.specs.Headers.{header_with}
 use Rattle.dsf.proofs.Alike.{pick, skip}
 use Rattle.text.proofs.Bytes.{padded, number_bytes}

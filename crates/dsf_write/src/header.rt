@@ -4,7 +4,7 @@ ghost use Rattle.text.specs.Bytes.{bytes};
 ghost use Rattle.dsf.specs.Dsf.{pair};
 ghost use Rattle.dsf.specs.Headers.{header_with};
 ghost use Rattle.dsf_write.specs.Written.{type_of};
-ghost use Rattle.dsf_write.specs.Putting.{PutPromise};
+ghost use Rattle.dsf_write.specs.inner.Putting.{PutPromise};
 
 // Bytes put into a list from a place on.
 fn put(out: &mut [u8], at: usize, bytes: &[u8])

@@ -6,7 +6,7 @@ ghost use Rattle.reference.specs.Refusals.{decide, decision, most};
 ghost use Rattle.reference.specs.declared.Limit.TheVariants as limit;
 ghost use Rattle.reference.specs.Frames.{frame_length};
 ghost use Rattle.dsf_write.specs.Written.{file_length, length_places, written_data, head, laid_out, written, LengthPromise, HeadPromise, LaidPromise, WritePromise, Writable};
-ghost use Rattle.dsf_write.specs.Putting.{PutPromise};
+ghost use Rattle.dsf_write.specs.inner.Putting.{PutPromise};
 
 mod header;
 mod laid;

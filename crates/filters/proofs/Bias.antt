@@ -9,9 +9,9 @@ use Rattle.numbers.specs.Sums.{sum_to, at0}
 use Rattle.numbers.proofs.Integers.{pp, nn, zext, add_parts, abs_parts, +ℤ-left-comm, add_mul}
 use Rattle.reference.specs.Rounding.{R}
 use Rattle.reference.specs.Stages.{tap, M, fir}
-use Rattle.lanes.specs.Lanes.{Filled, raised, arms}
-use Rattle.filters.specs.Filters.{alone, between_by, same_rate, middle, half_rate, Fit, ones, UnityGain, Phases, Between}
-use Rattle.filters.specs.Lifts.{lifted, Raised, Sums, rounded}
+use Rattle.lanes.specs.inner.Lanes.{Filled, raised, arms}
+use Rattle.filters.specs.inner.Filters.{alone, between_by, same_rate, middle, half_rate, Fit, ones, UnityGain, Phases, Between}
+use Rattle.filters.specs.inner.Lifts.{lifted, Raised, Sums, rounded}
 use Rattle.filters.proofs.Pairs.{fir_is, between_is, fir_same, between_same, fir_lift, between_lift}
 use Rattle.filters.proofs.Places.{filled_as, filled_then, filled_again}
 

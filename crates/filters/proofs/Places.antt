@@ -11,9 +11,9 @@ use lib.Seq.{get_or-set_same, get_or-set_other}
 use Rattle.numbers.specs.Sums.{at0}
 use Rattle.numbers.proofs.Integers.{abs_add}
 use Rattle.numbers.proofs.Lists.{below_or, length_tabulate, get_d_tabulate}
-use Rattle.lanes.specs.Lanes.{Small, Filled, raised, Low}
-use Rattle.filters.specs.Filters.{seconds}
-use Rattle.filters.specs.Lifts.{lifted, Raised}
+use Rattle.lanes.specs.inner.Lanes.{Small, Filled, raised, Low}
+use Rattle.filters.specs.inner.Filters.{seconds}
+use Rattle.filters.specs.inner.Lifts.{lifted, Raised}
 
 -- ---- whole lists
 pub filled_as : {f g : ℕ → ℤ} {old new : List ℤ} → Filled f old new → ((k : ℕ) → k < length old → f k ≡ g k) → Filled g old new

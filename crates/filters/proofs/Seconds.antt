@@ -11,7 +11,7 @@ use Rattle.numbers.specs.Sums.{apart, at0}
 use Rattle.numbers.proofs.Sums.{sum_same}
 use Rattle.numbers.proofs.Lists.{below_or}
 use Rattle.reference.specs.Stages.{tap, M, fir}
-use Rattle.filters.specs.Filters.{even_taps, odd_taps, half_rate, seconds}
+use Rattle.filters.specs.inner.Filters.{even_taps, odd_taps, half_rate, seconds}
 use Rattle.filters.proofs.Places.{second_at}
 use Rattle.filters.proofs.Signals.{split_halves, half_signal, length_even, length_odd}
 

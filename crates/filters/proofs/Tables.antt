@@ -10,9 +10,9 @@ use Rattle.numbers.specs.Lists.{total, tabulate}
 use Rattle.numbers.proofs.Sums.{sum_same}
 use Rattle.reference.specs.Taps.{HB, F40, F30, F80}
 use Rattle.reference.specs.Stages.{tap, fir, between}
-use Rattle.reference.specs.Sizes.{absolute_sum}
+use Rattle.reference.specs.inner.Sizes.{absolute_sum}
 use Rattle.reference.proofs.Sizes.{F40_sum, F30_sum}
-use Rattle.filters.specs.Filters.{even_taps, odd_taps, alone, between_by, UnityGain, Between}
+use Rattle.filters.specs.inner.Filters.{even_taps, odd_taps, alone, between_by, UnityGain, Between}
 use Rattle.filters.proofs.Signals.{Halves, split_halves, halves_phases}
 use Rattle.filters.proofs.Totals.{filter_by_sums}
 

@@ -12,9 +12,9 @@ use Rattle.numbers.specs.Lists.{total}
 use Rattle.numbers.proofs.Integers.{abs_add, abs_neg, add_mul}
 use Rattle.numbers.proofs.Lists.{below_or, total_same, total_join}
 use Rattle.reference.specs.Stages.{tap, M, fir}
-use Rattle.reference.specs.Sizes.{absolute_sum}
-use Rattle.filters.specs.Filters.{ones, UnityGain}
-use Rattle.lanes.specs.Lanes.{arms}
+use Rattle.reference.specs.inner.Sizes.{absolute_sum}
+use Rattle.filters.specs.inner.Filters.{ones, UnityGain}
+use Rattle.lanes.specs.inner.Lanes.{arms}
 use Rattle.filters.proofs.Pairs.{fir_is}
 use Rattle.filters.proofs.Bias.{back}
 use Rattle.filters.proofs.Signals.{past}

@@ -8,8 +8,8 @@
 
 ghost use Rattle.std.specs.Prelude.{◌≡◌, ◌+◌, ◌*◌, ◌-◌, ◌^◌, ◌≤◌, ◌<◌, length};
 ghost use Rattle.reference.specs.Rounding.{R};
-ghost use Rattle.lanes.specs.Lanes.{Small, Filled, Low};
-ghost use Rattle.filters.specs.Filters.{seconds, same_rate, half_rate, Fit, UnityGain, Phases};
+ghost use Rattle.lanes.specs.inner.Lanes.{Small, Filled, Low};
+ghost use Rattle.filters.specs.inner.Filters.{seconds, same_rate, half_rate, Fit, UnityGain, Phases};
 
 mod copy;
 mod round;

@@ -13,7 +13,7 @@ use lib.Ieee.Fits.{and_l, and_r, down_pos}
 use lib.Ieee.Exact.{HasValue, round_exact}
 use lib.Ieee.Nearest.{closest, closest_same}
 use lib.Ieee.Back.{round_whole}
-use Rattle.floats.specs.Whole.{signed, whole_of, whole_over, below_51}
+use Rattle.floats.specs.inner.Whole.{signed, whole_of, whole_over, below_51}
 use Rattle.floats.proofs.Closest.{Cmp, cmp, closest_digits}
 use Rattle.floats.proofs.Bound.{AtMost, round_at_most}
 

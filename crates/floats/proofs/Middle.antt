@@ -19,7 +19,7 @@ use lib.Ieee.Nearest.{closest, closest_same}
 use lib.Ieee.Back.{positive_back, negative_back}
 use lib.Ieee.Scale.{round_same}
 use lib.Ieee.Bits.{is_true, is_false}
-use Rattle.floats.specs.Whole.{signed, whole_of, whole_over, below_51}
+use Rattle.floats.specs.inner.Whole.{signed, whole_of, whole_over, below_51}
 use Rattle.floats.proofs.Closest.{closest_above, closest_below}
 
 -- ---- a number's digits

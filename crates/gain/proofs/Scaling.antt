@@ -17,11 +17,12 @@ use mir.Syntax.{w32, w64}
 use mir.Val.{SFits}
 use Rattle.numbers.proofs.Integers.{sfits_abs}
 use Rattle.reference.specs.Scaling.{eighth, scaled, clamp}
-use Rattle.floats.specs.Whole.{whole_over, whole_of, below_51}
+use Rattle.floats.specs.inner.Whole.{whole_over, whole_of, below_51}
 use Rattle.floats.proofs.Bound.{AtMost, round_at_most}
 use Rattle.floats.proofs.Eighth.{an_eighth, eighth_is, eighth_below}
 use Rattle.floats.proofs.Middle.{cast_is, nearest_is}
-use Rattle.gain.specs.Scale.{bounded, unrounded}
+use Rattle.gain.specs.Scale.{bounded}
+use Rattle.gain.specs.inner.Scale.{unrounded}
 
 -- ---- the product
 

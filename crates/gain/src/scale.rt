@@ -4,8 +4,9 @@ ghost use Rattle.std.specs.Float.{binary64};
 ghost use Rattle.std.specs.Float.Ieee.{of_int};
 ghost use Rattle.numbers.specs.Sums.{at0};
 ghost use Rattle.reference.specs.Scaling.{scaled, clamp};
-ghost use Rattle.floats.specs.Whole.{whole_of, below_51};
-ghost use Rattle.gain.specs.Scale.{bounded, unrounded, Clamped, ScaledBlock};
+ghost use Rattle.floats.specs.inner.Whole.{whole_of, below_51};
+ghost use Rattle.gain.specs.Scale.{bounded, ScaledBlock};
+ghost use Rattle.gain.specs.inner.Scale.{unrounded, Clamped};
 
 use reference::{ChannelStats, Extremes};
 

@@ -9,7 +9,7 @@ use lib.Dec.{lit≤}
 use lib.IntN.{ℤ, pos}
 use lib.ListN.{length, take, get_or-append}
 use lib.Seq.{get_or-take}
-use Rattle.numbers.specs.Lists.{Held}
+use Rattle.numbers.specs.inner.Lists.{Held}
 use Rattle.numbers.proofs.Lists.{held_none}
 use Rattle.reference.specs.Taps.{S1, S1_WIDE, F40, F80}
 use Rattle.reference.specs.Stages.{M, u, v, w, y_narrow, y_wide}
@@ -18,8 +18,8 @@ use Rattle.reference.specs.declared.PcmRate.TheVariants.{Hz88200, Hz176400, Hz35
 use Rattle.reference.specs.declared.Cutoff.{Cutoff}
 use Rattle.reference.specs.declared.Cutoff.TheVariants.{Standard, Low, Wide}
 use Rattle.reference.proofs.Locality.{F40_last, F80_last}
-use Rattle.routes.specs.Routes.{LowPass, HalvedFilter, halves_of, LastFilter, FirstTables, lent_taps, RouteTaps, SomeTaps, filter_input}
-use Rattle.routes.specs.Routes.{stride, around, first_byte, fresh, margin_from, block_length, y_of, Kept, State, Brought}
+use Rattle.routes.specs.inner.Routes.{LowPass, HalvedFilter, halves_of, LastFilter, FirstTables, lent_taps, RouteTaps, SomeTaps, filter_input}
+use Rattle.routes.specs.inner.Routes.{stride, around, first_byte, fresh, margin_from, block_length, y_of, Kept, State, Brought}
 use Rattle.tables.specs.Tables.{ByteTables}
 use Rattle.routes.proofs.Arrays.{held_at}
 use Rattle.routes.proofs.Filters.{halves_length}

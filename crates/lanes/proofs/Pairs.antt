@@ -9,7 +9,7 @@ use Rattle.numbers.specs.Sums.{sum_to}
 use Rattle.numbers.proofs.Integers.{abs_add, abs_mul, sums}
 use Rattle.numbers.proofs.Sums.{sum_same, sum_join}
 use Rattle.reference.specs.Stages.{tap}
-use Rattle.lanes.specs.Lanes.{Small, raised, arm, arms, fourths, Low}
+use Rattle.lanes.specs.inner.Lanes.{Small, raised, arm, arms, fourths, Low}
 
 -- ---- sizes
 pub raised_size : {v : List ℕ} → Low v → (k : ℕ) → nat_abs (raised v k) ≤ 2 ^ 30

@@ -5,7 +5,7 @@
 
 ghost use Rattle.std.specs.Prelude.{◌≡◌, ℕ, ◌+◌, ◌*◌, ◌-◌, ◌^◌, ◌≤◌, ◌<◌, pos, nat_abs, ◌+ℤ◌, ◌*ℤ◌, length};
 ghost use Rattle.numbers.specs.Sums.{at0};
-ghost use Rattle.lanes.specs.Lanes.{Small, Filled, raised, arms, fourths, Low, Lanes, Added, Written};
+ghost use Rattle.lanes.specs.inner.Lanes.{Small, Filled, raised, arms, fourths, Low, Lanes, Added, Written};
 
 // s + h * w
 pub fn tap1(s: i64, h: i64, w: u64) -> i64
@@ -20,7 +20,7 @@ pub fn tap1(s: i64, h: i64, w: u64) -> i64
 }
 
 // A sum gains a tap with two values of the copy.
-#[tactic(auto, unfolding(crate::specs::Lanes::raised))]
+#[tactic(auto, unfolding(crate::specs::inner::Lanes::raised))]
 fn pair(s: i64, h: i64, v: &[u64], i: usize, j: usize) -> i64
     requires i_in_bounds { (i < length v.now) × (j < length v.now) × (nat_abs h ≤ 2 ^ 25) × (nat_abs s ≤ 126 * 2 ^ 56) }
     requires low { Low v.now }

@@ -19,10 +19,10 @@ use Rattle.reference.proofs.Promises.{exit_accepted}
 use Rattle.reference.proofs.Refusals.{error_refuses, at_next, at_end, decide_skip, some_channel, few_channels}
 use Rattle.text.specs.Text.{Printed}
 use Rattle.overs.specs.Overs.{Progress}
-use Rattle.levels.specs.Levels.{FrameReported, told_length, told_clips, told_states}
+use Rattle.levels.specs.inner.Levels.{FrameReported, told_length, told_clips, told_states}
 use Rattle.levels.specs.declared.Reported.{Reported}
 use Rattle.levels.proofs.Frames.{in_all}
-use Rattle.level_frames.specs.Told.{PieceAdded, OneLong}
+use Rattle.level_frames.specs.inner.Told.{PieceAdded, OneLong}
 
 -- ---- a frame is accepted
 

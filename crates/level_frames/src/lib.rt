@@ -5,7 +5,7 @@ ghost use Rattle.std.specs.Prelude.{◌≡◌, ◌+◌, ◌*◌, ◌<◌, ◌≤
 ghost use Rattle.reference.specs.Frames.{frame_length, run_of};
 ghost use Rattle.text.specs.Text.{Printed};
 ghost use Rattle.level_frames.specs.Report as whole;
-ghost use Rattle.level_frames.specs.Told.{PieceAdded, OneLong};
+ghost use Rattle.level_frames.specs.inner.Told.{PieceAdded, OneLong};
 
 use overs::Progress;
 use reference::Run;

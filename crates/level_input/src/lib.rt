@@ -4,8 +4,8 @@
 
 ghost use Rattle.std.specs.Prelude.{◌≡◌, ◌+◌, ◌*◌, ◌<◌, ◌≤◌, length, take, drop, IfOk, IfSome};
 ghost use Rattle.std.specs.Io.KnownBytes.{Appends, Consumes, IsAtEnd, ReadConsumes};
-ghost use Rattle.level_input.specs.Lines.{LineCame};
-ghost use Rattle.level_input.specs.Moved.{moved_on};
+ghost use Rattle.level_input.specs.inner.Lines.{LineCame};
+ghost use Rattle.level_input.specs.inner.Moved.{moved_on};
 
 use std::io;
 use std::io::{Read, Write};

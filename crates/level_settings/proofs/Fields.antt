@@ -12,9 +12,10 @@ use Rattle.reference.specs.declared.Cutoff.{Cutoff}
 use Rattle.reference.specs.declared.Cutoff.TheVariants.{Standard, Low, Wide}
 use Rattle.text.specs.Text.{text, joined, decimal, signed_decimal}
 use Rattle.text.proofs.Numerals.{all_digits}
-use Rattle.level_settings.specs.Settings.{rate_text, cutoff_text, rate_named, cutoff_named, settings_line, InRange, LineRead}
-use Rattle.level_settings.specs.Reading.{ChannelsRead, DecibelsRead}
-use Rattle.text.specs.Lists.{Without}
+use Rattle.level_settings.specs.Settings.{rate_text, cutoff_text, settings_line, InRange, LineRead}
+use Rattle.level_settings.specs.inner.Settings.{rate_named, cutoff_named}
+use Rattle.level_settings.specs.inner.Reading.{ChannelsRead, DecibelsRead}
+use Rattle.text.specs.inner.Lists.{Without}
 use Rattle.text.proofs.Cuts.{without, cut, uncut}
 use Rattle.level_settings.specs.declared.LineSettings.{LineSettings}
 use Rattle.text.proofs.Options.{no_some, some_is}

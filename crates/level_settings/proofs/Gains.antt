@@ -9,8 +9,8 @@ use lib.ListN.{get_or}
 use lib.Signed.{◌≤ℤ◌}
 use Rattle.std.specs.Prelude.{Option, Some, None}
 use Rattle.text.specs.Text.{decimal, signed_decimal}
-use Rattle.text.specs.Reading.{NumberRead}
-use Rattle.level_settings.specs.Reading.{DecibelsRead}
+use Rattle.text.specs.inner.Reading.{NumberRead}
+use Rattle.level_settings.specs.inner.Reading.{DecibelsRead}
 use Rattle.text.proofs.Numerals.{first_digit}
 use Rattle.text.proofs.Options.{no_some, some_is}
 

@@ -1,6 +1,5 @@
 -- The level report's first line, RATE CUTOFF CHANNELS DB.
-use Rattle.std.specs.Prelude.{◌≡◌, List, [], ◌∷◌, ℕ, ◌≤◌, pos, negsuc, Option, Some, None, cond, ◌≤ℤ◌}
-use Rattle.std.specs.Str.{bytes_eq}
+use Rattle.std.specs.Prelude.{◌≡◌, List, [], ◌∷◌, ℕ, ◌≤◌, pos, negsuc, Option, Some, ◌≤ℤ◌}
 use Rattle.reference.specs.declared.PcmRate.{PcmRate}
 use Rattle.reference.specs.declared.PcmRate.TheVariants.{Hz88200, Hz176400, Hz352800}
 use Rattle.reference.specs.declared.Cutoff.{Cutoff}
@@ -17,20 +16,6 @@ unfoldable pub cutoff_text : Cutoff → List ℕ
 cutoff_text Standard = text "standard"
 cutoff_text Low = text "low"
 cutoff_text Wide = text "wide"
-
--- the rate that a word names, if it names one
-unfoldable pub rate_named : List ℕ → Option PcmRate
-rate_named w =
-    cond (bytes_eq w (rate_text Hz88200)) (Some Hz88200)
-    (cond (bytes_eq w (rate_text Hz176400)) (Some Hz176400)
-    (cond (bytes_eq w (rate_text Hz352800)) (Some Hz352800) None))
-
--- the cutoff
-unfoldable pub cutoff_named : List ℕ → Option Cutoff
-cutoff_named w =
-    cond (bytes_eq w (cutoff_text Standard)) (Some Standard)
-    (cond (bytes_eq w (cutoff_text Low)) (Some Low)
-    (cond (bytes_eq w (cutoff_text Wide)) (Some Wide) None))
 
 abbrev pub blank : List ℕ
 blank = 32 ∷ []

@@ -25,8 +25,9 @@ use Rattle.text.proofs.Numerals.{places, all_digits}
 use Rattle.level_settings.specs.Settings.{blank, rate_text, cutoff_text, settings_line, InRange, LineRead}
 use Rattle.level_settings.specs.declared.LineSettings.{LineSettings}
 use Rattle.text.proofs.Options.{no_some}
-use Rattle.level_input.specs.Lines.{NoNewline, Newline, Unended}
-use Rattle.level_start.specs.Begun.{Begun, after_line, InputRead, Starts, refused_settings, leads_to, said}
+use Rattle.level_input.specs.inner.Lines.{NoNewline, Newline, Unended}
+use Rattle.level_start.specs.Begun.{after_line, refused_settings}
+use Rattle.level_start.specs.inner.Begun.{Begun, InputRead, Starts, leads_to, said}
 
 -- ---- the line of settings in range holds no newline, and is at most 22 bytes long
 

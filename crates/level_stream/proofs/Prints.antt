@@ -16,7 +16,8 @@ use Rattle.level_lines.specs.Lines.{refused_line}
 use Rattle.level_settings.specs.Settings.{settings_line, InRange}
 use Rattle.level_settings.specs.declared.LineSettings.{LineSettings}
 use Rattle.text.proofs.Options.{no_some, some_is}
-use Rattle.level_start.specs.Begun.{read_settings, after_line, InputRead, refused_settings}
+use Rattle.level_start.specs.Begun.{read_settings, after_line, refused_settings}
+use Rattle.level_start.specs.inner.Begun.{InputRead}
 use Rattle.level_start.proofs.Line.{high_line, parted}
 use Rattle.level_stream.specs.Printed.{report_text, PrintsReport, PrintsApart, OneInput, OneText, WideRefused}
 

@@ -17,7 +17,8 @@ use Rattle.level_lines.specs.Lines.{refused_line}
 use Rattle.level_settings.specs.declared.LineSettings.{LineSettings}
 use Rattle.text.proofs.Options.{no_some, some_is}
 use Rattle.level_input.proofs.Known.{appends_more}
-use Rattle.level_start.specs.Begun.{read_settings, leads_to, said, InputRead, Starts}
+use Rattle.level_start.specs.Begun.{read_settings}
+use Rattle.level_start.specs.inner.Begun.{leads_to, said, InputRead, Starts}
 use Rattle.level_frames.specs.Report.{lines_of, text_by}
 use Rattle.level_stream.specs.Printed.{report_text, ReportAppended}
 use Rattle.level_stream.proofs.Prints.{text_of, text_of_none, refused_alone}

@@ -16,9 +16,9 @@ use Rattle.reference.specs.declared.Converter.{Converter}
 use Rattle.text.specs.Lists.{part}
 use Rattle.overs.specs.Overs.{Progress}
 use Rattle.levels.specs.Levels.{piece_lines}
-use Rattle.level_frames.specs.Told.{OneLong}
-use Rattle.level_input.specs.Moved.{moved_on}
-use Rattle.level_turns.specs.Turns.{at_hand, FrameTold, moment, told_frame, Turned}
+use Rattle.level_frames.specs.inner.Told.{OneLong}
+use Rattle.level_input.specs.inner.Moved.{moved_on}
+use Rattle.level_turns.specs.inner.Turns.{at_hand, FrameTold, moment, told_frame, Turned}
 
 -- ---- parts of the buffer
 

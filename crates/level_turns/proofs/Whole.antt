@@ -27,7 +27,7 @@ use Rattle.levels.specs.Levels.{whole_input, FrameOf, InProgress, piece_lines}
 use Rattle.levels.proofs.Whole.{lines_same, states_same, clips_same}
 use Rattle.level_frames.specs.Report.{ending, left_over, all_clips, lines_of, text_by}
 use Rattle.level_frames.proofs.Printing.{joined_more}
-use Rattle.level_turns.specs.Turns.{Moment, here, told_frame, Turned, AllTold}
+use Rattle.level_turns.specs.inner.Turns.{Moment, here, told_frame, Turned, AllTold}
 
 -- the bytes that have come by a moment, where they lie in the buffer, the text that was passed on, and what is told of
 -- any input that begins with these bytes; where the frame at hand is not whole, that is the input

@@ -8,9 +8,9 @@ ghost use Rattle.reference.specs.Refusals.{accepted, decide, held_places};
 ghost use Rattle.overs.specs.Overs.{none};
 ghost use Rattle.levels.specs.Levels.{piece_lines};
 ghost use Rattle.level_frames.specs.Report.{lines_of, text_by};
-ghost use Rattle.level_frames.specs.Told.{OneLong};
-ghost use Rattle.level_turns.specs.Turns as hand;
-ghost use Rattle.level_turns.specs.Turns.{FrameTold, Turned, AllTold, moment};
+ghost use Rattle.level_frames.specs.inner.Told.{OneLong};
+ghost use Rattle.level_turns.specs.inner.Turns as hand;
+ghost use Rattle.level_turns.specs.inner.Turns.{FrameTold, Turned, AllTold, moment};
 
 use level_frames::{FewChannels, Report};
 use level_input::{fill, move_on, write_first};
@@ -36,7 +36,7 @@ struct Window<'a> {
 
 // The frame in the middle of the three, under its number. Whether one comes after it shows only in what was read: the
 // buffer has its place all the same.
-#[tactic(auto, unfolding(crate::specs::Turns::at_hand))]
+#[tactic(auto, unfolding(crate::specs::inner::Turns::at_hand))]
 fn at_hand<'a>(number: u64, has_after: bool, size: usize, three: &'a [u8]) -> Run<'a>
     requires { length three.now ≡ 3 * size }
     ensures { run_of result ≡ hand.at_hand number has_after size three.now }

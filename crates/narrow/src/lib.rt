@@ -5,14 +5,14 @@
 #![tactic(auto)]
 
 ghost use Rattle.std.specs.Prelude.{◌≡◌, ℕ, ◌+◌, ◌-◌, ◌*◌, ◌/◌, ◌%◌, ◌^◌, ◌≤◌, List, ℤ, pos, length};
-ghost use Rattle.numbers.specs.Lists.{Held};
+ghost use Rattle.numbers.specs.inner.Lists.{Held};
 ghost use Rattle.reference.specs.Taps.{S1};
 ghost use Rattle.reference.specs.Stages.{M, v, w, y_narrow};
 ghost use Rattle.reference.specs.declared.PcmRate.TheVariants.{Hz88200, Hz176400, Hz352800};
 ghost use Rattle.tables.specs.Tables.{ByteTables};
-ghost use Rattle.lanes.specs.Lanes.{Small, Low};
-ghost use Rattle.band.specs.Bands.{odd_sizes};
-ghost use Rattle.routes.specs.Routes.{LowPass, HalvedFilter, halves_of};
+ghost use Rattle.lanes.specs.inner.Lanes.{Small, Low};
+ghost use Rattle.band.specs.inner.Bands.{odd_sizes};
+ghost use Rattle.routes.specs.inner.Routes.{LowPass, HalvedFilter, halves_of};
 
 use stages::Buffers;
 

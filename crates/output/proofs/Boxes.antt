@@ -13,11 +13,12 @@ use mir.Val.{SFits, to_z, of_z}
 use mir.Facts.{to_z-of_z}
 use lib.Seq.{get_or-set_same, get_or-set_other}
 use lib.ListN.{length, get_or, set, length-set}
-use Rattle.numbers.specs.Lists.{tabulate, Held}
+use Rattle.numbers.specs.Lists.{tabulate}
+use Rattle.numbers.specs.inner.Lists.{Held}
 use native.Mathlib.Nat.{mul_comm, mul-le-mul_left}
 use Rattle.numbers.proofs.Lists.{below_or, is_tabulate, get_d_tabulate, length_tabulate}
 use Rattle.reference.specs.Output.{low24, s24le}
-use Rattle.output.specs.Fills.{Fills, Layout, items, byte_layout, third, Put, place_of, Drawn, Room, written}
+use Rattle.output.specs.inner.Fills.{Fills, Layout, items, byte_layout, third, Put, place_of, Drawn, Room, written}
 
 same_or : (a b : ℕ) → (a ≡ b) ⊎ (a ≡ b → ⊥)
 same_or a b = ⊎_elim (λ l. inr (λ e. omega arith)) (λ m. ⊎_elim (λ e. inl (sym e)) (λ l. inr (λ e. omega arith)) (eq-or-lt_of_le m)) (below_or a b)

@@ -1,5 +1,5 @@
 -- Module 3, channel bytes: frames, a run with its neighbours, and the bytes of one channel by position.
-use Rattle.std.specs.Prelude.{Option, Some, None, List, ◌++◌, Bool, true, false, ℕ, ◌*◌, ◌+◌, ◌/◌, length, get_or, take, drop, replicate}
+use Rattle.std.specs.Prelude.{List, ◌++◌, Bool, true, false, ℕ, ◌*◌, ◌+◌, ◌/◌, length, get_or, take, drop, replicate}
 use Rattle.reference.specs.declared.Run.{Run as Record}
 
 -- bytes of a frame: of one channel, and of all
@@ -35,11 +35,6 @@ run hb b f ha a = record { has_before = hb; before = b; frames = f; has_after = 
 -- the run that a run record stands for
 abbrev pub run_of : Record → Run
 run_of d = run d.has_before d.before.now d.frames.now d.has_after d.after.now
-
--- bytes that need not be there
-unfoldable pub if_there : Bool → List ℕ → Option (List ℕ)
-if_there true bytes = Some bytes
-if_there false bytes = None
 
 -- a neighbour's frame: an absent one counts as one filled with the idle byte, and its slice is not read
 unfoldable pub neighbour : ℕ → Bool → List ℕ → List ℕ

@@ -6,7 +6,7 @@ use Rattle.reference.specs.declared.PcmRate.{PcmRate}
 use Rattle.reference.specs.declared.PcmRate.TheVariants.{Hz88200, Hz176400, Hz352800}
 use Rattle.reference.specs.declared.Cutoff.{Cutoff}
 use Rattle.reference.specs.declared.Cutoff.TheVariants.{Standard, Low, Wide}
-use Rattle.routes.specs.Routes.{LastFilter, FirstTables, RouteTaps}
+use Rattle.routes.specs.inner.Routes.{LastFilter, FirstTables, RouteTaps}
 
 pub first_prop : (cutoff : Cutoff) (tables : List ℤ) → IsProp (FirstTables cutoff tables)
 unfolding FirstTables

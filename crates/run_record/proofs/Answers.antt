@@ -21,9 +21,9 @@ use Rattle.reference.proofs.Refusals.{pass, decide_first, decide_skip, error_ref
 use Rattle.reference.proofs.Promises.{exit_accepted, exit_refused}
 use Rattle.reference.proofs.Limits.{rack_fits}
 use Rattle.numbers.specs.Lists.{tabulate}
-use Rattle.output.specs.Fills.{items, byte_layout, written}
+use Rattle.output.specs.inner.Fills.{items, byte_layout, written}
 use Rattle.output.proofs.Boxes.{written_items, written_bytes}
-use Rattle.run_record.specs.Calls.{AcceptedCall}
+use Rattle.run_record.specs.inner.Calls.{AcceptedCall}
 
 both : (ps qs : List Place) → decide (ps ++ qs) ≡ accepted → (decide ps ≡ accepted) × (decide qs ≡ accepted)
 both ps qs e = let h = decide_first ps qs e in (h, sym (decide_skip ps qs h) ∙ e)

@@ -16,16 +16,16 @@ use Rattle.reference.specs.Scaling.{scaled, clamp, clips}
 use Rattle.reference.specs.Output.{samples_per_frame, unclamped, sample, clipped, item, channel_samples, all_samples, samples, channel_clips, channel_extremes, channel_stats, stats, frame_clips}
 use Rattle.reference.specs.Statistics.{extremes_of}
 use Rattle.std.specs.Prelude.{None}
-use Rattle.output.specs.Fills.{Layout, written}
+use Rattle.output.specs.inner.Fills.{Layout, written}
 use Rattle.reference.specs.Refusals.{rack, accepted, decide, Datum, Place, if_present, one_long, run_length, input_places}
 use Rattle.reference.specs.declared.Converter.{Converter}
 use Rattle.reference.specs.declared.ConvertStats.{ConvertStats}
 use Rattle.reference.proofs.Refusals.{pass, some_channel, few_channels, supported, right, filtered, whole_frames, few_frames}
-use Rattle.channel_bytes.specs.Lent.{Lent, lent_run}
+use Rattle.channel_bytes.specs.inner.Lent.{Lent, lent_run}
 use Rattle.gain.proofs.Records.{right_bounded}
-use Rattle.runs.specs.Loops.{Ran}
-use Rattle.workspace.specs.Accepted.{Accepted}
-use Rattle.run_record.specs.Calls.{AcceptedCall, present}
+use Rattle.runs.specs.inner.Loops.{Ran}
+use Rattle.workspace.specs.inner.Accepted.{Accepted}
+use Rattle.run_record.specs.inner.Calls.{AcceptedCall, present}
 use Rattle.routes.proofs.Routes.{few_taps, low_pass, last_filter}
 
 -- ---- what depends on the sequence and the frames alone

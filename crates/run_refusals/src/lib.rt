@@ -7,7 +7,7 @@ ghost use Rattle.std.specs.Prelude.{◌≡◌, [], ◌∷◌, ◌*◌, ◌≤◌
 ghost use Rattle.reference.specs.Frames.{run_of, frame_count};
 ghost use Rattle.reference.specs.Output.{samples_per_frame};
 ghost use Rattle.reference.specs.Refusals as table;
-ghost use Rattle.run_refusals.specs.Lengths as lengths;
+ghost use Rattle.run_refusals.specs.inner.Lengths as lengths;
 ghost use Rattle.reference.specs.Refusals.{decision, decide, held_places, one_frame, too_many, input_places};
 
 use reference::{Converter, Length, Limit, MOST_FRAMES, PcmError, Run};
@@ -41,7 +41,7 @@ fn few(whose: Limit, count: usize) -> Result<(), PcmError>
 }
 
 // The length of a neighbour that is there, and is not as long as a frame.
-#[tactic(auto, unfolding(crate::specs::Lengths::wrong_length))]
+#[tactic(auto, unfolding(crate::specs::inner::Lengths::wrong_length))]
 fn wrong_length(neighbour: Option<&[u8]>, size: usize) -> Option<usize>
     ensures { result ≡ lengths.wrong_length size (option_copied neighbour.entry) }
 {

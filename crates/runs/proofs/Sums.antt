@@ -25,13 +25,13 @@ use Rattle.reference.specs.declared.ChannelStats.{ChannelStats}
 use Rattle.reference.proofs.Frames.{frame_samples}
 use Rattle.gain.specs.Tallies.{tally}
 use Rattle.gain.proofs.Tallies.{tally_none, tally_join, tally_clipped, tally_few}
-use Rattle.output.specs.Fills.{Layout, Drawn, Room, written}
+use Rattle.output.specs.inner.Fills.{Layout, Drawn, Room, written}
 use Rattle.output.proofs.Boxes.{no_rows, no_cols, rows, cols, all_samples}
-use Rattle.blocks.specs.Blocks.{Made}
-use Rattle.blocks.specs.Jobs.{job_run, in_run}
+use Rattle.blocks.specs.inner.Blocks.{Made}
+use Rattle.blocks.specs.inner.Jobs.{job_run, in_run}
 use Rattle.blocks.specs.declared.job.Job.{Job}
 use Rattle.blocks.proofs.Sums.{made_drawn, run_samples, ready_of}
-use Rattle.runs.specs.Loops.{channel_tally, Tallied, clips_below, Ran}
+use Rattle.runs.specs.inner.Loops.{channel_tally, Tallied, clips_below, Ran}
 
 -- ---- the channels' tallies
 

@@ -3,9 +3,9 @@
 
 ghost use Rattle.std.specs.Prelude.{◌≡◌, ◌+◌, ◌*◌, ◌≤◌, ◌<◌, ◌%◌, length};
 ghost use Rattle.reference.specs.Output.{sample};
-ghost use Rattle.output.specs.Fills.{Drawn, Room};
-ghost use Rattle.blocks.specs.Jobs.{job_run, in_frame, in_run};
-ghost use Rattle.runs.specs.Loops.{Tallied, clips_below, Ran};
+ghost use Rattle.output.specs.inner.Fills.{Drawn, Room};
+ghost use Rattle.blocks.specs.inner.Jobs.{job_run, in_frame, in_run};
+ghost use Rattle.runs.specs.inner.Loops.{Tallied, clips_below, Ran};
 
 use blocks::Job;
 use output::Place;

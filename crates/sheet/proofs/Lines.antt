@@ -9,7 +9,7 @@ use native.Mathlib.Nat.{zero-add, add-zero}
 use native.Mathlib.Numerals.{add-one}
 use Rattle.numbers.specs.Lists.{tabulate}
 use Rattle.text.specs.Text.{joined, with_text, printed}
-use Rattle.text.specs.Writing.{Prints}
+use Rattle.text.specs.inner.Writing.{Prints}
 use Rattle.text.specs.declared.putting.Text.{Text}
 use Rattle.text.proofs.Printing as printing
 use Rattle.text.proofs.Printing.{joined_last}

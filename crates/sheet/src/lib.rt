@@ -6,7 +6,7 @@ ghost use Rattle.numbers.specs.Lists.{tabulate};
 ghost use Rattle.reference.specs.Refusals.{decide, decision};
 ghost use Rattle.reference.specs.Statistics.{clip_sum, channel_of};
 ghost use Rattle.text.specs.Text.{joined, decimal};
-ghost use Rattle.text.specs.Writing.{Prints};
+ghost use Rattle.text.specs.inner.Writing.{Prints};
 ghost use Rattle.columns.specs.Columns.{line, too_wide};
 ghost use Rattle.sheet.specs.Sheet as sheets;
 ghost use Rattle.sheet.specs.Sheet.{channel_cells, numbered, channel_line, sum_line, sheet, some_below, sheet_too_wide};

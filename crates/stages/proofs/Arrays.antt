@@ -7,19 +7,19 @@ use lib.Dec.{lit<, lit≤}
 use lib.IntN.{ℤ, pos, nat_abs}
 use lib.ListN.{length, get_or}
 use Rattle.numbers.specs.Sums.{at0}
-use Rattle.numbers.specs.Lists.{Held}
-use Rattle.numbers.specs.Parts.{evens, odds, woven}
+use Rattle.numbers.specs.inner.Lists.{Held}
+use Rattle.numbers.specs.inner.Parts.{evens, odds, woven}
 use Rattle.reference.specs.Rounding.{R}
 use Rattle.reference.specs.Taps.{S1, S1_WIDE, HB}
 use Rattle.reference.specs.Stages.{M, fir, u, v}
 use Rattle.reference.proofs.Locality.{S1_length, S1_WIDE_length}
 use Rattle.reference.proofs.Sizes.{fir_size, u_S1_size, u_WIDE_size, v_size}
-use Rattle.lanes.specs.Lanes.{Small, Filled}
-use Rattle.filters.specs.Filters.{alone, odd_taps, half_rate, Fit}
+use Rattle.lanes.specs.inner.Lanes.{Small, Filled}
+use Rattle.filters.specs.inner.Filters.{alone, odd_taps, half_rate, Fit}
 use Rattle.filters.proofs.Signals.{held_small, half_fit, half_held, length_odd}
 use Rattle.filters.proofs.Tables.{halves_HB, absolute_HB}
 use Rattle.tables.specs.Tables.{ByteTables}
-use Rattle.first_stage.specs.Windows.{window_sum}
+use Rattle.first_stage.specs.inner.Windows.{window_sum}
 use Rattle.stages.proofs.First.{first_held}
 
 -- the same values of another signal, or by another count of places

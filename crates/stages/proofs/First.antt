@@ -6,11 +6,11 @@ use native.Mathlib.Omega.{arith}
 use lib.IntN.{ℤ, pos, ◌+ℤ◌, ◌*ℤ◌, +ℤ_idl, zero-*ℤ}
 use lib.ListN.{length, get_or, get_or-eq_default}
 use Rattle.numbers.specs.Sums.{sum_to, apart}
-use Rattle.numbers.specs.Lists.{Held}
+use Rattle.numbers.specs.inner.Lists.{Held}
 use Rattle.numbers.proofs.Sums.{sum_same, sum_head, sum_blocks}
 use Rattle.reference.specs.Stages.{tap, M, fir, bit, sign, entry, x, u}
 use Rattle.tables.specs.Tables.{ByteTables}
-use Rattle.first_stage.specs.Windows.{window_sum}
+use Rattle.first_stage.specs.inner.Windows.{window_sum}
 use Rattle.first_stage.proofs.Windows.{not_later}
 
 module _ (h : List ℤ) (half : ℕ) (long : length h ≡ 8 * half) (some : 0 < half) (β : ℕ → ℕ) (m : ℕ) (room : half ≤ m) where

@@ -10,17 +10,17 @@ use lib.ListN.{length, get_or, take, drop, replicate, length-take, length-replic
 use lib.Seq.{get_or-take, get_or-drop, get_or-append-add}
 use borrow.Rule.Slice.PartMut.{put_mid}
 use Rattle.numbers.specs.Sums.{at0}
-use Rattle.numbers.specs.Lists.{Held}
+use Rattle.numbers.specs.inner.Lists.{Held}
 use Rattle.numbers.proofs.Lists.{below_or, held_some}
 use Rattle.reference.specs.Rounding.{R}
 use Rattle.reference.specs.Stages.{M, fir}
 use Rattle.reference.proofs.Rounding.{R_size}
-use Rattle.reference.specs.Sizes.{absolute_sum}
+use Rattle.reference.specs.inner.Sizes.{absolute_sum}
 use Rattle.reference.proofs.Sizes.{fir_size}
-use Rattle.lanes.specs.Lanes.{Small, Filled}
-use Rattle.filters.specs.Filters.{same_rate, Fit}
+use Rattle.lanes.specs.inner.Lanes.{Small, Filled}
+use Rattle.filters.specs.inner.Filters.{same_rate, Fit}
 use Rattle.filters.proofs.Signals.{past}
-use Rattle.routes.specs.Routes.{LowPass}
+use Rattle.routes.specs.inner.Routes.{LowPass}
 use Rattle.routes.proofs.Arrays.{part_length, put_held}
 
 module _ {B : ℕ} where

@@ -1,11 +1,11 @@
 // The arrays of a channel's filters, kept from block to block.
 ghost use Rattle.std.specs.Prelude.{◌≡◌, ℕ, ◌+◌, ◌*◌, ◌-◌, ◌^◌, ◌≤◌, ℤ, pos, length, get_or, replicate};
-ghost use Rattle.numbers.specs.Lists.{Held};
+ghost use Rattle.numbers.specs.inner.Lists.{Held};
 ghost use Rattle.reference.specs.Taps.{S1, S1_WIDE};
 ghost use Rattle.reference.specs.Stages.{u, v};
 ghost use Rattle.tables.specs.Tables.{ByteTables};
-ghost use Rattle.lanes.specs.Lanes.{Small, Low};
-ghost use Rattle.band.specs.Bands.{odd_sizes};
+ghost use Rattle.lanes.specs.inner.Lanes.{Small, Low};
+ghost use Rattle.band.specs.inner.Bands.{odd_sizes};
 
 // x has what the last filter reads, v of Standard and Low, u of Wide; `kept` has the values of w that are woven at
 // 352,800. In front both keep their margin, the values before a block that its filters read. `odd` is scratch, and

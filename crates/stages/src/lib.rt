@@ -2,16 +2,16 @@
 #![tactic(auto)]
 
 ghost use Rattle.std.specs.Prelude.{◌≡◌, ℕ, ◌+◌, ◌-◌, ◌*◌, ◌^◌, ◌≤◌, ◌<◌, List, ℤ, pos, length, get_or};
-ghost use Rattle.numbers.specs.Lists.{Held};
-ghost use Rattle.numbers.specs.Parts.{woven};
+ghost use Rattle.numbers.specs.inner.Lists.{Held};
+ghost use Rattle.numbers.specs.inner.Parts.{woven};
 ghost use Rattle.reference.specs.Rounding.{R};
 ghost use Rattle.reference.specs.Taps.{S1};
 ghost use Rattle.reference.specs.Stages.{v};
 ghost use Rattle.tables.specs.Tables.{ByteTables};
-ghost use Rattle.lanes.specs.Lanes.{Small, Filled, Low};
-ghost use Rattle.filters.specs.Filters.{same_rate};
-ghost use Rattle.band.specs.Bands.{odd_sizes};
-ghost use Rattle.routes.specs.Routes.{HalvedFilter, halves_of};
+ghost use Rattle.lanes.specs.inner.Lanes.{Small, Filled, Low};
+ghost use Rattle.filters.specs.inner.Filters.{same_rate};
+ghost use Rattle.band.specs.inner.Bands.{odd_sizes};
+ghost use Rattle.routes.specs.inner.Routes.{HalvedFilter, halves_of};
 
 mod buffers;
 

@@ -2,7 +2,7 @@
 // it promises is said for its Ok alone.
 ghost use Rattle.std.specs.Prelude.{◌≡◌, [], ◌∷◌, ◌++◌, ◌+◌, ◌≤◌, ◌<◌, length};
 ghost use Rattle.text.specs.Text as texts;
-ghost use Rattle.text.specs.Writing.{Prints};
+ghost use Rattle.text.specs.inner.Writing.{Prints};
 
 // A lent slice, and the place from which the next text is put.
 #[derive(Drop)]

@@ -17,7 +17,8 @@ use Rattle.dsf.specs.Reading.{HeadOf, file_header}
 use Rattle.dsf.specs.declared.DsfHeader.{DsfHeader}
 use Rattle.dsf.proofs.Head.{header_right}
 use Rattle.dsf_columns.proofs.Blocks.{group, place_below}
-use Rattle.tracks.specs.Tracks.{Head, Track, head_of, track_of, heads, head_length, all_length, tracks_frames, tracks_bytes, track_byte, tracks_byte, tracks_frame}
+use Rattle.tracks.specs.Tracks.{Head, Track, head_of, track_of, heads, head_length, all_length, tracks_frames, tracks_bytes, tracks_frame}
+use Rattle.tracks.specs.inner.Tracks.{track_byte, tracks_byte}
 use Rattle.tracks.specs.Windows.{low, high, own_from, own_to, read_start, read_end, read_bytes, windowed_data, windowed, HeadsOf, WindowAt, WindowsFrom, WindowedPiece}
 use Rattle.tracks.proofs.Bytes.{Alike, bytes_by_position}
 use Rattle.tracks.proofs.Sequences.{run_same}

@@ -21,10 +21,10 @@ use Rattle.tracks.specs.TracksToFiles.{clip}
 use Rattle.tracks.proofs.Bytes.{Alike, length_track, length_tracks}
 use Rattle.tracks.proofs.Parts.{clip_none, clip_join, length_clip}
 use Rattle.tracks.proofs.Sequences.{none_from, from_one, from_join}
-use Rattle.tracks_put.specs.Putting.{stretch}
-use Rattle.tracks_put.specs.Placing.{with_track, with_fill}
+use Rattle.tracks_put.specs.inner.Putting.{stretch}
+use Rattle.tracks_put.specs.inner.Placing.{with_track, with_fill}
 use Rattle.tracks_put.proofs.Pieces.{with_none}
-use Rattle.tracks_gather.specs.Gathering.{with_tracks, fill_at}
+use Rattle.tracks_gather.specs.inner.Gathering.{with_tracks, fill_at}
 
 -- the first of a tabulated list, and those behind a place
 take_tabulate : (f : ℕ → ℕ) (m n : ℕ) → take m (tabulate f 0 n) ≡ tabulate f 0 (min n m)

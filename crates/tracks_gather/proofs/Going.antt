@@ -11,12 +11,12 @@ use Rattle.tracks.specs.Runs.{frames_from}
 use Rattle.tracks.specs.Tracks.{Head, Track, heads, head_length, all_length, head_at, heads_of, tracks_frame}
 use Rattle.tracks.specs.Windows.{read_start, read_bytes, windowed, windowed_data, windows_length}
 use Rattle.tracks.proofs.Bytes.{Alike}
-use Rattle.tracks_open.specs.Trying.{heads_from}
+use Rattle.tracks_open.specs.inner.Trying.{heads_from}
 use Rattle.tracks_open.proofs.Heads.{front, none_left}
 use Rattle.tracks_put.specs.declared.Span.{Span}
-use Rattle.tracks_put.specs.Placing.{with_fill}
+use Rattle.tracks_put.specs.inner.Placing.{with_fill}
 use Rattle.tracks_gather.specs.declared.Start.{Start}
-use Rattle.tracks_gather.specs.Gathering.{with_one, with_tracks, TakeArgs, TrackTaken, GatherArgs}
+use Rattle.tracks_gather.specs.inner.Gathering.{with_one, with_tracks, TakeArgs, TrackTaken, GatherArgs}
 use Rattle.tracks_gather.proofs.Frames.{gathered_frames}
 
 pub all_heads : (bytes lengths : List ℕ) → heads_from bytes lengths 0 ≡ heads_of bytes lengths

@@ -13,11 +13,11 @@ use Rattle.dsf_frames.specs.declared.FrameWindow.{FrameWindow}
 use Rattle.tracks.specs.Tracks.{Head, head_length, head_at}
 use Rattle.tracks.specs.Windows.{read_start, read_end, read_bytes, windowed_data}
 use Rattle.tracks_put.specs.declared.Span.{Span}
-use Rattle.tracks_put.specs.Placing.{track_from, track_to, with_track, TrackArgs}
-use Rattle.tracks_reads.specs.Reading.{ReadArgs, read_from, read_to}
+use Rattle.tracks_put.specs.inner.Placing.{track_from, track_to, with_track, TrackArgs}
+use Rattle.tracks_reads.specs.inner.Reading.{ReadArgs, read_from, read_to}
 use Rattle.tracks_reads.proofs.Stretches.{some_start, some_end, start_is, end_is}
 use Rattle.tracks_gather.specs.declared.Start.{Start}
-use Rattle.tracks_gather.specs.Gathering.{TakeArgs, TrackTaken}
+use Rattle.tracks_gather.specs.inner.Gathering.{TakeArgs, TrackTaken}
 
 -- ---- a window's data, out of the list of windows
 pub window_is : (start p : ℕ) (w : List ℕ) → window_data (drop p w) start ≡ windowed_data start p w

@@ -6,7 +6,7 @@ ghost use Rattle.reference.specs.Frames.{frame_bytes};
 ghost use Rattle.tracks.specs.Runs.{frames_from};
 ghost use Rattle.tracks.specs.Tracks.{head_at, heads_of, tracks_frame};
 ghost use Rattle.tracks.specs.Windows.{windowed};
-ghost use Rattle.tracks_gather.specs.Gathering.{TakeArgs, TrackTaken, GatherArgs};
+ghost use Rattle.tracks_gather.specs.inner.Gathering.{TakeArgs, TrackTaken, GatherArgs};
 
 use dsf::header_numbers;
 use dsf_columns::Stretch;

@@ -9,7 +9,7 @@ use Rattle.refusals.proofs.Steps.{stops}
 use Rattle.dsf.specs.Reading.{header_places}
 use Rattle.tracks.specs.Tracks.{Head, head_at, head_length, all_length, frames_of_bytes, next_places, rest_places, refused_from}
 use Rattle.tracks_open.proofs.Heads.{front}
-use Rattle.tracks_open.specs.Trying.{NextTried, heads_from, later_places, RestTried}
+use Rattle.tracks_open.specs.inner.Trying.{NextTried, heads_from, later_places, RestTried}
 
 abbrev pub flat : List (List Place) → List Place
 flat ps = flat_map (λ p. p) ps

@@ -14,8 +14,9 @@ use Rattle.dsf.specs.declared.DsfHeader.{DsfHeader}
 use Rattle.dsf.proofs.Accepted.{head_channels}
 use Rattle.tracks.specs.Tracks.{Head, head_at, heads_of, head_length, all_length, frames_of_bytes, settings_for, tracks_channels}
 use Rattle.tracks.specs.Tracks.{tracks_type, first_places, tracks_places, open_places, refused_from, refused_track}
-use Rattle.tracks_open.specs.Open.{numbers, album_of, OpenPromise}
-use Rattle.tracks_open.specs.Trying.{a_head, FirstTried, heads_from, later_places, RestTried}
+use Rattle.tracks_open.specs.Open.{numbers, album_of}
+use Rattle.tracks_open.specs.inner.Open.{OpenPromise}
+use Rattle.tracks_open.specs.inner.Trying.{a_head, FirstTried, heads_from, later_places, RestTried}
 use Rattle.tracks_open.specs.declared.Album.{Album}
 use Rattle.tracks_open.specs.declared.Refused.{Refused}
 use Rattle.tracks_open.proofs.Following.{flat}

@@ -14,7 +14,7 @@ use Rattle.dsf.specs.Reading.{OpenedPromise, header_places, file_header}
 use Rattle.dsf.specs.declared.DsfHeader.{DsfHeader}
 use Rattle.dsf.proofs.Accepted.{head_channels}
 use Rattle.tracks.specs.Tracks.{head_length, frames_of_bytes, too_long, first_places, next_places}
-use Rattle.tracks_open.specs.Trying.{a_head, opened_places, other_type, joined_places, FirstTried, NextTried}
+use Rattle.tracks_open.specs.inner.Trying.{a_head, opened_places, other_type, joined_places, FirstTried, NextTried}
 
 pub too_many_frames : (p f : ℕ) → f ≡ frames_of_bytes p → 540000 < f → error_decision (Frames f) ≡ decide (too_long p ∷ [])
 too_many_frames p f e h = rw e (sym (at_first _ _ (lt-ltb 540000 (frames_of_bytes p) (rw e at h))))

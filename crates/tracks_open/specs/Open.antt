@@ -1,12 +1,12 @@
--- What opening an album of tracks promises.
-use Rattle.std.specs.Prelude.{◌≡◌, Result, Ok, Err, IfOk, List, ℕ, ◌+◌, ◌-◌, ◌*◌, ◌/◌, ◌≤◌, length}
+-- An album's numbers, and what an answer decides.
+use Rattle.std.specs.Prelude.{◌≡◌, Result, Ok, Err, List, ℕ, ◌+◌, ◌-◌, ◌*◌, ◌/◌, ◌≤◌}
 use Rattle.reference.specs.Frames.{frame_bytes}
 use Rattle.reference.specs.Refusals.{Decision, accepted, error_decision, decide, most}
 use Rattle.reference.specs.declared.PcmRate.{PcmRate}
 use Rattle.reference.specs.declared.Settings.{Settings}
 use Rattle.reference.specs.declared.Limit.TheVariants as limit
 use Rattle.wav_format.specs.Wav.{frame_size}
-use Rattle.tracks.specs.Tracks.{Head, all_length, frames_of_bytes, tracks_channels, tracks_type, open_places, refused_track}
+use Rattle.tracks.specs.Tracks.{Head, all_length, frames_of_bytes, tracks_channels, tracks_type, open_places}
 use Rattle.tracks_open.specs.declared.Album.{Album}
 use Rattle.tracks_open.specs.declared.Refused.{Refused}
 
@@ -46,11 +46,6 @@ abbrev pub Names : {A : Type 0} → ℕ → Result A Refused → Type 0
 Names k (Ok a) = Unit {0}
 Names k (Err e) = e.track ≡ k
 
-pub record OpenPromise (hs : List Head) (s : Settings) (answer : Result Album Refused) : Type 0 where
-  pub decided : tracks_decision answer ≡ decide (open_places hs s)
-  pub named : Names (refused_track hs s) answer
-  pub album : IfOk answer (λ a. a ≡ album_of s.rate hs)
-
 -- ---- what an album has that is accepted
 
 pub record AlbumFits (a : Album) : Type 0 where
@@ -61,10 +56,3 @@ pub record AlbumFits (a : Album) : Type 0 where
 -- proved in proofs/Accepted, `album_fits`
 abbrev pub AcceptedFits : Type 0
 AcceptedFits = (hs : List Head) (s : Settings) → decide (open_places hs s) ≡ accepted → AlbumFits (album_of s.rate hs)
-
--- ---- what is asked: 92 bytes for each length, of 1 to 99 tracks
-
-pub record TracksArgs (heads lengths : List ℕ) : Type 0 where
-  pub sized : length heads ≡ 92 * length lengths
-  pub some : 1 ≤ length lengths
-  pub few : length lengths ≤ 99

@@ -7,8 +7,8 @@ ghost use Rattle.wav_format.specs.Wav as wav;
 ghost use Rattle.tracks.specs.Tracks as tracks;
 ghost use Rattle.tracks.specs.Tracks.{heads_of, head_at, head_length, settings_for, too_long};
 ghost use Rattle.tracks_open.specs.Open as albums;
-ghost use Rattle.tracks_open.specs.Open.{TracksArgs, OpenPromise};
-ghost use Rattle.tracks_open.specs.Trying.{a_head, opened_places, other_type, joined_places, FirstTried, NextTried, RestTried, NumbersArgs, most_bytes};
+ghost use Rattle.tracks_open.specs.inner.Open.{TracksArgs, OpenPromise};
+ghost use Rattle.tracks_open.specs.inner.Trying.{a_head, opened_places, other_type, joined_places, FirstTried, NextTried, RestTried, NumbersArgs, most_bytes};
 
 use dsf::{DsfHeader, number, read_header};
 use reference::{FRAME_BYTES, MOST_FRAMES, PcmError, PcmRate, Settings};

@@ -3,8 +3,8 @@ ghost use Rattle.std.specs.Prelude.{◌≡◌, [], ◌∷◌, ◌*◌, length};
 ghost use Rattle.reference.specs.Frames.{frame_bytes};
 ghost use Rattle.tracks.specs.Tracks.{heads_of};
 ghost use Rattle.tracks.specs.Windows.{low, high};
-ghost use Rattle.tracks_plan.specs.Reads.{ReadsPromise};
-ghost use Rattle.tracks_plan.specs.Asked.{BetweenArgs, ReadsArgs};
+ghost use Rattle.tracks_plan.specs.inner.Reads.{ReadsPromise};
+ghost use Rattle.tracks_plan.specs.inner.Asked.{BetweenArgs, ReadsArgs};
 
 use crate::cutting::last;
 use reference::FRAME_BYTES;

@@ -13,13 +13,13 @@ use Rattle.numbers.proofs.Lists.{below_or, length_tabulate, get_d_tabulate}
 use Rattle.text.specs.Text.{with_text}
 use Rattle.text.specs.Bytes.{Bytes}
 use Rattle.dsf.specs.Dsf.{data_place, sample_byte, turn_byte}
-use Rattle.dsf.specs.Orders.{bit_order}
+use Rattle.dsf.specs.inner.Orders.{bit_order}
 use Rattle.dsf_frames.specs.Reading.{window_data}
-use Rattle.dsf_columns.specs.Columns.{Strided, Ordering}
+use Rattle.dsf_columns.specs.inner.Columns.{Strided, Ordering}
 use Rattle.dsf_columns.proofs.Blocks.{quotient, remainder}
 use Rattle.dsf_columns.proofs.Turned.{ordered_is}
 use Rattle.tracks_put.specs.declared.Part.{Part}
-use Rattle.tracks_put.specs.Putting.{table_byte, stretch, Placed, PutArgs, ChannelArgs}
+use Rattle.tracks_put.specs.inner.Putting.{table_byte, stretch, Placed, PutArgs, ChannelArgs}
 
 -- ---- a list with a text in it, by its places
 pub is_with_text : (old new t : List ℕ) (a : ℕ) → a + length t ≤ length old → length new ≡ length old → ((j : ℕ) → j < a → get_or new j 0 ≡ get_or old j 0)

@@ -4,10 +4,10 @@
 ghost use Rattle.std.specs.Prelude.{◌≡◌, ◌-◌, ◌*◌, ◌≤◌, length};
 ghost use Rattle.text.specs.Text.{with_text};
 ghost use Rattle.text.specs.Bytes.{Bytes};
-ghost use Rattle.dsf_columns.specs.Columns.{Strided};
+ghost use Rattle.dsf_columns.specs.inner.Columns.{Strided};
 ghost use Rattle.dsf_frames.specs.Reading.{window_data};
-ghost use Rattle.tracks_put.specs.Putting.{table_byte, ChannelArgs, stretch, PutArgs};
-ghost use Rattle.tracks_put.specs.Placing.{with_track, with_fill, TrackArgs};
+ghost use Rattle.tracks_put.specs.inner.Putting.{table_byte, ChannelArgs, stretch, PutArgs};
+ghost use Rattle.tracks_put.specs.inner.Placing.{with_track, with_fill, TrackArgs};
 
 use dsf::DsfHeader;
 use dsf_columns::{Channel, Stretch, order_table, spread};

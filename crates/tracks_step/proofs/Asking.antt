@@ -11,14 +11,15 @@ use Rattle.refusals.proofs.Steps.{stops, goes_on}
 use Rattle.tracks.specs.Tracks.{Head, heads_of, tracks_channels, tracks_frames, open_places}
 use Rattle.tracks.specs.Windows.{low, windows_length}
 use Rattle.tracks.proofs.Opened.{is_opened, six_channels}
-use Rattle.tracks_open.specs.Open.{numbers, album_of, OpenPromise, TracksArgs}
+use Rattle.tracks_open.specs.Open.{numbers, album_of}
+use Rattle.tracks_open.specs.inner.Open.{OpenPromise, TracksArgs}
 use Rattle.tracks_open.specs.declared.Album.{Album}
 use Rattle.tracks_open.specs.declared.Refused.{Refused}
 use Rattle.tracks_open.proofs.Accepted.{accepted_few, none_refused}
 use Rattle.tracks_put.specs.declared.Span.{Span}
 use Rattle.tracks_step.specs.declared.Gathered.{Gathered}
 use Rattle.tracks_step.specs.Promises.{piece_places, frames_places}
-use Rattle.tracks_step.specs.Steps.{no_frames, lent_places, LentArgs, FitArgs, piece_span, Fitting, ReadyPromise}
+use Rattle.tracks_step.specs.inner.Steps.{no_frames, lent_places, LentArgs, FitArgs, piece_span, Fitting, ReadyPromise}
 
 module _ (frames first count : ℕ) where
   pub begins_past : frames < first → refused 5 (number first ∷ []) ≡ decide (no_frames frames first count ∷ [])

@@ -22,15 +22,16 @@ use Rattle.tracks.specs.Tracks.{Head, Track, heads_of, tracks_channels, tracks_f
 use Rattle.tracks.specs.Windows.{low, high, windowed, windowed_tracks}
 use Rattle.tracks.proofs.Opened.{Opened, is_opened, opens, some, six_channels}
 use Rattle.tracks.proofs.StepCalls.{accepted_call}
-use Rattle.tracks_open.specs.Open.{numbers, album_of, TracksArgs, AlbumFits}
+use Rattle.tracks_open.specs.Open.{numbers, album_of, AlbumFits}
+use Rattle.tracks_open.specs.inner.Open.{TracksArgs}
 use Rattle.tracks_open.specs.declared.Refused.{Refused}
 use Rattle.tracks_open.proofs.Accepted.{accepted_few, album_fits, none_refused}
-use Rattle.tracks_gather.specs.Gathering.{GatherArgs}
+use Rattle.tracks_gather.specs.inner.Gathering.{GatherArgs}
 use Rattle.tracks_gather.proofs.Going.{windowed_heads}
 use Rattle.tracks_step.specs.declared.Gathered.{Gathered}
 use Rattle.tracks_step.specs.Promises.{piece_windows, piece_places, frames_places, step_places, piece_frames, piece_run, FramesPromise, StepPromise}
-use Rattle.tracks_step.specs.Steps.{piece_span, ReadyPromise}
-use Rattle.tracks_step.specs.Slices.{sliced, SliceArgs, Converting}
+use Rattle.tracks_step.specs.inner.Steps.{piece_span, ReadyPromise}
+use Rattle.tracks_step.specs.inner.Slices.{sliced, SliceArgs, Converting}
 use Rattle.tracks_step.proofs.Slicing.{sliced_is, reaches}
 
 module _ (heads' lengths : List ℕ) (s : Settings) (first count : ℕ) (w scratch : List ℕ) where

@@ -4,8 +4,8 @@ ghost use Rattle.reference.specs.Refusals.{decision, decide, lent_length, most};
 ghost use Rattle.reference.specs.declared.Limit.TheVariants as limit;
 ghost use Rattle.tracks.specs.Tracks.{heads_of};
 ghost use Rattle.tracks.specs.Windows.{low};
-ghost use Rattle.tracks_open.specs.Open.{TracksArgs};
-ghost use Rattle.tracks_step.specs.Steps.{no_frames, lent_places, LentArgs, ReadyPromise, FitArgs, Fitting};
+ghost use Rattle.tracks_open.specs.inner.Open.{TracksArgs};
+ghost use Rattle.tracks_step.specs.inner.Steps.{no_frames, lent_places, LentArgs, ReadyPromise, FitArgs, Fitting};
 
 use crate::Gathered;
 use reference::{FRAME_BYTES, PcmError, Settings};

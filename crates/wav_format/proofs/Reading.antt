@@ -24,7 +24,7 @@ use Rattle.wav_header.proofs.ThreeParts.{length_header}
 use Rattle.wav_format.specs.Wav.{wav_file, frame_size, Right, Taken, right_data, is_file}
 use Rattle.wav_format.specs.Places.{at_rate, takes, read_places}
 use Rattle.wav_format.specs.Promises.{ReadPromise}
-use Rattle.wav_format.specs.Deciding.{rate_of_byte, channels_of}
+use Rattle.wav_format.specs.inner.Deciding.{rate_of_byte, channels_of}
 use Rattle.std.specs.Prelude.{Ok, Err}
 use Rattle.text.specs.Lists.{same}
 use Rattle.text.proofs.Same.{and_left, and_right, and_not, and_false, and_both, no_true, same_self, same_is}

@@ -10,7 +10,7 @@ use Rattle.reference.specs.Codes.{hertz}
 use Rattle.reference.specs.declared.PcmRate.{PcmRate}
 use Rattle.text.specs.Bytes.{bytes}
 use Rattle.wav_header.specs.Header.{fields, header}
-use Rattle.wav_header.specs.Parts.{riff, format_part, data_head}
+use Rattle.wav_header.specs.inner.Parts.{riff, format_part, data_head}
 
 pub length_header : (rate channels n : ℕ) → length (header rate channels n) ≡ 44
 unfolding header fields joined text bytes

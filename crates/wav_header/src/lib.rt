@@ -5,7 +5,7 @@ ghost use Rattle.std.specs.Prelude.{◌≡◌, ◌++◌, ◌+◌, ◌*◌, ◌�
 ghost use Rattle.reference.specs.Codes.{hertz};
 ghost use Rattle.wav_header.specs.Header as headers;
 ghost use Rattle.wav_header.specs.Header.{most_data};
-ghost use Rattle.wav_header.specs.Parts as parts;
+ghost use Rattle.wav_header.specs.inner.Parts as parts;
 
 use reference::PcmRate;
 

@@ -4,7 +4,7 @@ use mathlib.Core.List.{List, ◌++◌}
 use Prim.Native.Nat.{ℕ}
 use Rattle.text.specs.Text.{text, joined, with_text}
 use Rattle.text.specs.Bytes.{bytes}
-use Rattle.wav_header.specs.Parts as parts
+use Rattle.wav_header.specs.inner.Parts as parts
 use Rattle.wave_headers.specs.Headers.{riff_size, sample_count, elsewhere, riff_fields, rf64, samples_told, plain_format, extensible_format, data_fields, kind_fields, kind_header}
 use Rattle.wave_headers.specs.declared.HeaderKind.TheVariants.{Plain, Extensible, Rf64, Rf64Extensible}
 

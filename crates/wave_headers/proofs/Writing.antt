@@ -19,7 +19,7 @@ use Rattle.reference.proofs.Promises.{exit_accepted, exit_refused}
 use Rattle.wave_headers.specs.Speakers.{mask}
 use Rattle.wave_headers.specs.Headers.{header_length, riff_fields, rf64, samples_told, plain_format, extensible_format, data_fields, kind_fields, kind_header}
 use Rattle.wave_headers.specs.Choice.{kind_of, writable, kind_places}
-use Rattle.wave_headers.specs.Parts.{HeaderArgs}
+use Rattle.wave_headers.specs.inner.Parts.{HeaderArgs}
 use Rattle.wave_headers.specs.Promises.{headed, HeaderPromise}
 use Rattle.wave_headers.specs.declared.Format.{Format}
 use Rattle.wave_headers.specs.declared.HeaderKind.{HeaderKind}

@@ -4,7 +4,7 @@
 
 ghost use Rattle.std.specs.Prelude.{◌≡◌, ◌+◌, ◌*◌, ◌≤◌, length};
 ghost use Rattle.text.specs.Text.{joined};
-ghost use Rattle.text.specs.Writing.{Prints};
+ghost use Rattle.text.specs.inner.Writing.{Prints};
 ghost use Rattle.wave_headers.specs.Speakers as speakers;
 ghost use Rattle.wave_headers.specs.Headers as headers;
 ghost use Rattle.wave_headers.specs.Choice as choice;

@@ -1,10 +1,10 @@
 // The parts of a header, and the header of its parts.
 ghost use Rattle.std.specs.Prelude.{◌≡◌, true, ◌++◌, ◌+◌, ◌≤◌, length};
 ghost use Rattle.text.specs.Text.{joined, with_text};
-ghost use Rattle.wav_header.specs.Parts as parts;
+ghost use Rattle.wav_header.specs.inner.Parts as parts;
 ghost use Rattle.wave_headers.specs.Headers as headers;
 ghost use Rattle.wave_headers.specs.Choice.{holds, most_of_kind};
-ghost use Rattle.wave_headers.specs.Parts.{HeaderArgs};
+ghost use Rattle.wave_headers.specs.inner.Parts.{HeaderArgs};
 
 use crate::HeaderKind;
 use text::Text;

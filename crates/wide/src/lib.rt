@@ -4,12 +4,12 @@
 #![tactic(auto)]
 
 ghost use Rattle.std.specs.Prelude.{◌≡◌, ℕ, ◌+◌, ◌-◌, ◌*◌, ◌≤◌, pos, length};
-ghost use Rattle.numbers.specs.Lists.{Held};
+ghost use Rattle.numbers.specs.inner.Lists.{Held};
 ghost use Rattle.reference.specs.Taps.{S1_WIDE, F40, F80};
 ghost use Rattle.reference.specs.Stages.{u, y_wide};
 ghost use Rattle.reference.specs.declared.PcmRate.TheVariants.{Hz176400, Hz352800};
 ghost use Rattle.tables.specs.Tables.{ByteTables};
-ghost use Rattle.routes.specs.Routes.{halves_of};
+ghost use Rattle.routes.specs.inner.Routes.{halves_of};
 
 use stages::Buffers;
 

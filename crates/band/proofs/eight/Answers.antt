@@ -2,10 +2,10 @@
 -- them.
 use Rattle.std.proofs.Common.{rules, arith, ◌≡◌, ◌+◌, ◌-◌, ◌*◌, ◌^◌, ◌≤◌, ◌<◌, ℕ, List, true, false, get_or, refl, ◌∙◌}
 use Rattle.reference.specs.Taps.{HB}
-use Rattle.lanes.specs.Lanes.{raised, Lanes}
+use Rattle.lanes.specs.inner.Lanes.{raised, Lanes}
 use Rattle.lanes.proofs.Places.{added_then}
-use Rattle.filters.specs.Filters.{odd_taps}
-use Rattle.band.specs.Bands.{odd_sizes}
+use Rattle.filters.specs.inner.Filters.{odd_taps}
+use Rattle.band.specs.inner.Bands.{odd_sizes}
 use Rattle.band.proofs.Turns.{in_turn, size_fits, two_is, two_lanes, all_eight, four}
 use Rattle.band.proofs.eight.Goals as goal
 

@@ -1,5 +1,5 @@
 use Rattle.std.proofs.Common.{rules, arith, ◌^◌, pos, ap, ◌∙◌, length}
-use Rattle.lanes.specs.Lanes.{Filled}
+use Rattle.lanes.specs.inner.Lanes.{Filled}
 use Rattle.filters.proofs.Places.{filled_small, filled_again}
 use Rattle.band.proofs.Turns.{eight_sizes}
 use Rattle.band.proofs.Bands.{middle_whole, middle_rounded}

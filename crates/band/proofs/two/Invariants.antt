@@ -1,7 +1,7 @@
 use Rattle.std.proofs.Common.{◌≡◌, ◌+◌, ◌+ℤ◌, ◌*ℤ◌, length}
 use Rattle.numbers.specs.Sums.{at0}
-use Rattle.lanes.specs.Lanes.{raised, Written}
-use Rattle.band.specs.Bands.{signed}
+use Rattle.lanes.specs.inner.Lanes.{raised, Written}
+use Rattle.band.specs.inner.Bands.{signed}
 use Rattle.band.proofs.two.Given as goal
 
 abbrev pub invariant-loop-l : goal.invariant-loop-l

@@ -1,7 +1,7 @@
 use Rattle.std.proofs.Common.{sym, refl}
 use Rattle.codes.proofs.Known.{some_known}
 use Rattle.codes.proofs.Calls.{done_so, turned_away}
-use Rattle.c_converter.specs.Blocks.{as_converter, as_input}
+use Rattle.c_converter.specs.inner.Blocks.{as_converter, as_input}
 use Rattle.c_levels.specs.Calls.{lent}
 use Rattle.c_levels.proofs.Done.{not_presence, no_room, all_known, levels_done}
 use Rattle.c_levels.proofs.frame_levels.Goals as goal

@@ -1,9 +1,9 @@
 use Rattle.std.proofs.Common.{rules, arith, ◌≡◌, ◌+◌, ◌-◌, ◌*◌, ◌^◌, length, to_z, of_z, w64}
 use Rattle.numbers.specs.Sums.{at0}
 use Rattle.reference.specs.Stages.{tap}
-use Rattle.lanes.specs.Lanes.{Small}
-use Rattle.filters.specs.Filters.{half_rate, seconds}
-use Rattle.filters.specs.Lifts.{Raised}
+use Rattle.lanes.specs.inner.Lanes.{Small}
+use Rattle.filters.specs.inner.Filters.{half_rate, seconds}
+use Rattle.filters.specs.inner.Lifts.{Raised}
 use Rattle.filters.proofs.Bias.{half_sums, filled_sums, filled_round}
 use Rattle.lanes.proofs.Pairs.{raised_size, centre_size, arms_size}
 use Rattle.filters.proofs.Places.{filled_small, gained_small, length_seconds}

@@ -1,7 +1,7 @@
 use Rattle.std.proofs.Common.{rules, arith, ◌≡◌, ◌+◌, ◌-◌, ◌*◌, ◌^◌, length, to_z, of_z, w64}
 use Rattle.numbers.specs.Sums.{at0}
 use Rattle.reference.specs.Stages.{tap}
-use Rattle.filters.specs.Filters.{same_rate}
+use Rattle.filters.specs.inner.Filters.{same_rate}
 use Rattle.filters.proofs.Bias.{same_sums, filled_sums, filled_round}
 use Rattle.lanes.proofs.Pairs.{centre_size}
 use Rattle.filters.proofs.Places.{filled_small}

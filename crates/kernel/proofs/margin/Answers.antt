@@ -3,7 +3,7 @@ use mathlib.Core.Logic.{⊎_elim}
 use lib.Seq.{length-take-le}
 use Rattle.numbers.proofs.Lists.{held_some, held_none}
 use Rattle.reference.specs.declared.Cutoff.TheVariants.{Standard}
-use Rattle.routes.specs.Routes.{FirstTables, filter_input, stride, around, first_byte}
+use Rattle.routes.specs.inner.Routes.{FirstTables, filter_input, stride, around, first_byte}
 use Rattle.routes.proofs.Arrays.{held_at}
 use Rattle.kernel.proofs.Blocks.{Margined, front_held, either_tables}
 use Rattle.kernel.proofs.margin.Goals as goal

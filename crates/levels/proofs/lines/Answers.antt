@@ -5,7 +5,7 @@ use Rattle.text.specs.Text.{joined}
 use Rattle.level_lines.specs.Lines.{level_line}
 use Rattle.text.proofs.Printing.{none_printed, more}
 use Rattle.overs.specs.Overs.{none}
-use Rattle.channel_levels.specs.Channels.{level_of}
+use Rattle.channel_levels.specs.inner.Channels.{level_of}
 use Rattle.levels.proofs.States.{states_none, states_more}
 use Rattle.levels.proofs.lines.Goals as goal
 

@@ -1,4 +1,4 @@
-use Rattle.blocks.specs.Jobs.{job_run}
+use Rattle.blocks.specs.inner.Jobs.{job_run}
 use Rattle.runs.proofs.Sums.{Columns}
 use Rattle.runs.proofs.frame.Given as goal
 

@@ -2,7 +2,7 @@
 use Rattle.std.proofs.Common.{◌≡◌, List, ℕ, ℤ, ◌+◌, ◌-◌, ◌*◌, ◌<◌, length, ap, arith}
 use Rattle.reference.specs.Rounding.{R}
 use Rattle.reference.specs.Stages.{M}
-use Rattle.filters.specs.Filters.{even_taps, odd_taps, same_rate, half_rate, seconds}
+use Rattle.filters.specs.inner.Filters.{even_taps, odd_taps, same_rate, half_rate, seconds}
 use Rattle.filters.proofs.Places.{filled_as}
 use Rattle.filters.proofs.Signals.{split_halves, halves_phases}
 use Rattle.filters.proofs.Seconds.{decimated}

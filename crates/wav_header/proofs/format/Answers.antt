@@ -1,7 +1,7 @@
 use Rattle.std.proofs.Common.{refl, ◌∙◌}
 use Rattle.text.specs.Text.{text, joined}
 use Rattle.text.specs.Bytes.{bytes}
-use Rattle.wav_header.specs.Parts.{format_part}
+use Rattle.wav_header.specs.inner.Parts.{format_part}
 use Rattle.text.proofs.Bytes.{two_bytes, four_bytes}
 use Rattle.wav_header.proofs.format.Goals as goal
 

@@ -4,9 +4,10 @@ use borrow.Author.Tests.{ne_eqb}
 use Rattle.codes.proofs.Known.{some_known}
 use Rattle.codes.proofs.Calls.{both_hold, done_so}
 use Rattle.reference.specs.Frames.{Run}
-use Rattle.c_converter.specs.Blocks.{as_input, input_run, there_counts}
+use Rattle.c_converter.specs.Blocks.{input_run, there_counts}
+use Rattle.c_converter.specs.inner.Blocks.{as_input}
 use Rattle.c_stats.specs.Conversions.{results}
-use Rattle.c_calls.specs.Made.{BytesMade}
+use Rattle.c_calls.specs.inner.Made.{BytesMade}
 use Rattle.c_calls.proofs.Done.{bytes_done, any_unlent}
 use Rattle.c_calls.proofs.conversions.convert_bytes.Goals as goal
 use Rattle.c_calls.proofs.conversions.convert_bytes.Goals.{then-input-eq1, else-input-eq1}

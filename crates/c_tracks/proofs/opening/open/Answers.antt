@@ -2,7 +2,8 @@ use Rattle.std.proofs.Common.{◌≡◌, ◌+◌, length, eqb, true, sym, ap, �
 use borrow.Author.Tests.{eq-eqb}
 use Rattle.codes.proofs.Calls.{done_so, both_hold}
 use Rattle.codes.proofs.Known.{some_known}
-use Rattle.c_tracks.specs.Asked.{as_asked, asked_heads}
+use Rattle.c_tracks.specs.Asked.{asked_heads}
+use Rattle.c_tracks.specs.inner.Asked.{as_asked}
 use Rattle.c_tracks.specs.Calls.{outputs}
 use Rattle.c_tracks.proofs.Known.{lists_fit}
 use Rattle.c_tracks.proofs.Opened.{open_done}

@@ -1,7 +1,8 @@
 use Rattle.std.proofs.Common.{sym}
 use Rattle.codes.proofs.Calls.{done_so}
 use Rattle.codes.proofs.Known.{some_known}
-use Rattle.c_tracks.specs.Asked.{as_asked, asked_heads}
+use Rattle.c_tracks.specs.Asked.{asked_heads}
+use Rattle.c_tracks.specs.inner.Asked.{as_asked}
 use Rattle.c_tracks.proofs.Known.{lists_fit}
 use Rattle.c_tracks.proofs.Stepped.{frames_done}
 use Rattle.c_tracks.proofs.stepping.frames.Goals as goal

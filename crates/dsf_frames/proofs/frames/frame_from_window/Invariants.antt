@@ -1,5 +1,5 @@
 use Rattle.std.proofs.Common.{◌≡◌, ℕ, ◌+◌, ◌*◌, ◌/◌, ◌<◌, length, get_or, min}
-use Rattle.dsf_columns.specs.Columns.{column_byte}
+use Rattle.dsf_columns.specs.inner.Columns.{column_byte}
 use Rattle.dsf_frames.proofs.frames.frame_from_window.Given as goal
 
 abbrev pub invariant-loop-number : goal.invariant-loop-number

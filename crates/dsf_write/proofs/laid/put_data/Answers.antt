@@ -1,5 +1,5 @@
 use Rattle.std.proofs.Common.{◌≡◌, ◌+◌, ◌*◌, length, arith, refl, subst}
-use Rattle.numbers.specs.Lists.{Wrote}
+use Rattle.numbers.specs.inner.Lists.{Wrote}
 use Rattle.dsf_write.specs.Written.{written_byte}
 use Rattle.numbers.proofs.Lists.{wrote_none}
 use Rattle.dsf_write.proofs.Writing.{wrote_then, whole_blocks, block_args}

@@ -1,7 +1,7 @@
 use Rattle.std.proofs.Common.{refl, ap, ◌∙◌, take, drop}
 use Rattle.text.specs.Text.{text, joined}
 use Rattle.text.specs.Bytes.{bytes}
-use Rattle.wav_header.specs.Parts.{format_part}
+use Rattle.wav_header.specs.inner.Parts.{format_part}
 use Rattle.wave_headers.specs.Headers.{extensible_format, samples_told}
 use Rattle.text.proofs.Bytes.{four_bytes}
 use Rattle.wave_headers.proofs.parts.extensible_format.Goals as goal

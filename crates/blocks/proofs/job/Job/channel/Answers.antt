@@ -2,11 +2,11 @@ use Rattle.std.proofs.Common.{ℕ, true, ◌≡◌, ◌+◌, ◌*◌, ◌/◌, �
 use lib.Dec.{eqb}
 use lib.Seq.{length-take-le}
 use Rattle.reference.proofs.Frames.{frame_samples}
-use Rattle.routes.specs.Routes.{stride, first_byte, margin_from, block_length}
+use Rattle.routes.specs.inner.Routes.{stride, first_byte, margin_from, block_length}
 use Rattle.routes.proofs.Routes.{a_frame}
 use Rattle.numbers.proofs.Lists.{part_end}
 use Rattle.blocks.specs.declared.job.Job.{Job}
-use Rattle.blocks.specs.Jobs.{job_bytes, in_frame, in_run}
+use Rattle.blocks.specs.inner.Jobs.{job_bytes, in_frame, in_run}
 use Rattle.blocks.proofs.Places.{whole_blocks, some_taps, few_taps, margin_fits, block_fits}
 use Rattle.blocks.proofs.Sums.{run_few, even_frame, staged_begins, staged_gives, staged_near, blocks_none, blocks_more, front_of, at_end, ready_of}
 use Rattle.blocks.proofs.job.Job.channel.Goals as goal

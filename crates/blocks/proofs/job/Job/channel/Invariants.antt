@@ -1,5 +1,5 @@
 use Rattle.blocks.proofs.Sums.{Blocks}
-use Rattle.blocks.specs.Jobs.{job_run, job_bytes}
+use Rattle.blocks.specs.inner.Jobs.{job_run, job_bytes}
 use Rattle.blocks.proofs.job.Job.channel.Given as goal
 
 abbrev pub invariant-loop-b : goal.invariant-loop-b
