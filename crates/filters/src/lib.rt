@@ -47,14 +47,7 @@ pub fn fir1(y: &mut [i64], h: &[i64], x: &[i64], v: &mut [u64])
 // A filter at half the rate: its even taps over the places of x at an even distance from the centre, its odd ones over
 // the others. ve and vo are lent for the copies.
 #[inline(always)]
-pub fn dec2(
-    y: &mut [i64],
-    he: &[i64],
-    ho: &[i64],
-    x: &[i64],
-    ve: &mut [u64],
-    vo: &mut [u64],
-)
+pub fn dec2(y: &mut [i64], he: &[i64], ho: &[i64], x: &[i64], ve: &mut [u64], vo: &mut [u64])
     requires he_nonzero { (0 < length he.now) × (length he.now + length ho.now ≤ 117) × (length he.now ≤ length ho.now + 1) × (length ho.now ≤ length he.now) × (2 * (length y.old + length he.now + length ho.now) ≤ length x.now + 3) × (length x.now ≤ 400) }
     requires low { Low ve.old × Low vo.old × (200 ≤ length ve.old) × (200 ≤ length vo.old) × (length ve.old ≤ 512) × (length vo.old ≤ 512) }
     requires phases { Phases he.now ho.now }
