@@ -243,7 +243,7 @@ class RefusedAlbums(Case):
                 album.header(1)
             self.assertEqual(str(told.error), "refused 5: the album has no track 1: they are counted from 0")
             for number in (-1, 1):
-                with self.assertRaises(IndexError):
+                with self.assertRaisesRegex(IndexError, f"^the album has no track {number}: they are counted from 0$"):
                     album.track(number)
             with self.assertRaises(OverflowError):
                 album.piece(-1)
