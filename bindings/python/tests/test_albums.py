@@ -137,6 +137,8 @@ class Kinds(Case):
                         album.header(format="wav")
                     self.assertEqual(str(told.error), f"refused 12: {channels} channels: the WAV file takes one or two")
                 self.assertEqual(album.header(format="rf64").head[:4], b"RF64")
+                for wave in (head, album.header(format="rf64")):
+                    self.assertEqual(put_together(album, wave), wave.head + packed(flat(right)))
                 self.assertEqual(album.channel_type, {1: 1, 2: 2, 3: 3, 4: 4, 5: 6, 6: 7}[channels])
 
     def test_taps(self):
