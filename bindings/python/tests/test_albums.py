@@ -8,6 +8,7 @@ import struct
 import sys
 import threading
 import wave
+from unittest import mock
 
 from support import CUTOFFS, FRAME, Case, dsf, files, flat, generated, held, numpy, packed, rows, sound
 
@@ -350,6 +351,17 @@ class WholeOrNot(Case):
         with self.assertRaises(IsADirectoryError):
             self.album.write_wav(self.path, replace=True)
         self.assertEqual(os.listdir(self.path), ["c.dsf"])
+
+    def test_little_at_a_time(self):
+        """The system may read and write fewer bytes than it is asked to."""
+        read, write = os.preadv, os.pwrite
+        (self.path / "a.dsf").write_bytes(dsf(2, 3 * FRAME + 5))
+        with Album(self.path / "a.dsf") as album:
+            album.write_wav(self.path / "right.wav")
+        with mock.patch("os.preadv", lambda file, to, place: read(file, [to[0][:50]], place)), \
+                mock.patch("os.pwrite", lambda file, data, place: write(file, data[:50], place)), Album(self.path / "a.dsf") as album:
+            album.write_wav(self.path / "a.wav")
+        self.assertEqual((self.path / "a.wav").read_bytes(), (self.path / "right.wav").read_bytes())
 
     def test_python_reads_it(self):
         self.album.write_wav(self.path / "a.wav")
