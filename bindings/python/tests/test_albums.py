@@ -282,6 +282,11 @@ class RefusedAlbums(Case):
             os.close(write)
         (folder / "a.dsf").write_bytes(dsf(1, 9))
         before = len(os.listdir("/proc/self/fd"))
+        try:
+            Album([folder / "a.dsf", folder / "none.dsf"])
+            self.fail("a track that is not there")
+        except FileNotFoundError:  # which still holds what was opened
+            self.assertEqual(len(os.listdir("/proc/self/fd")), before)
         with self.refused(9):
             Album([folder / "a.dsf", b""])
         with Album(str(folder / "a.dsf")):
