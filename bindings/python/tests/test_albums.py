@@ -357,6 +357,14 @@ class WholeOrNot(Case):
             self.album.write_wav(self.path, replace=True)
         self.assertEqual(os.listdir(self.path), ["c.dsf"])
 
+    def test_formats(self):
+        names = [self.path / "a.wav", self.path / "b.wav"]
+        self.album.write_tracks(names, "rf64")
+        self.album.write_wav(self.path / "all.wav", "rf64")
+        for track, name in zip((0, 1, None), (*names, self.path / "all.wav")):
+            wave = self.album.header(track, "rf64")
+            self.assertEqual((name.read_bytes()[:len(wave.head)], name.stat().st_size), (wave.head, wave.length))
+
     def test_little_at_a_time(self):
         """The system may read and write fewer bytes than it is asked to."""
         read, write = os.preadv, os.pwrite
