@@ -92,6 +92,11 @@ class AsAProgram(Case):
         self.assertEqual(self.program("-a", "all.wav", "-g", "2", "a.dsf", "b.dsf"), (0, "", ""))
         for name in ("a", "b", "all"):
             self.assertEqual((self.path / f"{name}.wav").read_bytes(), (self.path / f"{name}1.wav").read_bytes())
+        (self.path / "b.wav").write_bytes(b"old")
+        self.assertEqual(self.program("-o", ".", "a.dsf", "b.dsf"), (4, "", "puigneht: ./a.wav is there already: -f replaces it\n"))
+        self.assertEqual((self.path / "b.wav").read_bytes(), b"old")
+        self.assertEqual(self.program("-f", "-o", ".", "-g", "2", "a.dsf", "b.dsf"), (0, "", ""))
+        self.assertEqual((self.path / "b.wav").read_bytes(), (self.path / "b1.wav").read_bytes())
 
     def test_faults(self):
         (self.path / "short.dsf").write_bytes((self.path / "a.dsf").read_bytes()[:-1])
