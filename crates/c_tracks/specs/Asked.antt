@@ -15,7 +15,7 @@ asked b h l = record { converter = b; heads = h; lengths = l }
 
 -- 1 to 99 tracks
 abbrev pub lists_match : List ℕ → List ℕ → Bool
-lists_match heads lengths = leb 1 (length lengths) && (leb (length lengths) 99 && eqb (length heads) (92 * length lengths))
+lists_match asked_heads lengths = leb 1 (length lengths) && (leb (length lengths) 99 && eqb (length asked_heads) (92 * length lengths))
 
 abbrev pub asked_known : Asked → Bool
 asked_known a = lists_match a.heads a.lengths && known_numbers a.converter.numbers

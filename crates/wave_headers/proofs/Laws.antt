@@ -200,7 +200,7 @@ decided true = refl
 decided false = refl
 
 pub wav_exactly : WavExactly
-unfolding header_places writable kind_of
+unfolding kind_places writable kind_of
 wav_exactly channels type m there =
     let n = m * (sample_bytes * channels) in
     ap (λ (b : Bool). decide (place (not b) 12 [] ∷ []))
