@@ -107,7 +107,7 @@ static int rename_alone(const char *name, const char *path) {
 
 bool name_new(struct made *m) {
     bool named = !rename_alone(m->name, m->path);
-    if (!named && errno != EEXIST) failed("name the output", m->path);
+    if (!named && (errno != EEXIST || ++m->tries == MOST_TRIES)) failed("name the output", m->path);
     if (!named) return false;
     m->taken = ALONE;
     m->there = 0;

@@ -15,6 +15,7 @@ struct made {
     int file;
     volatile sig_atomic_t there; /* it has its first name, and no other */
     enum taken taken;
+    unsigned tries; /* to take a name that something had */
 };
 
 /* Whether two paths name the same entry of the same folder. */
@@ -26,7 +27,8 @@ void make(struct made *m, const char *path);
 /* All is on the disk: a full disk that was not told before is told now. */
 void settle(struct made *m);
 
-/* The file takes the name that it is for: false where something has it, which stays so. */
+/* The file takes the name that it is for: false where something has it, which stays so. Tried time and again, it fails
+ * in the end. */
 bool name_new(struct made *m);
 
 /* It takes the name from what has it. */
