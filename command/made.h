@@ -15,7 +15,6 @@ struct made {
     int file;
     volatile sig_atomic_t there; /* it has its first name, and no other */
     enum taken taken;
-    unsigned tries; /* to take a name that something had */
 };
 
 /* Whether two paths name the same entry of the same folder. */
@@ -27,12 +26,14 @@ void make(struct made *m, const char *path);
 /* All is on the disk: a full disk that was not told before is told now. */
 void settle(struct made *m);
 
-/* The file takes the name that it is for: false where something has it, which stays so. Tried time and again, it fails
- * in the end. */
+/* The file takes the name that it is for: false where something has it, which stays so. */
 bool name_new(struct made *m);
 
-/* It takes the name from what has it. */
-void name_over(struct made *m);
+/* It takes the name from what has it: false where nothing has it any more. */
+bool name_over(struct made *m);
+
+/* The system does not name it: in its words. */
+_Noreturn void name_failed(const struct made *m);
 
 /* The folder's new entry is on the disk too, where its file system can be asked for that. */
 void settle_folder(const struct made *m);

@@ -103,6 +103,7 @@ class AsAProgram(Case):
         (self.path / "there.wav").write_bytes(b"old")
         length = (self.path / "a.dsf").stat().st_size
         before = sorted(p.name for p in self.path.iterdir())
+        held = [(self.path / name).read_bytes() for name in ("a.dsf", "b.dsf", "there.wav")]
         for words, status, said in [
                 (["a.dsf", "there.wav"], 4, "puigneht: there.wav is there already: -f replaces it"),
                 (["a.dsf", "short.dsf", "-a", "new.wav"], 3, f"puigneht: refused 11: the file says {length:,} bytes and has {length - 1:,}: an incomplete upload? (short.dsf)"),
@@ -110,6 +111,11 @@ class AsAProgram(Case):
                 (["none.dsf", "new.wav"], 1, "puigneht: [Errno 2] No such file or directory: 'none.dsf'"),
                 (["a.dsf", "none/new.wav"], 1, "puigneht: [Errno 2] No such file or directory: 'none/new.wav'"),
                 (["-f", "a.dsf", "a.dsf"], 2, "puigneht: a.dsf is a track of the album"),
+                (["-f", "a.dsf", "b.dsf"], 2, "puigneht: b.dsf is a DSF file, and none is replaced"),
+                (["-f", "-s", "a.dsf", "a.dsf", "new.wav"], 2, "puigneht: a.dsf is a DSF file, and none is replaced"),
+                (["-f", "-s", "./new.wav", "a.dsf", "new.wav"], 2, "puigneht: two files are to have one name"),
+                (["-s", "there.wav", "a.dsf", "new.wav"], 4, "puigneht: there.wav is there already: -f replaces it"),
+                (["-s", "none/sheet", "a.dsf", "new.wav"], 1, "puigneht: [Errno 2] No such file or directory: 'none/sheet'"),
                 (["a.dsf"], 2, None), (["a.dsf", "b.dsf", "new.wav"], 2, None), (["-r", "44100", "a.dsf", "new.wav"], 2, None),
                 (["-g", "25", "a.dsf", "new.wav"], 2, None), (["-g", "nan", "a.dsf", "new.wav"], 2, None), (["-j", "65", "a.dsf", "new.wav"], 2, None),
                 (["-j", "0", "a.dsf", "new.wav"], 2, None), (["-o", ".", "-a", "new.wav", "a.dsf"], 2, None)]:
@@ -118,6 +124,7 @@ class AsAProgram(Case):
             if said:
                 self.assertEqual(done[2], said + "\n")
             self.assertEqual(sorted(p.name for p in self.path.iterdir()), before)
+        self.assertEqual([(self.path / name).read_bytes() for name in ("a.dsf", "b.dsf", "there.wav")], held)
         self.assertEqual(self.program("-V"), (0, f"puigneht {puigneht.__version__}, library {puigneht.__version__}\n", ""))
 
 
