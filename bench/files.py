@@ -1,6 +1,7 @@
 """Times of ffmpeg and of the command, in turns, on one album. A row has the least of all rounds, and a mark where half of
 the rounds took a twentieth longer or more. For bench/files."""
 import os
+import shutil
 import subprocess
 import sys
 import time
@@ -15,6 +16,12 @@ def ffmpeg(rate):
 
 def ours(rate, jobs):
     return ["target/puigneht", "-f", "-r", str(rate), "-j", str(jobs), album, out]
+
+
+def wavpack():
+    """WavPack's own decimation, by 8, of the album packed before; unpacking is part of its time."""
+    subprocess.run(["wavpack", "-q", "-y", album, "-o", f"{folder}/album.wv"], check=True)
+    return ["wvunpack", "-q", "-y", "--wav", f"{folder}/album.wv", "-o", out]
 
 
 def timed(words):
@@ -33,6 +40,8 @@ print("| Rate | Program | CPU, s | of it the system's | Wall, s | Times real tim
 print("|---|---|---|---|---|---|---|---|")
 for rate in (88200, 176400, 352800):
     programs = [("ffmpeg", ffmpeg(rate)), ("ours, -j 1", ours(rate, 1)), ("ours, -j 2", ours(rate, 2))]
+    if rate == 352800 and shutil.which("wvunpack"):
+        programs.append(("wvunpack", wavpack()))
     taken = {name: [] for name, _ in programs}
     for _ in range(rounds):
         for name, words in programs:

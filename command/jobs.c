@@ -62,6 +62,22 @@ static void join_gave(struct gave *all, const struct gave *more) {
     if (more->differs < all->differs) all->differs = more->differs;
 }
 
+static void end_work(void) {
+    clear_progress();
+    end_jobs();
+}
+
+static _Noreturn void end_work_and_exit(int status) {
+    hold_signals();
+    end_work();
+    exit(status);
+}
+
+void end_jobs_with_run(void) {
+    catch_signals(end_work);
+    leave = end_work_and_exit;
+}
+
 /* ---- a job */
 
 /* It says itself what failed; its parent ends the run with its status. */

@@ -36,4 +36,7 @@ uint64_t hand_all(const struct album *album, make_handed *make, take_handed *tak
 /* Ends the processes. It may be called where a signal is handled. */
 void end_jobs(void);
 
+/* From then on a signal or a failure ends them, and clears the progress: for a run that makes no files. */
+void end_jobs_with_run(void);
+
 #endif

@@ -129,17 +129,6 @@ static void print_last(uint64_t frames, uint64_t clipped) {
     write_lines(line, puigneht_last_line(frames, clipped, line));
 }
 
-static void clean(void) {
-    clear_progress();
-    end_jobs();
-}
-
-static _Noreturn void clean_and_exit(int status) {
-    hold_signals();
-    clean();
-    exit(status);
-}
-
 int levels(const struct asked *a, const struct words *words) {
     static const struct sums stretches[] = {{.frames = 1}, {75, "second", 0, 0, {{0}}}, {4500, "minute", 0, 0, {{0}}}};
     struct asked asked = *a;
@@ -148,8 +137,7 @@ int levels(const struct asked *a, const struct words *words) {
     double began = seconds();
     take_tracks(&asked, words);
     check_standard_output();
-    catch_signals(clean);
-    leave = clean_and_exit;
+    end_jobs_with_run();
     open_inputs(&in, &asked);
     spare_inputs(&in);
     open_album(&album, &asked, &in);

@@ -105,21 +105,27 @@ static int rename_alone(const char *name, const char *path) {
     return errno == ENOENT ? rename(name, path) : -1;
 }
 
+void name_failed(const struct made *m) {
+    failed("name the output", m->path);
+}
+
 bool name_new(struct made *m) {
     bool named = !rename_alone(m->name, m->path);
-    if (!named && errno != EEXIST) failed("name the output", m->path);
+    if (!named && errno != EEXIST) name_failed(m);
     if (!named) return false;
     m->taken = ALONE;
     m->there = 0;
     return true;
 }
 
-void name_over(struct made *m) {
+bool name_over(struct made *m) {
     bool exchanged = !renameat2(AT_FDCWD, m->name, AT_FDCWD, m->path, RENAME_EXCHANGE);
-    if (!exchanged && !is_unknown()) failed("name the output", m->path);
-    if (!exchanged && rename(m->name, m->path)) failed("name the output", m->path);
+    if (!exchanged && errno == ENOENT) return false;
+    if (!exchanged && !is_unknown()) name_failed(m);
+    if (!exchanged && rename(m->name, m->path)) name_failed(m);
     m->taken = exchanged ? EXCHANGED : REPLACED;
     m->there = 0;
+    return true;
 }
 
 void settle_folder(const struct made *m) {

@@ -29,8 +29,11 @@ void settle(struct made *m);
 /* The file takes the name that it is for: false where something has it, which stays so. */
 bool name_new(struct made *m);
 
-/* It takes the name from what has it. */
-void name_over(struct made *m);
+/* It takes the name from what has it: false where nothing has it any more. */
+bool name_over(struct made *m);
+
+/* The system does not name it: in its words. */
+_Noreturn void name_failed(const struct made *m);
 
 /* The folder's new entry is on the disk too, where its file system can be asked for that. */
 void settle_folder(const struct made *m);

@@ -8,6 +8,9 @@
 #include "names.h"
 #include "places.h"
 
+/* A system that says that a file is there, and that none is, is asked no more often: signals wait meanwhile. */
+enum { MOST_LOOKS = 100 };
+
 bool has_sheet_file(const struct asked *a) {
     return a->sheet && strcmp(a->sheet, "-");
 }
@@ -78,21 +81,29 @@ void unmake_all(struct outputs *o) {
 
 /* ---- names */
 
-/* What came meanwhile is looked at as what was there before; passed over, the file that was made is not needed. */
+/* What came meanwhile is looked at as what was there before, and may be gone again by then; passed over, the file that
+ * was made is not needed. */
 static void name_one(struct output *o, const struct asked *a, const struct inputs *in) {
-    if (name_new(&o->made)) return;
-    if (look_again(o, a, in)) {
-        name_over(&o->made);
-    } else {
-        unmake(&o->made);
-        o->way = KEPT;
+    for (int looks = 0; !name_new(&o->made); looks++) {
+        if (looks == MOST_LOOKS) name_failed(&o->made);
+        if (!look_again(o, a, in)) {
+            unmake(&o->made);
+            o->way = KEPT;
+            return;
+        }
+        if (a->there == REPLACE && name_over(&o->made)) return;
     }
 }
 
 static void name_sheet(struct outputs *o, const struct asked *a, const struct inputs *in) {
-    if (name_new(&o->sheet)) return;
-    if (look_at_sheet_again(o, a, in)) name_over(&o->sheet);
-    else unmake(&o->sheet);
+    for (int looks = 0; !name_new(&o->sheet); looks++) {
+        if (looks == MOST_LOOKS) name_failed(&o->sheet);
+        if (!look_at_sheet_again(o, a, in)) {
+            unmake(&o->sheet);
+            return;
+        }
+        if (a->there == REPLACE && name_over(&o->sheet)) return;
+    }
 }
 
 /* The WAV files of tracks stand in one folder. */

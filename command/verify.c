@@ -18,17 +18,6 @@ static struct outputs outputs;
 static struct input wavs[MOST_TRACKS];
 static struct sound sounds[MOST_TRACKS];
 
-static void clean(void) {
-    clear_progress();
-    end_jobs();
-}
-
-static _Noreturn void clean_and_exit(int status) {
-    hold_signals();
-    clean();
-    exit(status);
-}
-
 /* ---- the WAV files */
 
 static void open_wavs(void) {
@@ -139,8 +128,7 @@ int verify(const struct asked *asked, const struct words *words) {
     struct inputs in;
     double began = seconds();
     take_files(&a, words);
-    catch_signals(clean);
-    leave = clean_and_exit;
+    end_jobs_with_run();
     begin(&album, &a, &in);
     check_standard_output();
     begin_progress(album_name(&a).name, album.opened.numbers.frames);

@@ -3,13 +3,15 @@
 from __future__ import annotations
 
 import argparse
+import contextlib
 import os
 import sys
 from typing import Sequence
 
 from . import Album, Refused, Stats, __version__, library_version
-from ._converter import CUTOFFS, RATES
 from ._album import FORMATS
+from ._converter import CUTOFFS, RATES
+from ._made import Made, name_all
 
 DONE, SYSTEM, USAGE, REFUSED, IS_THERE = 0, 1, 2, 3, 4
 
@@ -46,20 +48,39 @@ def _said(done: int, of: int) -> None:
     print(f"\r{100 * done // of} %", end="\n" if done == of else "", file=sys.stderr, flush=True)
 
 
+def _names(asked: argparse.Namespace) -> list[str]:
+    if asked.folder is None:
+        return [asked.album]
+    return [os.path.join(asked.folder, _wav_name(track)) for track in asked.words]
+
+
 def _converted(asked: argparse.Namespace, album: Album) -> Stats:
-    progress = _said if asked.progress else None
+    progress, names = _said if asked.progress else None, _names(asked)
     if asked.folder is not None:
-        names = [os.path.join(asked.folder, _wav_name(track)) for track in asked.words]
         return album.write_tracks(names, asked.format, asked.force, asked.jobs, progress)
-    return album.write_wav(asked.album, asked.format, asked.force, asked.jobs, progress)
+    return album.write_wav(names[0], asked.format, asked.force, asked.jobs, progress)
 
 
-def _write_sheet(text: str, path: str, force: bool) -> None:
-    if path == "-":
-        print(text, end="")
-        return
-    with open(path, "w" if force else "x", encoding="ascii") as file:
-        file.write(text)
+def _sheet_file(asked: argparse.Namespace) -> Made | None:
+    """Begun before the conversion, so that what it would be refused for is said before."""
+    if asked.sheet is None or asked.sheet == "-":
+        return None
+    if os.path.realpath(asked.sheet) in map(os.path.realpath, _names(asked)):
+        raise ValueError("two files are to have one name")
+    return Made(asked.sheet, asked.force)
+
+
+def _write_all(asked: argparse.Namespace, album: Album) -> None:
+    with contextlib.ExitStack() as stack:
+        sheet = _sheet_file(asked)
+        if sheet is not None:
+            stack.callback(sheet.drop)
+        stats = _converted(asked, album)
+        if asked.sheet == "-":
+            print(stats.sheet(album.channels), end="")
+        if sheet is not None:
+            sheet.write(stats.sheet(album.channels).encode("ascii"), 0)
+            name_all([sheet])
 
 
 def _understood(words: Sequence[str] | None) -> argparse.Namespace:
@@ -82,9 +103,7 @@ def main(words: Sequence[str] | None = None) -> int:
     asked = _understood(words)
     try:
         with Album(asked.words, asked.rate, asked.cutoff, asked.gain) as album:
-            stats = _converted(asked, album)
-            if asked.sheet is not None:
-                _write_sheet(stats.sheet(album.channels), asked.sheet, asked.force)
+            _write_all(asked, album)
     except Refused as e:
         print(f"puigneht: {e} ({asked.words[e.track]})", file=sys.stderr)
         return REFUSED if e.number != 254 else SYSTEM

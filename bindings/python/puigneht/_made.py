@@ -10,13 +10,22 @@ from typing import Sequence
 from ._kinds import Path
 
 
+def _is_dsf(path: str) -> bool:
+    if not os.path.isfile(path):
+        return False
+    with open(path, "rb") as file:
+        return file.read(4) == b"DSD "
+
+
 class Made:
-    """A file that is being made."""
+    """A file that is being made. One that is there is replaced where that is asked for, and a DSF file never."""
 
     def __init__(self, path: Path, replace: bool) -> None:
         self.path, self.replace = os.fspath(path), replace
         if not replace and os.path.lexists(self.path):
             raise FileExistsError(errno.EEXIST, os.strerror(errno.EEXIST), self.path)
+        if _is_dsf(self.path):
+            raise ValueError(f"{self.path} is a DSF file, and none is replaced")
         self.beside = os.path.join(os.path.dirname(self.path), f".puigneht-{secrets.token_hex(8)}.part")
         try:
             self._file = os.open(self.beside, os.O_RDWR | os.O_CREAT | os.O_EXCL | os.O_CLOEXEC, 0o666)

@@ -1,4 +1,5 @@
 """What the tests share: stored answers, which come from outside this code, and files laid out by command/files.py."""
+import faulthandler
 import os
 import pathlib
 import random
@@ -105,6 +106,14 @@ def dsf(channels, count, seed=1, bits=1, metadata=0, loud=False):
 
 
 class Case(unittest.TestCase):
+    def run(self, result=None):
+        """A test that takes two minutes ends all of them: what never ends is wrong, too."""
+        faulthandler.dump_traceback_later(120, exit=True)
+        try:
+            return super().run(result)
+        finally:
+            faulthandler.cancel_dump_traceback_later()
+
     def folder(self):
         """A folder that is gone after the test."""
         made = tempfile.TemporaryDirectory()

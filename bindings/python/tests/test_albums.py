@@ -8,6 +8,7 @@ import struct
 import sys
 import threading
 import wave
+from unittest import mock
 
 from support import CUTOFFS, FRAME, Case, dsf, files, flat, generated, held, numpy, packed, rows, sound
 
@@ -137,6 +138,8 @@ class Kinds(Case):
                         album.header(format="wav")
                     self.assertEqual(str(told.error), f"refused 12: {channels} channels: the WAV file takes one or two")
                 self.assertEqual(album.header(format="rf64").head[:4], b"RF64")
+                for wave in (head, album.header(format="rf64")):
+                    self.assertEqual(put_together(album, wave), wave.head + packed(flat(right)))
                 self.assertEqual(album.channel_type, {1: 1, 2: 2, 3: 3, 4: 4, 5: 6, 6: 7}[channels])
 
     def test_taps(self):
@@ -243,7 +246,7 @@ class RefusedAlbums(Case):
                 album.header(1)
             self.assertEqual(str(told.error), "refused 5: the album has no track 1: they are counted from 0")
             for number in (-1, 1):
-                with self.assertRaises(IndexError):
+                with self.assertRaisesRegex(IndexError, f"^the album has no track {number}: they are counted from 0$"):
                     album.track(number)
             with self.assertRaises(OverflowError):
                 album.piece(-1)
@@ -279,6 +282,11 @@ class RefusedAlbums(Case):
             os.close(write)
         (folder / "a.dsf").write_bytes(dsf(1, 9))
         before = len(os.listdir("/proc/self/fd"))
+        try:
+            Album([folder / "a.dsf", folder / "none.dsf"])
+            self.fail("a track that is not there")
+        except FileNotFoundError:  # which still holds what was opened
+            self.assertEqual(len(os.listdir("/proc/self/fd")), before)
         with self.refused(9):
             Album([folder / "a.dsf", b""])
         with Album(str(folder / "a.dsf")):
@@ -348,6 +356,25 @@ class WholeOrNot(Case):
         with self.assertRaises(IsADirectoryError):
             self.album.write_wav(self.path, replace=True)
         self.assertEqual(os.listdir(self.path), ["c.dsf"])
+
+    def test_formats(self):
+        names = [self.path / "a.wav", self.path / "b.wav"]
+        self.album.write_tracks(names, "rf64")
+        self.album.write_wav(self.path / "all.wav", "rf64")
+        for track, name in zip((0, 1, None), (*names, self.path / "all.wav")):
+            wave = self.album.header(track, "rf64")
+            self.assertEqual((name.read_bytes()[:len(wave.head)], name.stat().st_size), (wave.head, wave.length))
+
+    def test_little_at_a_time(self):
+        """The system may read and write fewer bytes than it is asked to."""
+        read, write = os.preadv, os.pwrite
+        (self.path / "a.dsf").write_bytes(dsf(2, 3 * FRAME + 5))
+        with Album(self.path / "a.dsf") as album:
+            album.write_wav(self.path / "right.wav")
+        with mock.patch("os.preadv", lambda file, to, place: read(file, [to[0][:50]], place)), \
+                mock.patch("os.pwrite", lambda file, data, place: write(file, data[:50], place)), Album(self.path / "a.dsf") as album:
+            album.write_wav(self.path / "a.wav")
+        self.assertEqual((self.path / "a.wav").read_bytes(), (self.path / "right.wav").read_bytes())
 
     def test_python_reads_it(self):
         self.album.write_wav(self.path / "a.wav")

@@ -136,8 +136,10 @@ class Figures(Case):
         c = Converter.open(176400, "low", 3, -1.5)
         self.assertEqual((c.rate, c.cutoff, c.channels, c.decibels, c.taps), (176400, "low", 3, -1.5, None))
         self.assertEqual((c.samples_per_frame, c.frame_bytes), (2352, 3 * 4704))
+        before = c._record
         c.change(cutoff="wide")
         self.assertEqual((c.rate, c.cutoff, c.channels, c.decibels), (176400, "wide", 3, -1.5))
+        self.assertEqual(before.numbers.cutoff, 1, "what a conversion may be reading is not written")
         c.change(rate=352800)
         c.change(decibels=2)
         self.assertEqual((c.rate, c.cutoff, c.decibels), (352800, "wide", 2.0))

@@ -1,5 +1,6 @@
 """The wrapper's records and calls beside include/puigneht.h and include/puigneht/album.h, and its types."""
 import ctypes
+import pathlib
 import re
 
 from support import ROOT, Case
@@ -7,6 +8,7 @@ from support import ROOT, Case
 import puigneht
 from puigneht import _album, _calls, dsf, wav
 
+PACKAGE = pathlib.Path(puigneht.__file__).resolve().parent.parent
 TEXT = "\n".join((ROOT / "include" / name).read_text(encoding="utf-8") for name in ("puigneht.h", "puigneht/album.h"))
 BARE = re.sub(r"/\*.*?\*/", "", TEXT, flags=re.S)
 RECORDS = {"numbers": _calls.Numbers, "gain_record": _calls.Gain, "stats": _calls.Stats, "dsf": _calls.Dsf, "stretch": _calls.Stretch,
@@ -82,8 +84,11 @@ class Headers(Case):
         self.assertEqual(wav.MOST_DATA, int(re.search(r"PUIGNEHT_WAV_MOST_DATA UINT32_C\((\d+)\)", BARE)[1]))
 
     def test_version(self):
-        self.assertEqual(puigneht.__version__, re.search(r'PUIGNEHT_VERSION "(.*?)"', TEXT)[1])
-        self.assertEqual(puigneht.library_version, puigneht.__version__)
+        """The header's, which _calls.py repeats; the wheel and pyproject.toml have none of their own."""
+        right = re.search(r'PUIGNEHT_VERSION "(.*?)"', TEXT)[1]
+        self.assertEqual((puigneht.__version__, puigneht.library_version), (right, right))
+        project = (PACKAGE / "pyproject.toml").read_text(encoding="utf-8")
+        self.assertEqual(re.findall(r"^.*\bversion\b.*$", project, re.M), ['dynamic = ["version"]'])
 
     def test_names(self):
         for name in puigneht.__all__:

@@ -92,12 +92,18 @@ class AsAProgram(Case):
         self.assertEqual(self.program("-a", "all.wav", "-g", "2", "a.dsf", "b.dsf"), (0, "", ""))
         for name in ("a", "b", "all"):
             self.assertEqual((self.path / f"{name}.wav").read_bytes(), (self.path / f"{name}1.wav").read_bytes())
+        (self.path / "b.wav").write_bytes(b"old")
+        self.assertEqual(self.program("-o", ".", "a.dsf", "b.dsf"), (4, "", "puigneht: ./a.wav is there already: -f replaces it\n"))
+        self.assertEqual((self.path / "b.wav").read_bytes(), b"old")
+        self.assertEqual(self.program("-f", "-o", ".", "-g", "2", "a.dsf", "b.dsf"), (0, "", ""))
+        self.assertEqual((self.path / "b.wav").read_bytes(), (self.path / "b1.wav").read_bytes())
 
     def test_faults(self):
         (self.path / "short.dsf").write_bytes((self.path / "a.dsf").read_bytes()[:-1])
         (self.path / "there.wav").write_bytes(b"old")
         length = (self.path / "a.dsf").stat().st_size
         before = sorted(p.name for p in self.path.iterdir())
+        held = [(self.path / name).read_bytes() for name in ("a.dsf", "b.dsf", "there.wav")]
         for words, status, said in [
                 (["a.dsf", "there.wav"], 4, "puigneht: there.wav is there already: -f replaces it"),
                 (["a.dsf", "short.dsf", "-a", "new.wav"], 3, f"puigneht: refused 11: the file says {length:,} bytes and has {length - 1:,}: an incomplete upload? (short.dsf)"),
@@ -105,6 +111,11 @@ class AsAProgram(Case):
                 (["none.dsf", "new.wav"], 1, "puigneht: [Errno 2] No such file or directory: 'none.dsf'"),
                 (["a.dsf", "none/new.wav"], 1, "puigneht: [Errno 2] No such file or directory: 'none/new.wav'"),
                 (["-f", "a.dsf", "a.dsf"], 2, "puigneht: a.dsf is a track of the album"),
+                (["-f", "a.dsf", "b.dsf"], 2, "puigneht: b.dsf is a DSF file, and none is replaced"),
+                (["-f", "-s", "a.dsf", "a.dsf", "new.wav"], 2, "puigneht: a.dsf is a DSF file, and none is replaced"),
+                (["-f", "-s", "./new.wav", "a.dsf", "new.wav"], 2, "puigneht: two files are to have one name"),
+                (["-s", "there.wav", "a.dsf", "new.wav"], 4, "puigneht: there.wav is there already: -f replaces it"),
+                (["-s", "none/sheet", "a.dsf", "new.wav"], 1, "puigneht: [Errno 2] No such file or directory: 'none/sheet'"),
                 (["a.dsf"], 2, None), (["a.dsf", "b.dsf", "new.wav"], 2, None), (["-r", "44100", "a.dsf", "new.wav"], 2, None),
                 (["-g", "25", "a.dsf", "new.wav"], 2, None), (["-g", "nan", "a.dsf", "new.wav"], 2, None), (["-j", "65", "a.dsf", "new.wav"], 2, None),
                 (["-j", "0", "a.dsf", "new.wav"], 2, None), (["-o", ".", "-a", "new.wav", "a.dsf"], 2, None)]:
@@ -113,6 +124,7 @@ class AsAProgram(Case):
             if said:
                 self.assertEqual(done[2], said + "\n")
             self.assertEqual(sorted(p.name for p in self.path.iterdir()), before)
+        self.assertEqual([(self.path / name).read_bytes() for name in ("a.dsf", "b.dsf", "there.wav")], held)
         self.assertEqual(self.program("-V"), (0, f"puigneht {puigneht.__version__}, library {puigneht.__version__}\n", ""))
 
 
@@ -122,8 +134,8 @@ class Lines(Case):
         be.
         """
         blocks = [re.findall(r"```python\n(.*?)```", path.read_text(encoding="utf-8"), re.S) for path in (HERE / "README.md", ROOT / "README.md")]
-        self.assertEqual(blocks[1][:1] or blocks[0][:1], blocks[0][:1])
-        lines = blocks[0][0]
+        self.assertEqual(*blocks)
+        lines, = blocks[0]
         self.assertLessEqual(len(lines.splitlines()), 10)
         path = self.folder()
         (path / "album.dsf").write_bytes(dsf(2, 3 * FRAME + 3, 7, loud=True))
@@ -162,6 +174,7 @@ class Wheel(Case):
             self.assertEqual([row.split(",")[0] for row in record.splitlines()], names)
             for needed in ("puigneht/py.typed", "puigneht/libpuigneht.so", "puigneht/__main__.py", f"puigneht-{puigneht.__version__}.dist-info/METADATA"):
                 self.assertIn(needed, names)
+            self.assertEqual(wheel.read(f"puigneht-{puigneht.__version__}.dist-info/NOTICE"), (ROOT / "NOTICE").read_bytes())
             wheel.extractall(path / "site")
         env = {key: value for key, value in os.environ.items() if key not in ("PUIGNEHT_LIBRARY", "PYTHONPATH")}
         done = ran(sys.executable, "-m", "puigneht", "a.dsf", "a.wav", cwd=path, env={**env, "PYTHONPATH": str(path / "site")})

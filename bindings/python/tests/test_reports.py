@@ -63,6 +63,8 @@ class Statistics(Case):
             self.assertNotEqual(again, stats)
         self.assertEqual((Stats() == 5, Stats() != Stats(), repr(Stats())), (False, False, "<Stats: of no samples>"))
         self.assertEqual(repr(stats), f"<Stats: 1176 clipped, {stats.lowest[0]} to {stats.highest[0]}>")
+        for number in range(24):  # each of them counts
+            self.assertNotEqual(stats_of([k == number for k in range(24)]), stats_of([0] * 24))
         with self.assertRaises(TypeError):
             hash(stats)
 

@@ -105,9 +105,8 @@ fn lines() {
     assert_eq!(album.as_bytes(), held("bindings/rust/examples/album.rs"));
     assert!(lines.lines().count() <= 10);
     let readme = String::from_utf8(held("README.md")).unwrap();
-    if let Some((_, theirs)) = readme.split_once("```rust\n") {
-        assert_eq!(theirs.split_once("```").unwrap().0, lines);
-    }
+    let (_, theirs) = readme.split_once("```rust\n").expect("README has lines in Rust");
+    assert_eq!(theirs.split_once("```").unwrap().0, lines);
     let folder = Folder::new();
     folder.put("album.dsf", &laid_out(&vec![sound(4, 200 * 4704 + 3); 2], 1, 0));
     let sheet = ran(&example("convert"), &folder.0, &[]);

@@ -9,7 +9,6 @@ mod pattern;
 
 use answers::{Input, RATES, Settings, original, port};
 use pattern::{FRAME, bytes};
-use std::time::Instant;
 
 const NAMES: [&str; 3] = ["standard", "low", "wide"];
 
@@ -20,19 +19,47 @@ fn scalar(s: Settings) -> scarletbook_pcm_scalar::Converter {
     Converter::new(config.with_gain(Gain::from_db(s.db).unwrap())).unwrap()
 }
 
+#[repr(C)]
+struct Time {
+    seconds: i64,
+    nanoseconds: i64,
+}
+
+unsafe extern "C" {
+    fn clock_gettime(clock: i32, time: *mut Time) -> i32;
+}
+
+// CLOCK_THREAD_CPUTIME_ID of Linux: what else runs takes none of it.
+const THREAD: i32 = 3;
+
+fn now() -> f64 {
+    let mut time = Time { seconds: 0, nanoseconds: 0 };
+    assert_eq!(unsafe { clock_gettime(THREAD, &mut time) }, 0);
+    time.seconds as f64 + 1e-9 * time.nanoseconds as f64
+}
+
 fn timed(work: &mut dyn FnMut()) -> f64 {
-    let start = Instant::now();
+    let start = now();
     work();
-    start.elapsed().as_secs_f64()
+    now() - start
 }
 
-fn median(mut times: Vec<f64>) -> f64 {
-    times.sort_by(f64::total_cmp);
-    times[times.len() / 2]
+fn median(mut numbers: Vec<f64>) -> f64 {
+    numbers.sort_by(f64::total_cmp);
+    numbers[numbers.len() / 2]
 }
 
-// Median seconds of port, original as detected, and its scalar path, over rounds in turns.
-fn medians(s: Settings, n: usize, rounds: usize) -> [f64; 3] {
+fn least(times: &[f64]) -> f64 {
+    times.iter().copied().fold(f64::INFINITY, f64::min)
+}
+
+// The middle one of the rounds' ratios.
+fn ratio(a: &[f64], b: &[f64]) -> f64 {
+    median(a.iter().zip(b).map(|(a, b)| a / b).collect())
+}
+
+// Seconds of port, original as detected, and its scalar path, of rounds in turns.
+fn rounds_of(s: Settings, n: usize, rounds: usize) -> [Vec<f64>; 3] {
     let channels = usize::from(s.channels);
     let frames = bytes(0, 5, channels, n);
     let items = n * [1176, 2352, 4704][s.rate] * channels;
@@ -50,7 +77,7 @@ fn medians(s: Settings, n: usize, rounds: usize) -> [f64; 3] {
         times[2].push(timed(&mut || assert!(generic.convert_run(scarletbook_pcm_scalar::FrameRun::new(&frames), c).is_ok())));
     }
     assert!(outs[0] == outs[1] && outs[0] == outs[2], "the samples differ");
-    times.map(median)
+    times
 }
 
 fn main() {
@@ -64,16 +91,18 @@ fn main() {
             }
             for channels in [1, 2, 6] {
                 let s = Settings { rate, cutoff, channels, db: 0.0 };
-                let n = 120 / usize::from(channels);
-                let [port, detected, scalar] = medians(s, n, rounds);
+                let n = 12 / usize::from(channels);
+                let [port, detected, scalar] = rounds_of(s, n, rounds);
+                // Half of the rounds took a twentieth longer than the least, or more.
+                let mark = if median(port.clone()) > 1.05 * least(&port) { " (spread)" } else { "" };
                 let samples = (n * [1176, 2352, 4704][rate] * usize::from(channels)) as f64;
-                let ns = |t: f64| 1e9 * t / samples;
+                let ns = |times: &[f64]| 1e9 * least(times) / samples;
                 println!(
-                    "| {} {} | {channels} | {:.2} | {:.2} | {:.3} | {:.2} | {:.3} | {:.0} |",
-                    NAMES[cutoff], RATES[rate], ns(port), ns(scalar), port / scalar, ns(detected), port / detected, n as f64 / 75.0 / port
+                    "| {} {}{mark} | {channels} | {:.2} | {:.2} | {:.3} | {:.2} | {:.3} | {:.0} |",
+                    NAMES[cutoff], RATES[rate], ns(&port), ns(&scalar), ratio(&port, &scalar), ns(&detected), ratio(&port, &detected), n as f64 / 75.0 / least(&port)
                 );
             }
         }
     }
-    println!("\nA frame is {FRAME} bytes a channel, 1/75 s. Medians of {rounds} rounds in turns, 120 frames of a channel in all.");
+    println!("\nA frame is {FRAME} bytes a channel, 1/75 s. Least CPU time of {rounds} rounds in turns, 12 frames of a channel in all; a ratio is the middle one of the rounds'.");
 }

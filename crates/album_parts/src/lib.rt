@@ -14,7 +14,7 @@ pub struct Part {
 }
 
 // Part j of so many: none of more than 540,000 frames or 64 parts, or where there is no such part.
-#[tactic(auto, using(crate::proofs::Parts::small_share), unfolding(crate::specs::Parts::part_at, crate::specs::Parts::part_first, tracks_open::specs::Open::pieces))]
+#[tactic(auto, using(crate::proofs::Parts::small_share), unfolding(crate::specs::Parts::part_at, crate::specs::Parts::part_first, tracks_open::specs::Open::piece_total))]
 pub fn part_of(frames: u64, jobs: u64, j: u64) -> Option<Part>
     ensures { result ≡ parts.part_at frames jobs j }
 {

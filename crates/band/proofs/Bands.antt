@@ -12,10 +12,10 @@ use Rattle.numbers.proofs.Lists.{length_tabulate, get_d_tabulate}
 use Rattle.numbers.proofs.Integers.{abs_add}
 use Rattle.reference.specs.Rounding.{R}
 use Rattle.reference.specs.Taps.{HB}
-use Rattle.lanes.specs.Lanes.{Filled, raised, arms, Lanes, Added, Written}
-use Rattle.filters.specs.Filters.{alone, odd_taps, half_rate, middle, Fit}
-use Rattle.filters.specs.Lifts.{lifted, rounded, Sums, Raised}
-use Rattle.band.specs.Bands.{band_sum, Hold, Whole}
+use Rattle.lanes.specs.inner.Lanes.{Filled, raised, arms, Lanes, Added, Written}
+use Rattle.filters.specs.inner.Filters.{alone, odd_taps, half_rate, middle, Fit}
+use Rattle.filters.specs.inner.Lifts.{lifted, rounded, Sums, Raised}
+use Rattle.band.specs.inner.Bands.{band_sum, Hold, Whole}
 use Rattle.lanes.proofs.Pairs.{product_size}
 use Rattle.lanes.proofs.Places.{written_then}
 use Rattle.filters.proofs.Places.{filled_as}
@@ -60,7 +60,8 @@ whole_part y₀ y v i j w e l =
     }
 
 -- a block more is done
-pub done_then : (q : ℕ) (y₀ : List ℤ) (v : List ℕ) {i j k : ℕ} {mid new : List ℤ} → Written (done q y₀ v) 0 i y₀ mid → Written (done q mid v) i j mid new → i ≤ j → j ≡ k → Written (done q y₀ v) 0 k y₀ new
+pub done_then : (q : ℕ) (y₀ : List ℤ) (v : List ℕ) {i j k : ℕ} {mid new : List ℤ} → Written (done q y₀ v) 0 i y₀ mid
+    → Written (done q mid v) i j mid new → i ≤ j → j ≡ k → Written (done q y₀ v) 0 k y₀ new
 done_then q y₀ v {mid = mid} u w p e =
     rw e at
     (written_then u w (omega arith) p (λ m l n. ap (λ (z : ℤ). R (z -ℤ pos (2 ^ 53)) q) (band_same y₀ mid v m (u.above m l))))

@@ -12,11 +12,11 @@ use Rattle.numbers.specs.Lists.{tabulate}
 use Rattle.numbers.proofs.Integers.{abs_add, sums}
 use Rattle.reference.specs.Taps.{HB}
 use Rattle.reference.specs.Stages.{tap}
-use Rattle.lanes.specs.Lanes.{raised, arm, arms, Low, Lanes, Added}
+use Rattle.lanes.specs.inner.Lanes.{raised, arm, arms, Low, Lanes, Added}
 use Rattle.lanes.proofs.Pairs.{raised_size, pair_size}
 use Rattle.lanes.proofs.Places.{lanes_then}
-use Rattle.filters.specs.Filters.{odd_taps}
-use Rattle.band.specs.Bands.{odd_sizes, signed}
+use Rattle.filters.specs.inner.Filters.{odd_taps}
+use Rattle.band.specs.inner.Bands.{odd_sizes, signed}
 use Rattle.filters.proofs.Tables.{between_HB}
 
 -- ---- sizes and signs

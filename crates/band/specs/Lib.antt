@@ -1,1 +1,1 @@
-pub mod Bands
+pub mod inner

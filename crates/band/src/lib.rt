@@ -5,10 +5,10 @@ ghost use Rattle.std.specs.Prelude.{◌≡◌, ℕ, ◌+◌, ◌-◌, ◌*◌, �
 ghost use Rattle.numbers.specs.Sums.{at0};
 ghost use Rattle.reference.specs.Rounding.{R};
 ghost use Rattle.reference.specs.Taps.{HB};
-ghost use Rattle.lanes.specs.Lanes.{Small, Filled, raised, arms, Low, Lanes, Added, Written};
-ghost use Rattle.filters.specs.Filters.{odd_taps, alone, half_rate, middle, Fit};
-ghost use Rattle.band.specs.Bands.{odd_sizes, signed, band_sum, Hold, Whole};
-ghost use Rattle.filters.specs.Lifts.{lifted, rounded, Sums};
+ghost use Rattle.lanes.specs.inner.Lanes.{Small, Filled, raised, arms, Low, Lanes, Added, Written};
+ghost use Rattle.filters.specs.inner.Filters.{odd_taps, alone, half_rate, middle, Fit};
+ghost use Rattle.band.specs.inner.Bands.{odd_sizes, signed, band_sum, Hold, Whole};
+ghost use Rattle.filters.specs.inner.Lifts.{lifted, rounded, Sums};
 
 // The sizes of HB's odd taps, lent, and a copy of the odd places.
 #[derive(Clone, Copy)]
@@ -42,7 +42,7 @@ fn centre<const L: usize>(y: &[i64], i: usize) -> [i64; L]
 }
 
 // s + size * w or, by `minus`, s - size * w
-#[tactic(auto, using(crate::proofs::Turns::signed_product), unfolding(crate::specs::Bands::signed))]
+#[tactic(auto, using(crate::proofs::Turns::signed_product), unfolding(crate::specs::inner::Bands::signed))]
 fn tap(s: i64, minus: bool, size: u32, w: u64) -> i64
     requires { nat_abs s + size * w < 2 ^ 63 }
     ensures { result ≡ s +ℤ signed minus size *ℤ pos w }
@@ -52,7 +52,7 @@ fn tap(s: i64, minus: bool, size: u32, w: u64) -> i64
 }
 
 // A sum gains a tap of this size, or minus it, with two values of the copy.
-#[tactic(auto, unfolding(lanes::specs::Lanes::raised))]
+#[tactic(auto, unfolding(lanes::specs::inner::Lanes::raised))]
 fn pair(s: i64, minus: bool, size: u32, v: &[u64], i: usize, j: usize) -> i64
     requires i_in_bounds { (i < length v.now) × (j < length v.now) × (size ≤ 2 ^ 25) × (nat_abs s ≤ 126 * 2 ^ 56) }
     requires low { Low v.now }
@@ -61,7 +61,8 @@ fn pair(s: i64, minus: bool, size: u32, v: &[u64], i: usize, j: usize) -> i64
     tap(s, minus, size, (v[i] + v[j]) % 4294967296)
 }
 
-// Every lane gains two taps of one sign, two places apart. `minus` is a number that the callers write: no sign is tested.
+// Every lane gains two taps of one sign, two places apart. `minus` is a number that the callers write: no sign is
+// tested.
 fn two<const L: usize>(
     acc: [i64; L],
     minus: bool,
@@ -146,30 +147,32 @@ pub fn half_sizes() -> [u32; 8]
 }
 
 // HB at half the rate, in place: y holds the values at even places, xo those at odd ones. Of the even taps only the
-// centre is not 0.
-pub fn half(y: &mut [i64], sizes: &[u32], xo: &[i64])
+// centre is not 0. v is lent for the copy.
+pub fn half(y: &mut [i64], sizes: &[u32], xo: &[i64], v: &mut [u64])
     requires lent { sizes.now ≡ odd_sizes }
-    requires y_in_bounds { (length y.old + 15 ≤ length xo.now) × (length xo.now ≤ 247) }
+    requires y_in_bounds { (length y.old + 15 ≤ length xo.now) × (length xo.now ≤ length v.old) × (length v.old ≤ 512) }
+    requires low { Low v.old }
     requires small { Small (2 ^ 29) y.old }
     requires small_2 { Small (2 ^ 29) xo.now }
     requires fit { Fit (half_rate alone (odd_taps HB) y.old xo.now) (length y.old) }
-    ensures { Filled (λ i. R (half_rate alone (odd_taps HB) y.old xo.now i) 24) y.old y.new }
+    ensures filled { Filled (λ i. R (half_rate alone (odd_taps HB) y.old xo.now i) 24) y.old y.new }
+    ensures still_low { Low v.new }
 {
-    let mut v = [0u64; 247];
-    filters::raise(xo, &mut v);
-    places::<24>(y, Band { sizes, v: &v });
+    filters::raise(xo, v);
+    places::<24>(y, Band { sizes, v });
 }
 
 // HB's places between those of x: over a y of zeros the centre adds nothing.
-pub fn interp(y: &mut [i64], sizes: &[u32], x: &[i64])
+pub fn interp(y: &mut [i64], sizes: &[u32], x: &[i64], v: &mut [u64])
     requires lent { sizes.now ≡ odd_sizes }
-    requires y_in_bounds { (length y.old + 15 ≤ length x.now) × (length x.now ≤ 256) }
+    requires y_in_bounds { (length y.old + 15 ≤ length x.now) × (length x.now ≤ length v.old) × (length v.old ≤ 512) }
+    requires low { Low v.old }
     requires small { Small (2 ^ 29) x.now }
     requires fit { Fit (middle (odd_taps HB) x.now) (length y.old) }
-    ensures { Filled (λ i. R (middle (odd_taps HB) x.now i) 23) y.old y.new }
+    ensures filled { Filled (λ i. R (middle (odd_taps HB) x.now i) 23) y.old y.new }
+    ensures still_low { Low v.new }
 {
-    let mut v = [0u64; 256];
-    filters::raise(x, &mut v);
+    filters::raise(x, v);
     y.fill(0);
-    places::<23>(y, Band { sizes, v: &v });
+    places::<23>(y, Band { sizes, v });
 }

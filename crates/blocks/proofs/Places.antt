@@ -14,7 +14,7 @@ use Rattle.reference.specs.declared.PcmRate.TheVariants.{Hz88200, Hz176400, Hz35
 use Rattle.reference.specs.declared.Cutoff.{Cutoff}
 use Rattle.reference.specs.declared.Cutoff.TheVariants.{Standard, Low, Wide}
 use Rattle.reference.proofs.Locality.{F40_last, F80_last}
-use Rattle.routes.specs.Routes.{LastFilter, lent_taps, Taps, stride, around, first_byte, block_length, fresh, margin_from}
+use Rattle.routes.specs.inner.Routes.{LastFilter, lent_taps, RouteTaps, stride, around, first_byte, block_length, fresh, margin_from}
 use Rattle.routes.proofs.Filters.{halves_length}
 
 -- ---- blocks
@@ -46,7 +46,7 @@ lent_length Hz176400 Low F e = ap length e
 lent_length Hz176400 Wide F e = halves_length F e
 lent_length Hz352800 cutoff F e = ap length e
 
-module _ {rate : PcmRate} {cutoff : Cutoff} {F h : List ℤ} (t : Taps rate cutoff F h) where
+module _ {rate : PcmRate} {cutoff : Cutoff} {F h : List ℤ} (t : RouteTaps rate cutoff F h) where
   pub some_taps : 0 < length h
   some_taps = omega (arith, (filter_length rate cutoff F t.last).0, lent_length rate cutoff F t.lent)
 
@@ -119,7 +119,8 @@ module _ (m n : ℕ) (few : m ≤ 116) (late : 1000 ≤ n) where
 
     pub block_byte_next : first_byte cutoff (margin_from rate cutoff m false (n + block_length rate cutoff) + 2 * m) ≡ block_byte + stride cutoff * fresh rate cutoff first
     block_byte_next =
-        let e : margin_from rate cutoff m false (n + block_length rate cutoff) + 2 * m ≡ margin_from rate cutoff m first n + 2 * m + fresh rate cutoff first = omega (arith, margin_next rate cutoff first) in
+        let e : margin_from rate cutoff m false (n + block_length rate cutoff) + 2 * m
+        ≡ margin_from rate cutoff m first n + 2 * m + fresh rate cutoff first = omega (arith, margin_next rate cutoff first) in
         ap (first_byte cutoff) e ∙ first_byte_more cutoff (margin_from rate cutoff m first n + 2 * m) (fresh rate cutoff first) (omega (arith, margin_low rate cutoff first))
 
 -- what is gathered fits its array

@@ -12,7 +12,7 @@ use lib.Seq.{get_or-take}
 use lib.IntN.{ℤ, pos, nat_abs}
 use lib.ListN.{length, take, length-take}
 use Rattle.numbers.specs.Sums.{at0}
-use Rattle.numbers.specs.Lists.{Held}
+use Rattle.numbers.specs.inner.Lists.{Held}
 use Rattle.reference.specs.Frames.{Run, frame_length, frame_count}
 use Rattle.reference.specs.Scaling.{scaled, clamp}
 use Rattle.reference.specs.Stages.{taps_of, M, y}
@@ -25,16 +25,16 @@ use Rattle.reference.specs.declared.Cutoff.TheVariants.{Standard, Low, Wide}
 use Rattle.reference.specs.declared.Converter.{Converter}
 use Rattle.reference.specs.declared.ChannelStats.{ChannelStats}
 use Rattle.reference.proofs.Frames.{frame_samples}
-use Rattle.channel_bytes.specs.Lent.{Lent, lent_run, byte_at}
-use Rattle.routes.specs.Routes.{last_of, y_of, stride, around, first_byte, block_length, fresh, margin_from, Kept, State}
+use Rattle.channel_bytes.specs.inner.Lent.{Lent, lent_run, byte_at}
+use Rattle.routes.specs.inner.Routes.{last_of, y_of, stride, around, first_byte, block_length, fresh, margin_from, Kept, State}
 use Rattle.routes.proofs.Routes.{a_frame, y_of_is, y_of_size}
 use Rattle.gain.specs.Tallies.{tally}
 use Rattle.gain.proofs.Tallies.{tally_none, tally_join, tally_same, tally_few}
-use Rattle.output.specs.Fills.{Layout, Drawn}
+use Rattle.output.specs.inner.Fills.{Layout, Drawn}
 use Rattle.output.proofs.Boxes.{no_rows, rows}
 use Rattle.kernel.proofs.Blocks.{Margined, Blocked}
 use Rattle.blocks.proofs.Places.{whole_blocks, few_taps, last_place, first_byte_more, margin_low, block_byte_near, block_byte_next}
-use Rattle.blocks.specs.Blocks.{Ready, Made}
+use Rattle.blocks.specs.inner.Blocks.{Ready, Made}
 use Rattle.blocks.specs.declared.job.Job.{Job}
 
 -- ---- numbers of a rate
@@ -128,7 +128,8 @@ module _ {A : Type 0} {o : Layout A} {conv : Converter} {r : Run} {c n : ℕ} wh
 
 -- ---- the loop over the blocks
 
--- the arrays and the position before the block at sample n of channel c; the kernel counts from the frame before the run
+-- the arrays and the position before the block at sample n of channel c; the kernel counts from the frame before the
+-- run
 pub record Staged (conv : Converter) (β : ℕ → ℕ) (first : Bool) (n at : ℕ) (x kept : List ℤ) : Type 0 where
   pub position : at ≡ first_byte conv.cutoff (margin_from conv.rate conv.cutoff (M (last_of conv)) first (samples_per_frame conv.rate + n) + 2 * M (last_of conv))
   pub state : State conv.rate conv.cutoff (last_of conv) first β (samples_per_frame conv.rate + n) x kept
@@ -160,7 +161,8 @@ module _ {conv : Converter} {count : ℕ} {b f a : List ℕ} {tables taps : List
   late = omega (arith, a_frame rate)
 
   -- the margin is filled
-  pub staged_begins : {start at : ℕ} {bytes : List ℕ} {x kept : List ℤ} (last : ℕ) → last ≡ M taps → n % 2 ≡ 0 → start ≡ first_byte cutoff (margin_from rate cutoff last true (samples_per_frame rate + n))
+  pub staged_begins : {start at : ℕ} {bytes : List ℕ} {x kept : List ℤ} (last : ℕ) → last ≡ M taps
+      → n % 2 ≡ 0 → start ≡ first_byte cutoff (margin_from rate cutoff last true (samples_per_frame rate + n))
       → at ≡ start + stride cutoff * (2 * last) → Held 0 β start (stride cutoff * (2 * last) + around cutoff) bytes → Margined cutoff (2 * last) bytes x
       → Staged conv β true n at x kept
   staged_begins {kept = kept} last is even from next held gives =
@@ -170,7 +172,11 @@ module _ {conv : Converter} {count : ℕ} {b f a : List ℕ} {tables taps : List
       let from' = rw e at from in
       record {
         position = rw e at next ∙ ap (λ z. z + stride cutoff * (2 * M (last_of conv))) from' ∙ sym (first_byte_more cutoff i (2 * M (last_of conv)) low);
-        state = record { margin = (rw e at gives) β i low (rw from' at (rw e at held)); w_kept = kept_none rate cutoff (last_of conv) β (samples_per_frame rate + n) kept (omega (arith, even_frame rate)) };
+        state = record {
+          margin = (rw e at gives) β i low (rw from' at (rw e at held));
+          w_kept =
+              kept_none rate cutoff (last_of conv) β (samples_per_frame rate + n) kept (omega (arith, even_frame rate));
+        };
       }
 
   -- a block is worked out
@@ -182,7 +188,8 @@ module _ {conv : Converter} {count : ℕ} {b f a : List ℕ} {tables taps : List
       let e : samples_per_frame rate + n + block_length rate cutoff ≡ samples_per_frame rate + (n + block_length rate cutoff) = omega arith in (
         r.0,
         record {
-          position = rw is at next ∙ ap (λ z. z + stride cutoff * fresh rate cutoff first) s.position ∙ rw e at (sym (block_byte_next (M (last_of conv)) (samples_per_frame rate + n) few late rate cutoff first));
+          position = rw is at next ∙ ap (λ z. z + stride cutoff * fresh rate cutoff first) s.position
+              ∙ rw e at (sym (block_byte_next (M (last_of conv)) (samples_per_frame rate + n) few late rate cutoff first));
           state = rw e at r.1;
         },
       )
@@ -206,7 +213,8 @@ module _ {A : Type 0} {o : Layout A} {conv : Converter} {r : Run} {β : ℕ → 
       record { staged = rw (z, i) s; made = rw z (made_none e) }
 
   -- one more
-  pub blocks_more : {b at at' : ℕ} {told more both : ChannelStats} {x' kept' : List ℤ} {out' out'' : List A} → Blocks o conv r β c n b m at told x kept out out' → m ≡ block_length conv.rate conv.cutoff
+  pub blocks_more : {b at at' : ℕ} {told more both : ChannelStats} {x' kept' : List ℤ} {out' out'' : List A}
+      → Blocks o conv r β c n b m at told x kept out out' → m ≡ block_length conv.rate conv.cutoff
       → Staged conv β false (n + b * m + block_length conv.rate conv.cutoff) at' x' kept'
       → Made o conv r c (n + b * m) m more out' out'' → b * m + m < 2 ^ 64 → both ≡ joined_channel told more → Blocks o conv r β c n (b + 1) m at' both x' kept' out out''
   blocks_more {b} d is s g l j =

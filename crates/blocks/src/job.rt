@@ -1,6 +1,6 @@
 // What a conversion goes by.
 ghost use Rattle.std.specs.Prelude.{◌≡◌, T};
-ghost use Rattle.routes.specs.Routes.{FirstTables, Taps, last_of};
+ghost use Rattle.routes.specs.inner.Routes.{FirstTables, RouteTaps, last_of};
 ghost use Rattle.routes.proofs.Props.{first_prop, taps_prop};
 ghost use Rattle.gain.specs.Scale.{bounded};
 
@@ -16,6 +16,6 @@ pub struct Job<'a> {
     pub taps: &'a [i64],
     ghost same: { slices.channels ≡ conv.channels },
     ghost first: { FirstTables conv.cutoff tables.now } by { first_prop _ _ },
-    ghost last: { Taps conv.rate conv.cutoff (last_of conv) taps.now } by { taps_prop _ _ _ _ },
+    ghost last: { RouteTaps conv.rate conv.cutoff (last_of conv) taps.now } by { taps_prop _ _ _ _ },
     ghost factor: { T (bounded conv.gain.linear) },
 }

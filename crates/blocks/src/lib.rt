@@ -3,12 +3,12 @@
 #![tactic(auto)]
 
 ghost use Rattle.std.specs.Prelude.{◌≡◌, ℕ, ◌+◌, ◌*◌, ◌%◌, ◌^◌, ◌≤◌, ◌<◌, ℤ, pos, length};
-ghost use Rattle.numbers.specs.Lists.{Held};
+ghost use Rattle.numbers.specs.inner.Lists.{Held};
 ghost use Rattle.reference.specs.Output.{samples_per_frame};
-ghost use Rattle.routes.specs.Routes.{stride, around, last_of, y_of};
-ghost use Rattle.output.specs.Fills.{Room};
-ghost use Rattle.blocks.specs.Blocks.{Made};
-ghost use Rattle.blocks.specs.Jobs.{run_of, bytes_of, in_frame, in_run};
+ghost use Rattle.routes.specs.inner.Routes.{stride, around, last_of, y_of};
+ghost use Rattle.output.specs.inner.Fills.{Room};
+ghost use Rattle.blocks.specs.inner.Blocks.{Made};
+ghost use Rattle.blocks.specs.inner.Jobs.{job_run, job_bytes, in_frame, in_run};
 
 use output::Place;
 use reference::ChannelStats;
@@ -24,7 +24,7 @@ impl<'a> Job<'a> {
     fn gather(&self, channel: usize, at: usize, values: usize, bytes: &mut [u8]) -> usize
         requires { (channel < self.now.conv.channels) × (at < 2 ^ 62) × (values ≤ 336) × (stride self.now.conv.cutoff * values + around self.now.conv.cutoff ≤ length bytes.old) }
         ensures value { result ≡ at + stride self.now.conv.cutoff * values }
-        ensures held { Held 0 (bytes_of self.now channel) at (stride self.now.conv.cutoff * values + around self.now.conv.cutoff) bytes.new }
+        ensures held { Held 0 (job_bytes self.now channel) at (stride self.now.conv.cutoff * values + around self.now.conv.cutoff) bytes.new }
     {
         let step = kernel::stride(self.conv.cutoff) * values;
         let n = step + kernel::around(self.conv.cutoff);
@@ -43,20 +43,20 @@ impl<'a> Job<'a> {
     ) -> ChannelStats
         requires place { (channel < self.now.conv.channels) × (n + length y.now ≤ in_run self.now) }
         requires room { Room P.layout (in_run self.now * self.now.conv.channels) out.old × (0 < length y.now) × (length samples.old ≡ length y.now) }
-        requires held { Held (pos 0) (y_of self.now.conv.rate self.now.conv.cutoff (last_of self.now.conv) (bytes_of self.now channel)) (in_frame self.now + n) (length y.now) y.now }
-        ensures { Made P.layout self.now.conv (run_of self.now) channel n (length y.now) result out.old out.new }
+        requires held { Held (pos 0) (y_of self.now.conv.rate self.now.conv.cutoff (last_of self.now.conv) (job_bytes self.now channel)) (in_frame self.now + n) (length y.now) y.now }
+        ensures { Made P.layout self.now.conv (job_run self.now) channel n (length y.now) result out.old out.new }
     {
         let told = gain::scale_block(y, self.conv.gain.linear, samples);
         output::store(samples, n, self.conv.channels as usize, channel, out);
         told
     }
 
-    // A channel of the frame whose first sample is n. The arrays are of fixed length, and filled a block at a time: nothing
-    // here is on the heap.
+    // A channel of the frame whose first sample is n. The arrays are of fixed length, and filled a block at a time:
+    // nothing here is on the heap.
     pub fn channel<P: Place>(&self, channel: usize, n: usize, out: &mut [P]) -> ChannelStats
         requires place { (channel < self.now.conv.channels) × (n + in_frame self.now ≤ in_run self.now) × (n % 2 ≡ 0) }
         requires room { Room P.layout (in_run self.now * self.now.conv.channels) out.old }
-        ensures { Made P.layout self.now.conv (run_of self.now) channel n (in_frame self.now) result out.old out.new }
+        ensures { Made P.layout self.now.conv (job_run self.now) channel n (in_frame self.now) result out.old out.new }
     {
         let rate = self.conv.rate;
         let cutoff = self.conv.cutoff;

@@ -2,7 +2,8 @@
 use Rattle.std.specs.Prelude.{List, Bool, ◌&&◌, ℕ, leb, eqb, length, get_or}
 use Rattle.numbers.specs.Tests.{each_below}
 
--- the albums' numbers are 0, …, albums - 1. Of each its frames, and the turn after which it is due. A turn is so many frames long
+-- the albums' numbers are 0, …, albums - 1. Of each its frames, and the turn after which it is due. A turn is so many
+-- frames long
 pub record Board : Type 0 where
   pub albums : ℕ
   pub frames : ℕ → ℕ

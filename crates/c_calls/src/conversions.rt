@@ -2,10 +2,10 @@
 ghost use Rattle.std.specs.Prelude.{true, false, []};
 ghost use Rattle.reference.specs.Frames.{run_of};
 ghost use Rattle.reference.specs.Promises.{SamplesPromise};
-ghost use Rattle.c_converter.specs.Blocks.{as_block, as_input};
+ghost use Rattle.c_converter.specs.inner.Blocks.{as_converter, as_input};
 ghost use Rattle.c_stats.specs.Conversions.{results};
 ghost use Rattle.c_calls.specs.Calls.{samples_places, SamplesCall, BytesCall};
-ghost use Rattle.c_calls.specs.Made.{BytesMade};
+ghost use Rattle.c_calls.specs.inner.Made.{BytesMade};
 
 use c_converter::{Blocks, Input};
 use c_stats::tell_conversion;
@@ -14,14 +14,14 @@ use reference::{ConvertStats, Converter, PcmError, Run};
 
 // Of a run, or of exactly one frame.
 #[derive(Clone, Copy)]
-pub enum Samples {
+pub enum ToSamples {
     Run,
     Frame,
 }
 
 // For the rack, for the listening desk, or as a WAV file.
 #[derive(Clone, Copy)]
-pub enum Bytes {
+pub enum ToBytes {
     Rack,
     Desk,
     Wav,
@@ -29,7 +29,7 @@ pub enum Bytes {
 
 #[tactic(auto, unfolding(crate::specs::Calls::samples_places))]
 fn to_samples<'a>(
-    kind: Samples,
+    kind: ToSamples,
     conv: Converter,
     run: Run<'a>,
     out: &mut [i32],
@@ -37,15 +37,15 @@ fn to_samples<'a>(
     ensures { SamplesPromise (samples_places kind conv (run_of run.entry) out.old) conv (run_of run.entry) out.old out.new result }
 {
     match kind {
-        Samples::Run => scarletbook_pcm::convert_run(conv, run, out),
-        Samples::Frame => scarletbook_pcm::convert_frame(conv, run, out),
+        ToSamples::Run => scarletbook_pcm::convert_run(conv, run, out),
+        ToSamples::Frame => scarletbook_pcm::convert_frame(conv, run, out),
     }
 }
 
 // 32-bit samples.
 #[tactic(auto, using(codes::proofs::Calls::turned_away, codes::proofs::Calls::not_left, codes::proofs::Calls::not_right, codes::proofs::Known::none_known))]
 pub fn convert_samples<'a>(
-    kind: Samples,
+    kind: ToSamples,
     blocks: Blocks<'_>,
     input: Input<'a>,
     out: &mut [i32],
@@ -53,7 +53,7 @@ pub fn convert_samples<'a>(
     data: &mut [u64; 2],
     decibels: &mut [f64; 1],
 ) -> u8
-    ensures { SamplesCall kind (as_block blocks.entry) (as_input input.entry) out.old out.new (results stats.old «data».old decibels.old) (results stats.new «data».new decibels.new) result }
+    ensures { SamplesCall kind (as_converter blocks.entry) (as_input input.entry) out.old out.new (results stats.old «data».old decibels.old) (results stats.new «data».new decibels.new) result }
 {
     let Some(conv) = blocks.converter() else {
         return NOT_UNDERSTOOD;
@@ -66,7 +66,7 @@ pub fn convert_samples<'a>(
 }
 
 fn counted<'a>(
-    kind: Bytes,
+    kind: ToBytes,
     conv: Converter,
     run: Run<'a>,
     out: &mut [u8],
@@ -75,14 +75,14 @@ fn counted<'a>(
     ensures { BytesMade kind conv (run_of run.entry) true out.old counts.old out.new counts.new result }
 {
     match kind {
-        Bytes::Rack => scarletbook_pcm::convert(conv, run, out, Some(counts)),
-        Bytes::Desk => scarletbook_pcm::convert_desk(conv, run, out, Some(counts)),
-        Bytes::Wav => wav::convert(conv, run, out, Some(counts)),
+        ToBytes::Rack => scarletbook_pcm::convert(conv, run, out, Some(counts)),
+        ToBytes::Desk => scarletbook_pcm::convert_desk(conv, run, out, Some(counts)),
+        ToBytes::Wav => wav::convert(conv, run, out, Some(counts)),
     }
 }
 
 fn uncounted<'a>(
-    kind: Bytes,
+    kind: ToBytes,
     conv: Converter,
     run: Run<'a>,
     out: &mut [u8],
@@ -90,16 +90,16 @@ fn uncounted<'a>(
     ensures { BytesMade kind conv (run_of run.entry) false out.old [] out.new [] result }
 {
     match kind {
-        Bytes::Rack => scarletbook_pcm::convert(conv, run, out, None),
-        Bytes::Desk => scarletbook_pcm::convert_desk(conv, run, out, None),
-        Bytes::Wav => wav::convert(conv, run, out, None),
+        ToBytes::Rack => scarletbook_pcm::convert(conv, run, out, None),
+        ToBytes::Desk => scarletbook_pcm::convert_desk(conv, run, out, None),
+        ToBytes::Wav => wav::convert(conv, run, out, None),
     }
 }
 
 // Bytes, and the clips of each frame if the presence says that a list for them is there.
 #[tactic(auto, using(codes::proofs::Calls::turned_away, codes::proofs::Calls::not_left, codes::proofs::Calls::not_right, codes::proofs::Known::none_known))]
 pub fn convert_bytes<'a>(
-    kind: Bytes,
+    kind: ToBytes,
     blocks: Blocks<'_>,
     input: Input<'a>,
     out: &mut [u8],
@@ -108,7 +108,8 @@ pub fn convert_bytes<'a>(
     data: &mut [u64; 2],
     decibels: &mut [f64; 1],
 ) -> u8
-    ensures { BytesCall kind (as_block blocks.entry) (as_input input.entry) out.old counts.old out.new counts.new (results stats.old «data».old decibels.old) (results stats.new «data».new decibels.new) result }
+    ensures { BytesCall kind (as_converter blocks.entry) (as_input input.entry) out.old counts.old out.new
+        counts.new (results stats.old «data».old decibels.old) (results stats.new «data».new decibels.new) result }
 {
     let Some(conv) = blocks.converter() else {
         return NOT_UNDERSTOOD;

@@ -2,7 +2,8 @@
 // 255 and writes nothing.
 #![tactic(auto)]
 
-ghost use Rattle.c_converter.specs.Blocks.{block, as_block};
+ghost use Rattle.c_converter.specs.Blocks.{converter_lists};
+ghost use Rattle.c_converter.specs.inner.Blocks.{as_converter};
 ghost use Rattle.c_calls.specs.Calls.{c_wanted, GainCall, OpenCall, ChangeCall};
 
 use c_converter::{Blocks, gain_of, tell_change, tell_gain, tell_opening};
@@ -10,7 +11,7 @@ use codes::{NOT_UNDERSTOOD, cutoff_of, rate_of};
 
 mod conversions;
 
-pub use conversions::{Bytes, Samples, convert_bytes, convert_samples};
+pub use conversions::{ToBytes, ToSamples, convert_bytes, convert_samples};
 
 // The gain record of some decibels.
 pub fn gain(db: f64, gain: &mut [f64; 2], decibels: &mut [f64; 1]) -> u8
@@ -28,7 +29,7 @@ pub fn open(
     data: &mut [u64; 2],
     decibels: &mut [f64; 1],
 ) -> u8
-    ensures { OpenCall (block numbers.old gain.now taps.now) numbers.new «data».old «data».new decibels.old decibels.new result }
+    ensures { OpenCall (converter_lists numbers.old gain.now taps.now) numbers.new «data».old «data».new decibels.old decibels.new result }
 {
     let asked = Blocks {
         numbers,
@@ -53,7 +54,7 @@ pub fn change(
     data: &mut [u64; 2],
     decibels: &mut [f64; 1],
 ) -> u8
-    ensures { ChangeCall (block numbers.old gain.old taps.now) (c_wanted rate cutoff wanted.now) numbers.new gain.new «data».old «data».new decibels.old decibels.new result }
+    ensures { ChangeCall (converter_lists numbers.old gain.old taps.now) (c_wanted rate cutoff wanted.now) numbers.new gain.new «data».old «data».new decibels.old decibels.new result }
 {
     let asked = Blocks {
         numbers,

@@ -10,25 +10,19 @@ use Rattle.reference.specs.declared.Gain.{Gain}
 use Rattle.reference.specs.declared.Settings.{Settings}
 use Rattle.reference.specs.declared.Converter.{Converter}
 use Rattle.codes.specs.Codes.{rate_of, known_rate, cutoff_of, known_cutoff, known_channels, known_flag, flag}
-use Rattle.c_converter.specs.declared.Blocks.{Blocks}
-use Rattle.c_converter.specs.declared.Input as code
 
 -- ---- what is read
 
 -- eight numbers, decibels and factor, and 117 taps. The numbers: rate, cutoff, channels, whether a filter of one's own
 -- is given, how many taps it has; then what the converter stores, which are samples of a channel in a frame, the reach,
 -- and bytes of a frame
-pub record Block : Type 0 where
+pub record CConverter : Type 0 where
   pub numbers : List ℕ
   pub gain : List Float
   pub taps : List ℤ
 
-abbrev pub block : List ℕ → List Float → List ℤ → Block
-block n g t = record { numbers = n; gain = g; taps = t }
-
--- as the code has it
-abbrev pub as_block : Blocks → Block
-as_block b = block b.numbers.now b.gain.now b.taps.now
+abbrev pub converter_lists : List ℕ → List Float → List ℤ → CConverter
+converter_lists n g t = record { numbers = n; gain = g; taps = t }
 
 abbrev pub item : List ℕ → ℕ → ℕ
 item n k = get_or n k 0
@@ -42,7 +36,7 @@ abbrev pub gain_of : List Float → Gain
 gain_of g = record { db = get_or g 0 nan; linear = get_or g 1 nan }
 
 -- the settings that a block of known numbers stands for
-unfoldable pub settings_of : Block → Settings
+unfoldable pub settings_of : CConverter → Settings
 settings_of b =
     record {
       rate = rate_of (item b.numbers 0);
@@ -53,7 +47,7 @@ settings_of b =
     }
 
 -- the converter that it stands for, its stored numbers as they are given
-unfoldable pub held_converter : Block → Converter
+unfoldable pub held_converter : CConverter → Converter
 held_converter b =
     let s = settings_of b in
     record {
@@ -95,9 +89,5 @@ input p b f a = record { presence = p; before = b; frames = f; after = a }
 abbrev pub there_counts : ℕ → Bool
 there_counts n = flag (n / 4)
 
-abbrev pub run_of : Input → Run
-run_of i = run (flag (i.presence % 2)) i.before i.frames (flag (i.presence / 2 % 2)) i.after
-
--- as the code has it
-abbrev pub as_input : code.Input → Input
-as_input i = input i.presence i.before.now i.frames.now i.after.now
+abbrev pub input_run : Input → Run
+input_run i = run (flag (i.presence % 2)) i.before i.frames (flag (i.presence / 2 % 2)) i.after

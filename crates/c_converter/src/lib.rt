@@ -6,10 +6,11 @@ ghost use Rattle.std.specs.Prelude.{◌≡◌};
 ghost use Rattle.reference.specs.Frames as frames;
 ghost use Rattle.reference.specs.Refusals.{decision};
 ghost use Rattle.reference.specs.Promises.{by_decision};
-ghost use Rattle.codes.specs.Codes.{if_known};
+ghost use Rattle.codes.specs.inner.Codes.{if_known};
 ghost use Rattle.codes.specs.Told.{if_ok, ToldDecibels, ToldWhole};
 ghost use Rattle.c_converter.specs.Blocks as blocks;
-ghost use Rattle.c_converter.specs.Blocks.{as_block, as_input, known_numbers, settings_of, held_converter, with_stored, with_changed, gain_floats};
+ghost use Rattle.c_converter.specs.Blocks.{known_numbers, settings_of, held_converter, with_stored, with_changed, gain_floats};
+ghost use Rattle.c_converter.specs.inner.Blocks.{as_converter, as_input};
 
 use codes::{channels_of, cutoff_of, flag_of, rate_of, tell, tell_decibels};
 use reference::{Converter, Filter, Gain, PcmError, Run, Settings};
@@ -36,7 +37,7 @@ impl Blocks<'_> {
     // The settings that known numbers stand for.
     #[tactic(auto, using(codes::proofs::Known::some_known, codes::proofs::Known::none_known), unfolding(crate::specs::Blocks::settings_of))]
     pub fn settings(self) -> Option<Settings>
-        ensures { result ≡ if_known (known_numbers self.entry.numbers.now) (settings_of (as_block self.entry)) }
+        ensures { result ≡ if_known (known_numbers self.entry.numbers.now) (settings_of (as_converter self.entry)) }
     {
         let n = self.numbers;
         let taps = *self.taps;
@@ -56,7 +57,7 @@ impl Blocks<'_> {
     // The converter that they stand for, its stored numbers as they are given.
     #[tactic(auto, using(codes::proofs::Known::some_known, codes::proofs::Known::none_known), unfolding(crate::specs::Blocks::held_converter))]
     pub fn converter(self) -> Option<Converter>
-        ensures { result ≡ if_known (known_numbers self.entry.numbers.now) (held_converter (as_block self.entry)) }
+        ensures { result ≡ if_known (known_numbers self.entry.numbers.now) (held_converter (as_converter self.entry)) }
     {
         let s = self.settings()?;
         let n = self.numbers;
@@ -85,7 +86,7 @@ pub struct Input<'a> {
 impl<'a> Input<'a> {
     // The run.
     pub fn run(self) -> Run<'a>
-        ensures { frames.run_of result ≡ blocks.run_of (as_input self.entry) }
+        ensures { frames.run_of result ≡ blocks.input_run (as_input self.entry) }
     {
         Run {
             has_before: self.presence % 2 == 1,

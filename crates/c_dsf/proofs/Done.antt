@@ -6,7 +6,7 @@ use Rattle.reference.specs.declared.PcmError.{PcmError}
 use Rattle.dsf.specs.Reading.{OpenedPromise, HeaderPromise, file_header}
 use Rattle.dsf.specs.declared.DsfHeader.{DsfHeader}
 use Rattle.dsf_frames.specs.Reading.{Framed}
-use Rattle.dsf_write.specs.Written.{head, laid_out, written, file_length, length_places, laid_places, write_places, LengthPromise, HeadPromise, LaidPromise, WritePromise}
+use Rattle.dsf_write.specs.Written.{head, laid_out, written, file_length, length_places, laid_places, dsf_write_places, LengthPromise, HeadPromise, LaidPromise, WritePromise}
 use Rattle.dsf_upload.specs.declared.Upload.{Upload}
 use Rattle.dsf_why.specs.Why.{why_of}
 use Rattle.dsf_why.specs.declared.Why.{Why}
@@ -23,7 +23,7 @@ pub frame_done : (places : List Place) (frame : List ℕ) {out out' data' : List
 frame_done places frame made p t = told_written made p.decided t p.written
 
 pub write_done : (channels : ℕ) (frames : List ℕ) {out out' data' : List ℕ} {answer : ℕ} (made : Result (Unit {0}) PcmError) → WritePromise channels frames out out' made
-    → ToldData (decision made) answer data' → ToldWritten (decide (write_places channels frames (length out))) (written channels frames) out out' data' answer
+    → ToldData (decision made) answer data' → ToldWritten (decide (dsf_write_places channels frames (length out))) (written channels frames) out out' data' answer
 write_done channels frames made p t = told_written made p.decided t p.written_out
 
 pub head_done : (channels n : ℕ) {out out' data' : List ℕ} {answer : ℕ} (made : Result (Unit {0}) PcmError) → HeadPromise channels n out out' made → ToldData (decision made) answer data'

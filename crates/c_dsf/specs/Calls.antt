@@ -7,7 +7,7 @@ use Rattle.dsf.specs.Reading.{file_header, header_places}
 use Rattle.dsf.specs.declared.DsfHeader.{DsfHeader}
 use Rattle.dsf_frames.specs.Reading.{frame_window, window_places, window_frame}
 use Rattle.dsf_frames.specs.declared.FrameWindow.{FrameWindow}
-use Rattle.dsf_write.specs.Written.{head, laid_out, written, file_length, length_places, laid_places, write_places}
+use Rattle.dsf_write.specs.Written.{head, laid_out, written, file_length, length_places, laid_places, dsf_write_places}
 use Rattle.dsf_upload.specs.Uploads.{UploadPromise, HeadPromise}
 use Rattle.dsf_upload.specs.declared.Upload.{Upload}
 use Rattle.dsf_upload.specs.declared.Upload.TheVariants.{Accepted, Unfinished, GiveUp}
@@ -19,8 +19,8 @@ use Rattle.codes.specs.Told.{ToldWritten}
 abbrev pub header_numbers : DsfHeader → List ℕ
 header_numbers h = h.channel_type ∷ h.channels ∷ h.bits_per_sample ∷ h.samples ∷ h.frames ∷ []
 
-abbrev pub ReadCall : List ℕ → List ℕ → List ℕ → List ℕ → ℕ → Type 0
-ReadCall file = ToldWritten (decide (file_places file)) (header_numbers (file_header file))
+abbrev pub DsfReadCall : List ℕ → List ℕ → List ℕ → List ℕ → ℕ → Type 0
+DsfReadCall file = ToldWritten (decide (file_places file)) (header_numbers (file_header file))
 
 abbrev pub ReadHeaderCall : List ℕ → ℕ → List ℕ → List ℕ → List ℕ → ℕ → Type 0
 ReadHeaderCall head n = ToldWritten (decide (header_places head n)) (header_numbers (file_header head))
@@ -47,8 +47,8 @@ abbrev pub WindowCall : ℕ → ℕ → ℕ → List ℕ → Type 0
 WindowCall channels samples f window' = window' ≡ window_numbers (frame_window channels samples f)
 
 -- ---- a file written, and its length for so many bytes of frames
-abbrev pub WriteCall : ℕ → List ℕ → List ℕ → List ℕ → List ℕ → ℕ → Type 0
-WriteCall channels frames out = ToldWritten (decide (write_places channels frames (length out))) (written channels frames) out
+abbrev pub DsfWriteCall : ℕ → List ℕ → List ℕ → List ℕ → List ℕ → ℕ → Type 0
+DsfWriteCall channels frames out = ToldWritten (decide (dsf_write_places channels frames (length out))) (written channels frames) out
 
 abbrev pub LengthCall : ℕ → ℕ → List ℕ → List ℕ → List ℕ → ℕ → Type 0
 LengthCall channels n = ToldWritten (decide (length_places channels n)) (file_length channels n ∷ [])

@@ -7,7 +7,7 @@ ghost use Rattle.codes.specs.Told.{if_ok, ToldData};
 ghost use Rattle.c_dsf.specs.Calls as calls;
 ghost use Rattle.c_dsf.specs.Calls.{header_numbers, upload_number, upload_place};
 
-use codes::{Report, tell_data};
+use codes::{Answer, tell_data};
 use dsf::DsfHeader;
 use dsf_frames::FrameWindow;
 use dsf_upload::Upload;
@@ -36,7 +36,7 @@ fn tell_header(
 
 // What a file holds.
 pub fn read(file: &[u8], header: &mut [u64; 5], data: &mut [u64; 2]) -> u8
-    ensures { calls.ReadCall file.now header.old header.new «data».new result }
+    ensures { calls.DsfReadCall file.now header.old header.new «data».new result }
 {
     tell_header(dsf::read(file), header, data)
 }
@@ -55,7 +55,7 @@ pub fn why(head: &[u8], length: u64, told: &mut [u64; 3]) -> u8
 {
     let found = dsf_why::why_of(head, length);
     *told = [found.place, found.value, found.asked];
-    Report::of(&dsf::read_header(head, length)).number
+    Answer::of(&dsf::read_header(head, length)).number
 }
 
 // What to read of the data for a frame: zeros stand for a window that is not there, as C has no `Option`.
@@ -96,7 +96,7 @@ pub fn frame(file: &[u8], frame: u64, out: &mut [u8], data: &mut [u64; 2]) -> u8
 // The file of some frames.
 #[tactic(auto, using(crate::proofs::Done::write_done))]
 pub fn write(channels: u8, frames: &[u8], out: &mut [u8], data: &mut [u64; 2]) -> u8
-    ensures { calls.WriteCall channels frames.now out.old out.new «data».new result }
+    ensures { calls.DsfWriteCall channels frames.now out.old out.new «data».new result }
 {
     tell_data(&dsf_write::write(channels, frames, out), data)
 }

@@ -11,7 +11,7 @@ use Rattle.reference.specs.declared.Cutoff.{Cutoff}
 use Rattle.reference.specs.declared.Cutoff.TheVariants.{Standard, Low, Wide}
 use Rattle.reference.proofs.Refusals.{and_right}
 use Rattle.codes.specs.Codes.{rate_of, known_rate, cutoff_of, known_cutoff}
-use Rattle.c_converter.specs.Blocks.{block, item, known_numbers, settings_of, held_converter, with_stored, with_changed, gain_floats}
+use Rattle.c_converter.specs.Blocks.{converter_lists, item, known_numbers, settings_of, held_converter, with_stored, with_changed, gain_floats}
 use Rattle.c_calls.specs.Calls.{new_converter}
 use Rattle.c_laws.specs.Converters.{OpenedStands, ChangedStands, Stands}
 
@@ -60,8 +60,8 @@ pub opened_stands : OpenedStands
 unfolding held_converter settings_of converter_of
 opened_stands b e k =
     of_eight
-    (λ n. known_numbers n ≡ true → let old = block n b.gain b.taps in
-    let new = block (with_stored (converter_of (settings_of old)) n) b.gain b.taps in
+    (λ n. known_numbers n ≡ true → let old = converter_lists n b.gain b.taps in
+    let new = converter_lists (with_stored (converter_of (settings_of old)) n) b.gain b.taps in
     Stands new (held_converter new ≡ converter_of (settings_of old)))
     (λ a b c d e f g h k. record { known = k; is = refl }) b.numbers e k
 
@@ -69,9 +69,9 @@ pub changed_stands : ChangedStands
 unfolding held_converter settings_of converter_of filter_of with_wanted
 changed_stands b w e k =
     of_eight
-    (λ n. known_numbers n ≡ true → let old = block n b.gain b.taps in
+    (λ n. known_numbers n ≡ true → let old = converter_lists n b.gain b.taps in
     let conv = new_converter old w in
-    let new = block (with_changed conv n) (gain_floats conv.gain) b.taps in
+    let new = converter_lists (with_changed conv n) (gain_floats conv.gain) b.taps in
     Stands new (held_converter new ≡ conv))
     (λ a c d f g h i j k.
     record {

@@ -17,7 +17,7 @@ use Rattle.codes.proofs.Calls.{both_hold}
 use Rattle.sheet_laws.proofs.Fitting.{SmallExtremes}
 use Rattle.sheet_laws.proofs.Runs.{stats_small}
 use Rattle.c_stats.specs.Stats.{no_ends, mark, held_channel, held_stats, known_stats, stat_numbers}
-use Rattle.c_laws.specs.Stats.{Held, RunsAreHeld, ComeBack, JoinsThem}
+use Rattle.c_laws.specs.Stats.{StatsHeld, RunsAreHeld, ComeBack, JoinsThem}
 
 abbrev Ends : Option Extremes → Type 0
 Ends e = IfSome e (λ x. FitsSigned w64 x.lowest × FitsSigned w64 x.highest)
@@ -39,7 +39,7 @@ marked (Some x) = refl
 
 -- ---- all six
 
-module _ (s : ConvertStats) (h : Held s) where
+module _ (s : ConvertStats) (h : StatsHeld s) where
   held_at : (c : ℕ) → c < 6 → held_channel (stat_numbers s) c ≡ channel_of s c
   unfolding held_channel stat_numbers tabulate
   held_at zero m = channel_back (channel_of s 0).clipped (channel_of s 0).extremes (h.ends 0 m)
@@ -53,7 +53,14 @@ module _ (s : ConvertStats) (h : Held s) where
   known : known_stats (stat_numbers s) ≡ true
   unfolding stat_numbers tabulate
   known =
-      rw (marked (channel_of s 0).extremes, marked (channel_of s 1).extremes, marked (channel_of s 2).extremes, marked (channel_of s 3).extremes, marked (channel_of s 4).extremes, marked (channel_of s 5).extremes) refl
+      rw (
+        marked (channel_of s 0).extremes,
+        marked (channel_of s 1).extremes,
+        marked (channel_of s 2).extremes,
+        marked (channel_of s 3).extremes,
+        marked (channel_of s 4).extremes,
+        marked (channel_of s 5).extremes,
+      ) refl
 
   back : held_stats (stat_numbers s) ≡ s
   unfolding held_stats channel_of

@@ -13,8 +13,8 @@ use Rattle.dsf.specs.Reading.{header_places}
 use Rattle.tracks.specs.Tracks.{Head, head_length, tracks_converter, first_places, next_places, rest_places, tracks_places, open_places}
 use Rattle.tracks_step.specs.Promises.{piece_places, frames_places, step_places, piece_run}
 use Rattle.c_stats.specs.Stats.{stat_numbers}
-use Rattle.c_tracks.specs.Asked.{settings, heads}
-use Rattle.c_laws.specs.Steps.{StepIsStep}
+use Rattle.c_tracks.specs.Asked.{asked_settings, asked_heads}
+use Rattle.c_laws.specs.Steps.{StepIsStep, FramesAreFrames}
 
 -- no place has the number 0
 unfoldable numbered : List Place → Bool
@@ -59,20 +59,31 @@ unfolding numbered flat_map open_places tracks_places opening_places filter_plac
 open_numbered [] s = refl
 open_numbered (h ∷ hs) s = numbered_join (first_places h s) _ (first_numbered h s) (rest_numbered (channel_type h.bytes) (head_length h) hs)
 
+frames_numbered : (hs : List Head) (s : Settings) (first count windows scratch : ℕ) → numbered (frames_places hs s first count windows scratch) ≡ true
+unfolding numbered frames_places piece_places lent_length
+frames_numbered hs s first count windows scratch =
+    numbered_join (open_places hs s) (piece_places hs first count windows scratch) (open_numbered hs s) refl
+
 all_numbered : (hs : List Head) (s : Settings) (first count windows scratch out : ℕ) → numbered (step_places hs s first count windows scratch out) ≡ true
-unfolding numbered step_places frames_places piece_places lent_length
+unfolding numbered step_places lent_length
 all_numbered hs s first count windows scratch out =
-    numbered_join (frames_places hs s first count windows scratch) _
-    (numbered_join (open_places hs s) (piece_places hs first count windows scratch) (open_numbered hs s) refl)
-    refl
+    numbered_join (frames_places hs s first count windows scratch) _ (frames_numbered hs s first count windows scratch) refl
 
 pub step_is_step : StepIsStep
 step_is_step a first count windows l l' old new k call =
     let d = call.done k in
-    let told = stats (tracks_converter (settings a) (heads a)) (piece_run (heads a) first count windows) in
-    let places = step_places (heads a) (settings a) first count (length windows) (length l.scratch) (length l.out) in
+    let told = stats (tracks_converter (asked_settings a) (asked_heads a)) (piece_run (asked_heads a) first count windows) in
+    let places = step_places (asked_heads a) (asked_settings a) first count (length windows) (length l.scratch) (length l.out) in
     let taken : decide places ≡ accepted =
-    is_accepted_at places (all_numbered (heads a) (settings a) first count (length windows) (length l.scratch) (length l.out)) (sym d.done.told.told.number) in (
+    is_accepted_at places (all_numbered (asked_heads a) (asked_settings a) first count (length windows) (length l.scratch) (length l.out)) (sym d.done.told.told.number) in (
       record { decided = sym taken; named = _; counted = refl; gathered = d.gathered; written = d.written },
       d.done.counted ∙ exit_accepted (decide places) (stat_numbers told) old.stats taken,
     )
+
+pub frames_are_frames : FramesAreFrames
+frames_are_frames a first count windows scratch scratch' old new decibels decibels' k call =
+    let d = call.done k in
+    let places = frames_places (asked_heads a) (asked_settings a) first count (length windows) (length scratch) in
+    let taken : decide places ≡ accepted =
+    is_accepted_at places (frames_numbered (asked_heads a) (asked_settings a) first count (length windows) (length scratch)) (sym d.told.told.number) in
+    record { decided = sym taken; named = _; album = refl; gathered = d.gathered }

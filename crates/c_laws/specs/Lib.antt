@@ -1,3 +1,4 @@
 pub mod Stats
 pub mod Converters
 pub mod Steps
+pub mod Exact

@@ -9,16 +9,16 @@ use Rattle.overs.specs.Overs.{Progress, none}
 use Rattle.overs_joins.proofs.Signal.{starts}
 use Rattle.levels.specs.Levels.{whole_input}
 use Rattle.codes.proofs.Calls.{both_hold}
-use Rattle.c_studio.specs.Progress.{progress_of, end_number, length_number}
+use Rattle.c_studio.specs.Progress.{progress_of, end_number, standing_length}
 use Rattle.c_levels.specs.Standings.{known_standings, held_standings, standing_number, standing_numbers}
 use Rattle.c_levels.specs.Theorems.{Begins, ReadBack}
 
-same : (p : Progress) → progress_of (end_number p) (length_number p) ≡ p
+same : (p : Progress) → progress_of (end_number p) (standing_length p) ≡ p
 unfolding progress_of
 same None = refl
 same (Some s) = at s.end refl
   where
-    at : (e : _) → s.end ≡ e → progress_of (end_number (Some s)) (length_number (Some s)) ≡ Some s
+    at : (e : _) → s.end ≡ e → progress_of (end_number (Some s)) (standing_length (Some s)) ≡ Some s
     at High h = rw h refl
     at Low h = rw h refl
 
@@ -60,7 +60,8 @@ module _ (states : List Progress) where
   unfolding held_standings
   all_held e =
       sym (is_tabulate _ 0 6 none states e (λ i l.
-      rw (zero-add i) (sym (ap (λ x. progress_of x (get_or told (2 * i + 1) 0)) (end_at i (2 * i) l refl) ∙ ap (progress_of (end_number (get_or states i none))) (number_at i 1 (2 * i + 1) l (omega arith) refl) ∙ same (get_or states i none)))))
+      rw (zero-add i) (sym (ap (λ x. progress_of x (get_or told (2 * i + 1) 0)) (end_at i (2 * i) l refl)
+      ∙ ap (progress_of (end_number (get_or states i none))) (number_at i 1 (2 * i + 1) l (omega arith) refl) ∙ same (get_or states i none)))))
 
 pub read_back : ReadBack
 read_back states e = (all_known states, all_held states e)

@@ -13,16 +13,17 @@ use Rattle.reference.proofs.Promises.{exit_accepted, exit_refused}
 use Rattle.reference.proofs.Refusals.{error_refuses}
 use Rattle.text.specs.Text.{with_text}
 use Rattle.overs.specs.Overs.{Progress}
-use Rattle.levels.specs.Levels.{piece_lines, piece_states, told_length, told_clips, told_states, FrameReported}
+use Rattle.levels.specs.Levels.{piece_lines, piece_states}
+use Rattle.levels.specs.inner.Levels.{told_length, told_clips, told_states, FrameReported}
 use Rattle.levels.specs.declared.Reported.{Reported}
 use Rattle.codes.specs.Told.{if_ok, ToldWhole}
 use Rattle.codes.proofs.Calls.{both_hold, not_left, not_right}
-use Rattle.c_converter.specs.Blocks.{Block, known_numbers, Input}
+use Rattle.c_converter.specs.Blocks.{CConverter, known_numbers, Input}
 use Rattle.c_levels.specs.Standings.{known_standings, standing_numbers}
-use Rattle.c_levels.specs.Calls.{Lent, levels_understood, LevelsDone}
+use Rattle.c_levels.specs.Calls.{LevelLists, levels_understood, LevelsDone}
 
 -- ---- what is understood
-module _ (b : Block) (i : Input) (l : Lent) where
+module _ (b : CConverter) (i : Input) (l : LevelLists) where
   pub not_presence : 4 ≤ i.presence → levels_understood b i l ≡ false
   not_presence h = not_right (known_numbers b.numbers) _ (not_right (known_standings l.standings) _ (not_left _ _ (le-ltb _ _ h)))
 
@@ -40,7 +41,7 @@ unfolding with_text by_decision
 text_by accepted t old = refl
 text_by (refused n x) t old = refl
 
-module _ (conv : Converter) (r : Run) (number : ℕ) (before : List Progress) (old new : Lent) where
+module _ (conv : Converter) (r : Run) (number : ℕ) (before : List Progress) (old new : LevelLists) where
   abbrev d : Decision
   d = decide (convert_frame_places conv r old.samples)
 

@@ -4,9 +4,9 @@
 
 ghost use Rattle.std.specs.Prelude.{◌≡◌, [], ◌∷◌, ◌<◌, slice_index_or};
 ghost use Rattle.reference.specs.Refusals.{decision};
-ghost use Rattle.codes.specs.Codes.{if_known};
+ghost use Rattle.codes.specs.inner.Codes.{if_known};
 ghost use Rattle.codes.specs.Told.{if_ok, ToldWhole};
-ghost use Rattle.c_converter.specs.Blocks.{as_block, as_input};
+ghost use Rattle.c_converter.specs.inner.Blocks.{as_converter, as_input};
 ghost use Rattle.c_levels.specs.Standings.{known_standings, held_standings, standing_number, standing_numbers};
 ghost use Rattle.c_levels.specs.Calls.{lent, LevelsCall, LastLineCall};
 
@@ -27,7 +27,7 @@ fn known(standings: &[u64; 12]) -> bool
 }
 
 // What is in progress in each channel, if every end is known.
-#[tactic(auto, unfolding(codes::specs::Codes::if_known, crate::specs::Standings::held_standings))]
+#[tactic(auto, unfolding(codes::specs::inner::Codes::if_known, crate::specs::Standings::held_standings))]
 fn states_of(standings: &[u64; 12]) -> Option<[Progress; 6]>
     ensures { result ≡ if_known (known_standings standings.now) (held_standings standings.now) }
 {
@@ -86,7 +86,8 @@ pub fn frame_levels<'a>(
     data: &mut [u64; 2],
     decibels: &mut [f64; 1],
 ) -> u8
-    ensures { LevelsCall (as_block blocks.entry) (as_input input.entry) frame (lent standings.old samples.old lines.old told.old «data».old decibels.old) (lent standings.new samples.new lines.new told.new «data».new decibels.new) result }
+    ensures { LevelsCall (as_converter blocks.entry) (as_input input.entry) frame (lent standings.old samples.old lines.old told.old «data».old decibels.old)
+        (lent standings.new samples.new lines.new told.new «data».new decibels.new) result }
 {
     let Some(conv) = blocks.converter() else {
         return NOT_UNDERSTOOD;

@@ -3,7 +3,7 @@
 
 ghost use Rattle.std.specs.Prelude.{◌≡◌, ◌<◌};
 ghost use Rattle.reference.specs.Refusals.{decision};
-ghost use Rattle.codes.specs.Codes.{if_known};
+ghost use Rattle.codes.specs.inner.Codes.{if_known};
 ghost use Rattle.codes.specs.Told.{if_ok, ToldWhole};
 ghost use Rattle.c_stats.specs.Stats as stats;
 ghost use Rattle.c_stats.specs.Stats.{known_stats, held_channel, held_stats, channel_number, stat_numbers};
@@ -37,7 +37,7 @@ fn channel(block: &[u64; 24], c: usize) -> ChannelStats
 }
 
 // The statistics that the numbers hold, where each mark is a flag.
-#[tactic(auto, unfolding(codes::specs::Codes::if_known, crate::specs::Stats::held_stats))]
+#[tactic(auto, unfolding(codes::specs::inner::Codes::if_known, crate::specs::Stats::held_stats))]
 pub fn stats_of(block: &[u64; 24]) -> Option<ConvertStats>
     ensures { result ≡ if_known (known_stats block.now) (held_stats block.now) }
 {

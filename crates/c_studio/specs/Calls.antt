@@ -11,20 +11,20 @@ use Rattle.boards.specs.Boards.{board}
 use Rattle.finishes.specs.Turns.{simulated, finish_in, lateness_in}
 use Rattle.schedule.specs.Promise.{simulate_places}
 use Rattle.codes.specs.Told.{ToldWritten}
-use Rattle.codes.specs.Calls.{Call}
+use Rattle.codes.specs.Calls.{CCall}
 use Rattle.c_stats.specs.Stats.{known_stats, held_stats, stat_numbers}
 use Rattle.c_studio.specs.Progress.{known_end, progress_of, over_numbers}
 
 -- two statistics joined, in the place of the first
 abbrev pub JoinCall : List ℕ → List ℕ → List ℕ → ℕ → Type 0
 JoinCall a b a' answer =
-    Call (known_stats a && known_stats b) answer (a' ≡ a)
+    CCall (known_stats a && known_stats b) answer (a' ≡ a)
     ((answer ≡ 0) × (a' ≡ stat_numbers (joined_stats (held_stats a) (held_stats b))))
 
 -- the sheet of some statistics
 abbrev pub SheetCall : ℕ → List ℕ → List ℕ → List ℕ → List ℕ → List ℕ → ℕ → Type 0
 SheetCall channels b out out' data₀ data' answer =
-    Call (known_stats b) answer
+    CCall (known_stats b) answer
     ((out' ≡ out) × (data' ≡ data₀))
     (ToldWritten (decide (sheet_places channels (held_stats b) (length out))) (sheet channels (held_stats b)) out out' data' answer)
 
@@ -32,7 +32,7 @@ SheetCall channels b out out' data₀ data' answer =
 -- numbers the first is not read
 abbrev pub OversCall : List ℤ → ℕ → ℕ → List ℕ → List ℕ → ℕ → Type 0
 OversCall samples n c told told' answer =
-    Call (known_end (get_or told 1 0)) answer (told' ≡ told)
+    CCall (known_end (get_or told 1 0)) answer (told' ≡ told)
     ((answer ≡ 0) × (told' ≡ over_numbers (overs_of samples n c (progress_of (get_or told 1 0) (get_or told 2 0)))))
 
 -- each list has a place for each album
@@ -48,6 +48,6 @@ pub record TurnsDone (d : Decision) (frames dues : List ℕ) (turn : ℕ) (finis
 
 abbrev pub TurnsCall : List ℕ → List ℕ → ℕ → List ℕ → List ℤ → List ℕ → List ℤ → ℕ → Type 0
 TurnsCall frames dues turn finishes late finishes' late' answer =
-    Call (turns_understood frames dues finishes late) answer
+    CCall (turns_understood frames dues finishes late) answer
     ((finishes' ≡ finishes) × (late' ≡ late))
     (TurnsDone (decide (simulate_places frames dues turn (length finishes) (length late))) frames dues turn finishes late finishes' late' answer)

@@ -14,9 +14,9 @@ abbrev pub end_number : Progress → ℕ
 end_number None = 0
 end_number (Some s) = which s.end
 
-abbrev pub length_number : Progress → ℕ
-length_number None = 0
-length_number (Some s) = s.length
+abbrev pub standing_length : Progress → ℕ
+standing_length None = 0
+standing_length (Some s) = s.length
 
 abbrev pub known_end : ℕ → Bool
 known_end n = ltb n 3
@@ -28,4 +28,4 @@ progress_of end length =
 
 -- overs, and what is in progress after them: its end's number and its length
 abbrev pub over_numbers : OverCount → List ℕ
-over_numbers o = o.count ∷ end_number o.next ∷ length_number o.next ∷ []
+over_numbers o = o.count ∷ end_number o.next ∷ standing_length o.next ∷ []

@@ -3,12 +3,12 @@
 #![tactic(auto)]
 
 ghost use Rattle.std.specs.Prelude.{◌≡◌};
-ghost use Rattle.codes.specs.Codes.{if_known};
+ghost use Rattle.codes.specs.inner.Codes.{if_known};
 ghost use Rattle.c_studio.specs.Progress as numbers;
 ghost use Rattle.c_studio.specs.Calls.{JoinCall, SheetCall, OversCall, TurnsCall};
 
 use c_stats::{put_stats, stats_of};
-use codes::{NOT_UNDERSTOOD, Report, tell_data};
+use codes::{Answer, NOT_UNDERSTOOD, tell_data};
 use overs::{End, OverCount, Progress, Standing};
 
 // The statistics of a stretch, with those of the stretch after it.
@@ -37,7 +37,8 @@ pub fn level_sheet(channels: u8, stats: &[u64; 24], out: &mut [u8], data: &mut [
     tell_data(&sheet::level_sheet(channels, known, out), data)
 }
 
-// What is in progress, by its end's number and its length: an end is 1 for the highest, 2 for the lowest, and 0 for none.
+// What is in progress, by its end's number and its length: an end is 1 for the highest, 2 for the lowest, and 0 for
+// none.
 #[tactic(auto, unfolding(crate::specs::Progress::progress_of))]
 pub fn progress(end: u64, length: u64) -> Progress
     ensures { result ≡ numbers.progress_of end «length» }
@@ -51,7 +52,7 @@ pub fn progress(end: u64, length: u64) -> Progress
 }
 
 // The same, if its end is known.
-#[tactic(auto, unfolding(codes::specs::Codes::if_known))]
+#[tactic(auto, unfolding(codes::specs::inner::Codes::if_known))]
 fn in_progress(end: u64, length: u64) -> Option<Progress>
     ensures { result ≡ if_known (numbers.known_end end) (numbers.progress_of end «length») }
 {
@@ -60,7 +61,7 @@ fn in_progress(end: u64, length: u64) -> Option<Progress>
 
 // The end's number, and the length.
 pub fn standing(p: Progress) -> (u64, u64)
-    ensures { result ≡ (numbers.end_number p, numbers.length_number p) }
+    ensures { result ≡ (numbers.end_number p, numbers.standing_length p) }
 {
     let Some(s) = p else { return (0, 0) };
     match s.end {
@@ -92,7 +93,7 @@ pub fn overs(samples: &[i32], channels: usize, channel: usize, told: &mut [u64; 
 }
 
 // Finishing turn and lateness of each album.
-#[tactic(auto, using(codes::proofs::Calls::turned_away, codes::proofs::Calls::done_so, codes::proofs::Calls::not_left, codes::proofs::Calls::not_right, codes::proofs::Calls::both_hold, crate::proofs::Done::turns_done))]
+#[tactic(auto, using(codes::proofs::Calls::turned_away, codes::proofs::Calls::not_left, codes::proofs::Calls::not_right))]
 pub fn turns(frames: &[u64], dues: &[u64], turn: u64, finishes: &mut [u64], late: &mut [i32]) -> u8
     ensures { TurnsCall frames.now dues.now turn finishes.old late.old finishes.new late.new result }
 {
@@ -101,5 +102,5 @@ pub fn turns(frames: &[u64], dues: &[u64], turn: u64, finishes: &mut [u64], late
         return NOT_UNDERSTOOD;
     }
     let made = schedule::simulate(frames, dues, turn, finishes, late);
-    Report::of(&made).number
+    Answer::of(&made).number
 }

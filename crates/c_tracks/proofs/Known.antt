@@ -1,10 +1,10 @@
 -- What is known.
 use Rattle.std.proofs.Common.{◌≡◌, Option, None, Bool, true, false, ◌&&◌, List, ℕ, length, leb, refl}
 use borrow.Author.Tests.{leb-true, eqb-true}
-use Rattle.codes.specs.Codes.{if_known}
+use Rattle.codes.specs.inner.Codes.{if_known}
 use Rattle.reference.proofs.Refusals.{and_left, and_right}
-use Rattle.tracks_open.specs.Open.{TracksArgs}
-use Rattle.c_tracks.specs.Asked.{Asked, fitting, known}
+use Rattle.tracks_open.specs.inner.Open.{TracksArgs}
+use Rattle.c_tracks.specs.Asked.{Asked, lists_match, asked_known}
 
 pub unfit : {A : Type 0} (a b : Bool) (x : A) → a ≡ false → None ≡ if_known (a && b) x
 unfolding if_known
@@ -14,7 +14,7 @@ pub as_known : {A : Type 0} (a b : Bool) (x : A) {o : Option A} → a ≡ true �
 unfolding if_known
 as_known a b x h e = rw h e
 
-pub fits : (heads lengths : List ℕ) → fitting heads lengths ≡ true → TracksArgs heads lengths
+pub fits : (heads lengths : List ℕ) → lists_match heads lengths ≡ true → TracksArgs heads lengths
 fits heads lengths h =
     let some = and_left (leb 1 (length lengths)) _ h in
     let more = and_right (leb 1 (length lengths)) _ h in
@@ -24,5 +24,5 @@ fits heads lengths h =
       few = leb-true _ _ (and_left (leb (length lengths) 99) _ more);
     }
 
-pub lists_fit : (a : Asked) → known a ≡ true → TracksArgs a.heads a.lengths
-lists_fit a h = fits a.heads a.lengths (and_left (fitting a.heads a.lengths) _ h)
+pub lists_fit : (a : Asked) → asked_known a ≡ true → TracksArgs a.heads a.lengths
+lists_fit a h = fits a.heads a.lengths (and_left (lists_match a.heads a.lengths) _ h)

@@ -9,21 +9,24 @@ use Rattle.numbers.specs.Lists.{tabulate}
 use Rattle.numbers.proofs.Lists.{length_tabulate}
 use Rattle.reference.specs.declared.PcmRate.{PcmRate}
 use Rattle.tracks.specs.Tracks.{Head, head_at, heads_of, data_start, tracks_frames, open_places}
-use Rattle.tracks_open.specs.Open.{numbers, album_of, AlbumFits, TracksArgs, OpenPromise}
+use Rattle.tracks_open.specs.Open.{numbers, album_of, AlbumFits}
+use Rattle.tracks_open.specs.inner.Open.{TracksArgs, OpenPromise}
 use Rattle.tracks_open.specs.declared.Album.{Album}
 use Rattle.tracks_open.specs.declared.Refused.{Refused}
 use Rattle.tracks_open.proofs.Accepted.{accepted_few, album_fits, none_refused}
-use Rattle.tracks_plan.specs.Asked.{SizedTracks}
+use Rattle.tracks_plan.specs.inner.Asked.{SizedTracks}
 use Rattle.tracks_plan.specs.Plan.{piece_at}
-use Rattle.c_tracks.specs.Calls.{Outputs, OpenDone, all_marks, marks_after, PieceDone, plan_numbers, read_numbers, PlanArgs}
-use Rattle.c_tracks.specs.Told.{reason, named, album_numbers, album_after}
+use Rattle.c_tracks.specs.Calls.{Outputs, OpenAlbumDone, all_marks, PieceDone, plan_numbers, read_numbers}
+use Rattle.c_tracks.specs.inner.Calls.{marks_after, PlanArgs}
+use Rattle.c_tracks.specs.Told.{album_numbers}
+use Rattle.c_tracks.specs.inner.Told.{reason, named, album_after}
 
 module _ (hs : List Head) (s : Settings) where
   abbrev d : Decision
   d = decide (open_places hs s)
 
   pub open_done : (o : Result Album Refused) → OpenPromise hs s o → (old new : Outputs) {answer : ℕ} → ToldWhole (decision (reason o)) answer new.«data» new.decibels
-      → new.track ≡ named o ∷ [] → new.album ≡ album_after o old.album → new.marks ≡ marks_after o s hs old.marks → OpenDone d hs s old new answer
+      → new.track ≡ named o ∷ [] → new.album ≡ album_after o old.album → new.marks ≡ marks_after o s hs old.marks → OpenAlbumDone d hs s old new answer
   unfolding album_of numbers
   open_done (Ok a) p old new {answer} t n w m =
       let yes : d ≡ accepted = sym p.decided in

@@ -19,13 +19,14 @@ use Rattle.tracks_open.specs.declared.Album.{Album}
 use Rattle.tracks_open.specs.declared.Refused.{Refused}
 use Rattle.tracks_step.specs.Promises.{frames_places, step_places, piece_run, FramesPromise, StepPromise}
 use Rattle.c_tracks.specs.Steps.{FramesDone, Lists, StepDone}
-use Rattle.c_tracks.specs.Told.{reason}
+use Rattle.c_tracks.specs.inner.Told.{reason}
 
-reason_decides : {A : Type 0} (o : Result A Refused) → decision (reason o) ≡ albums.decision o
+reason_decides : {A : Type 0} (o : Result A Refused) → decision (reason o) ≡ albums.tracks_decision o
 reason_decides (Ok a) = refl
 reason_decides (Err e) = refl
 
-answered : (places : List Place) (conv : Converter) (r : Run) (o : Result ConvertStats Refused) → albums.decision o ≡ decide places → IfOk o (λ t. t ≡ stats conv r) → Answered places conv r (reason o)
+answered : (places : List Place) (conv : Converter) (r : Run) (o : Result ConvertStats Refused)
+    → albums.tracks_decision o ≡ decide places → IfOk o (λ t. t ≡ stats conv r) → Answered places conv r (reason o)
 unfolding stats_told is_accepted
 answered places conv r (Ok t) d e = record { decided = d; counted = e ∙ sym (exit_accepted (decide places) _ _ (sym d)) }
 answered places conv r (Err x) d e = record { decided = d; counted = sym (exit_refused (decide places) _ _ (ap is_accepted (sym d) ∙ error_refuses x.error)) }
@@ -43,7 +44,8 @@ module _ (hs : List Head) (s : Settings) (first count : ℕ) (w : List ℕ) wher
   step_done l l' o p old new t c =
       let places = step_places hs s first count (length w) (length l.scratch) (length l.out) in
       record {
-        done = conversion_done places (tracks_converter s hs) (piece_run hs first count w) (reason o) (answered places (tracks_converter s hs) (piece_run hs first count w) o p.decided p.counted) old new t c;
+        done = conversion_done places (tracks_converter s hs) (piece_run hs first count w) (reason o)
+            (answered places (tracks_converter s hs) (piece_run hs first count w) o p.decided p.counted) old new t c;
         gathered = p.gathered;
         written = p.written;
       }

@@ -1,27 +1,25 @@
 -- What each call about an album of tracks promises: its answer, and what every lent list holds when it returns. A
 -- primed list is one at exit.
-use Rattle.std.specs.Prelude.{◌≡◌, Option, Some, None, Result, Ok, Err, List, [], ◌∷◌, cond, ◌&&◌, ℕ, ◌+◌, ◌-◌, ◌*◌, eqb, length, replicate, Float}
+use Rattle.std.specs.Prelude.{◌≡◌, Option, Some, None, List, [], ◌∷◌, cond, ◌&&◌, ℕ, ◌+◌, ◌-◌, ◌*◌, eqb, length, replicate, Float}
 use Rattle.numbers.specs.Lists.{tabulate}
 use Rattle.reference.specs.Frames.{frame_bytes}
 use Rattle.reference.specs.Refusals.{Decision, decide, refusal_number}
 use Rattle.reference.specs.Promises.{by_decision}
 use Rattle.reference.specs.declared.PcmRate.{PcmRate}
 use Rattle.reference.specs.declared.Settings.{Settings}
-use Rattle.codes.specs.Calls.{Call}
+use Rattle.codes.specs.Calls.{CCall}
 use Rattle.codes.specs.Told.{ToldWhole}
 use Rattle.album_parts.specs.Parts as parts
 use Rattle.album_parts.specs.declared.Part.{Part}
-use Rattle.tracks.specs.Tracks.{Head, tracks_channels, tracks_frames, open_places, refused_track, data_start, heads_of}
+use Rattle.tracks.specs.Tracks.{Head, tracks_channels, open_places, refused_track, data_start}
 use Rattle.tracks.specs.Windows.{low, high, windows_length}
-use Rattle.tracks_open.specs.Open.{album_of, AlbumFits}
+use Rattle.tracks_open.specs.Open.{album_of}
 use Rattle.tracks_open.specs.declared.Album.{Album}
-use Rattle.tracks_open.specs.declared.Refused.{Refused}
-use Rattle.tracks_plan.specs.Asked.{SizedTracks}
 use Rattle.tracks_plan.specs.Plan.{piece_at}
 use Rattle.tracks_plan.specs.Reads.{reads}
 use Rattle.tracks_plan.specs.Writes.{writes}
 use Rattle.tracks_plan.specs.declared.cutting.Piece.{Piece}
-use Rattle.c_tracks.specs.Asked.{Asked, known, settings, heads}
+use Rattle.c_tracks.specs.Asked.{Asked, asked_known, asked_settings, asked_heads}
 use Rattle.c_tracks.specs.Told.{album_numbers}
 
 -- ---- opening
@@ -41,23 +39,18 @@ outputs a m t d f = record { album = a; marks = m; track = t; «data» = d; deci
 abbrev pub all_marks : PcmRate → ℕ → List Head → List ℕ
 all_marks rate n hs = tabulate (data_start rate n hs) 0 (length hs + 1)
 
--- of an answer
-abbrev pub marks_after : Result Album Refused → Settings → List Head → List ℕ → List ℕ
-marks_after (Ok a) s hs old = all_marks s.rate a.channels hs
-marks_after (Err e) s hs old = old
-
 -- d is what it decides
-pub record OpenDone (d : Decision) (hs : List Head) (s : Settings) (old new : Outputs) (answer : ℕ) : Type 0 where
+pub record OpenAlbumDone (d : Decision) (hs : List Head) (s : Settings) (old new : Outputs) (answer : ℕ) : Type 0 where
   pub told : ToldWhole d answer new.«data» new.decibels
   pub named : new.track ≡ refused_track hs s ∷ []
   pub written : new.album ≡ by_decision d (album_numbers (album_of s.rate hs)) old.album
   pub marked : new.marks ≡ by_decision d (all_marks s.rate (tracks_channels hs) hs) old.marks
 
-abbrev pub OpenCall : Asked → Outputs → Outputs → ℕ → Type 0
-OpenCall a old new answer =
-    Call (known a && eqb (length old.marks) (length a.lengths + 1)) answer
+abbrev pub OpenAlbumCall : Asked → Outputs → Outputs → ℕ → Type 0
+OpenAlbumCall a old new answer =
+    CCall (asked_known a && eqb (length old.marks) (length a.lengths + 1)) answer
     (new ≡ old)
-    (OpenDone (decide (open_places (heads a) (settings a))) (heads a) (settings a) old new answer)
+    (OpenAlbumDone (decide (open_places (asked_heads a) (asked_settings a))) (asked_heads a) (asked_settings a) old new answer)
 
 -- ---- the plan
 
@@ -65,7 +58,7 @@ abbrev pub part_numbers : Part → List ℕ
 part_numbers p = p.first ∷ p.end ∷ []
 
 abbrev pub PartCall : ℕ → ℕ → ℕ → List ℕ → Type 0
-PartCall frames jobs j pieces' = pieces' ≡ part_numbers (parts.part frames jobs j)
+PartCall frames jobs j pieces' = pieces' ≡ part_numbers (parts.job_part frames jobs j)
 
 -- a piece, and the bytes of all that is read for it
 abbrev pub some_plan : Album → List Head → Option Piece → List ℕ
@@ -94,18 +87,10 @@ pub record PieceDone (d : Decision) (a : Album) (hs : List Head) (i : ℕ) (plan
 
 abbrev pub PieceCall : Asked → ℕ → List ℕ → List ℕ → List ℕ → List ℕ → ℕ → Type 0
 PieceCall a i plan plan' asked asked' answer =
-    Call (known a && eqb (length asked) (2 * length a.lengths)) answer
+    CCall (asked_known a && eqb (length asked) (2 * length a.lengths)) answer
     ((plan' ≡ plan) × (asked' ≡ asked))
-    (PieceDone (decide (open_places (heads a) (settings a))) (album_of (settings a).rate (heads a)) (heads a) i plan plan' asked asked' answer)
+    (PieceDone (decide (open_places (asked_heads a) (asked_settings a))) (album_of (asked_settings a).rate (asked_heads a)) (asked_heads a) i plan plan' asked asked' answer)
 
 -- three numbers are lent for each file between two marks
 abbrev pub WritesCall : List ℕ → ℕ → ℕ → List ℕ → List ℕ → Type 0
 WritesCall marks place bytes out out' = out' ≡ cond (eqb (length out) (3 * (length marks - 1))) (writes marks place bytes) out
-
--- ---- what the code asks for; no part of a promise
-
-pub record PlanArgs (bytes lengths : List ℕ) (a : Album) (room : ℕ) : Type 0 where
-  pub sized : SizedTracks bytes lengths
-  pub fits : AlbumFits a
-  pub frames : a.frames ≡ tracks_frames (heads_of bytes lengths)
-  pub lent : room ≡ 2 * length lengths

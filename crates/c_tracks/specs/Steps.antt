@@ -5,12 +5,12 @@ use Rattle.reference.specs.Output.{samples, s24le}
 use Rattle.reference.specs.Refusals.{Decision, decide}
 use Rattle.reference.specs.Promises.{by_decision}
 use Rattle.reference.specs.declared.Settings.{Settings}
-use Rattle.codes.specs.Calls.{Call}
+use Rattle.codes.specs.Calls.{CCall}
 use Rattle.codes.specs.Told.{ToldWhole}
 use Rattle.c_stats.specs.Conversions.{Results, ConversionDone}
 use Rattle.tracks.specs.Tracks.{Head, tracks_converter}
 use Rattle.tracks_step.specs.Promises.{frames_places, step_places, piece_frames, piece_run}
-use Rattle.c_tracks.specs.Asked.{Asked, known, settings, heads}
+use Rattle.c_tracks.specs.Asked.{Asked, asked_known, asked_settings, asked_heads}
 
 -- ---- frames gathered: d is what it decides
 
@@ -20,10 +20,10 @@ pub record FramesDone (d : Decision) (hs : List Head) (first count : ℕ) (windo
 
 abbrev pub FramesCall : Asked → ℕ → ℕ → List ℕ → List ℕ → List ℕ → List ℕ → List ℕ → List Float → List Float → ℕ → Type 0
 FramesCall a first count windows scratch scratch' data₀ data' decibels decibels' answer =
-    let places = frames_places (heads a) (settings a) first count (length windows) (length scratch) in
-    Call (known a) answer
+    let places = frames_places (asked_heads a) (asked_settings a) first count (length windows) (length scratch) in
+    CCall (asked_known a) answer
     ((scratch' ≡ scratch) × (data' ≡ data₀) × (decibels' ≡ decibels))
-    (FramesDone (decide places) (heads a) first count windows scratch scratch' data' decibels' answer)
+    (FramesDone (decide places) (asked_heads a) first count windows scratch scratch' data' decibels' answer)
 
 -- ---- a step
 
@@ -43,7 +43,7 @@ pub record StepDone (d : Decision) (hs : List Head) (s : Settings) (first count 
 
 abbrev pub StepCall : Asked → ℕ → ℕ → List ℕ → Lists → Lists → Results → Results → ℕ → Type 0
 StepCall a first count windows l l' old new answer =
-    let places = step_places (heads a) (settings a) first count (length windows) (length l.scratch) (length l.out) in
-    Call (known a) answer
+    let places = step_places (asked_heads a) (asked_settings a) first count (length windows) (length l.scratch) (length l.out) in
+    CCall (asked_known a) answer
     ((l' ≡ l) × (new ≡ old))
-    (StepDone (decide places) (heads a) (settings a) first count windows l l' old new answer)
+    (StepDone (decide places) (asked_heads a) (asked_settings a) first count windows l l' old new answer)

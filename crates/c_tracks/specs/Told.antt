@@ -1,23 +1,7 @@
--- What is told of an answer that may name a track.
-use Rattle.std.specs.Prelude.{Result, Ok, Err, List, [], ◌∷◌, ℕ}
-use Rattle.reference.specs.declared.PcmError.{PcmError}
+-- An album's numbers.
+use Rattle.std.specs.Prelude.{List, [], ◌∷◌, ℕ}
 use Rattle.tracks_open.specs.declared.Album.{Album}
-use Rattle.tracks_open.specs.declared.Refused.{Refused}
-
--- the answer without its track
-abbrev pub reason : {A : Type 0} → Result A Refused → Result A PcmError
-reason (Ok a) = Ok a
-reason (Err e) = Err e.error
-
--- the track that it names; 0 where it is accepted
-abbrev pub named : {A : Type 0} → Result A Refused → ℕ
-named (Ok a) = 0
-named (Err e) = e.track
 
 -- an album's numbers in a list
 abbrev pub album_numbers : Album → List ℕ
 album_numbers a = a.channels ∷ a.channel_type ∷ a.bytes ∷ a.frames ∷ a.«data» ∷ a.frame ∷ a.filled ∷ a.pieces ∷ []
-
-abbrev pub album_after : Result Album Refused → List ℕ → List ℕ
-album_after (Ok a) old = album_numbers a
-album_after (Err e) old = old

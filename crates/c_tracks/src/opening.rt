@@ -1,10 +1,10 @@
 // An album opened.
 ghost use Rattle.std.specs.Prelude.{◌≡◌, ◌+◌, length};
 ghost use Rattle.tracks.specs.Tracks.{heads_of};
-ghost use Rattle.tracks_open.specs.Open.{TracksArgs, OpenPromise};
-ghost use Rattle.c_tracks.specs.Asked.{as_asked};
-ghost use Rattle.c_tracks.specs.Calls.{OpenCall, outputs};
-ghost use Rattle.c_tracks.specs.Calls as calls;
+ghost use Rattle.tracks_open.specs.inner.Open.{TracksArgs, OpenPromise};
+ghost use Rattle.c_tracks.specs.inner.Asked.{as_asked};
+ghost use Rattle.c_tracks.specs.Calls.{OpenAlbumCall, outputs};
+ghost use Rattle.c_tracks.specs.inner.Calls as calls;
 
 use crate::Asked;
 use crate::telling::{named, reason, tell_album};
@@ -37,7 +37,7 @@ pub fn open(
     data: &mut [u64; 2],
     decibels: &mut [f64; 1],
 ) -> u8
-    ensures { OpenCall (as_asked asked.entry) (outputs album.old marks.old track.old «data».old decibels.old) (outputs album.new marks.new track.new «data».new decibels.new) result }
+    ensures { OpenAlbumCall (as_asked asked.entry) (outputs album.old marks.old track.old «data».old decibels.old) (outputs album.new marks.new track.new «data».new decibels.new) result }
 {
     let Some(settings) = asked.settings() else {
         return NOT_UNDERSTOOD;

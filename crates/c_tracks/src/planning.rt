@@ -1,9 +1,10 @@
 // The plan of an album.
 ghost use Rattle.std.specs.Prelude.{◌≡◌, ◌*◌, length};
 ghost use Rattle.tracks.specs.Tracks.{heads_of};
-ghost use Rattle.c_tracks.specs.Asked.{as_asked};
+ghost use Rattle.c_tracks.specs.inner.Asked.{as_asked};
 ghost use Rattle.c_tracks.specs.Calls as calls;
-ghost use Rattle.c_tracks.specs.Calls.{PartCall, PieceCall, WritesCall, PlanArgs};
+ghost use Rattle.c_tracks.specs.Calls.{PartCall, PieceCall, WritesCall};
+ghost use Rattle.c_tracks.specs.inner.Calls.{PlanArgs};
 
 use crate::Asked;
 use album_parts::Part;
@@ -11,7 +12,7 @@ use codes::NOT_UNDERSTOOD;
 use tracks_open::{Album, Tracks};
 
 // The pieces of a part.
-#[tactic(auto, unfolding(album_parts::specs::Parts::part))]
+#[tactic(auto, unfolding(album_parts::specs::Parts::job_part))]
 pub fn part(frames: u64, jobs: u64, part: u64, pieces: &mut [u64; 2])
     ensures { PartCall frames jobs part pieces.new }
 {

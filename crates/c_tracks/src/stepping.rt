@@ -1,7 +1,7 @@
 // A piece's frames gathered, and the piece converted.
 ghost use Rattle.std.specs.Prelude.{◌≡◌};
 ghost use Rattle.c_stats.specs.Conversions.{results};
-ghost use Rattle.c_tracks.specs.Asked.{as_asked};
+ghost use Rattle.c_tracks.specs.inner.Asked.{as_asked};
 ghost use Rattle.c_tracks.specs.Steps.{lists, FramesCall, StepCall};
 
 use crate::Asked;
@@ -42,7 +42,8 @@ pub fn step(
     data: &mut [u64; 2],
     decibels: &mut [f64; 1],
 ) -> u8
-    ensures { StepCall (as_asked asked.entry) first count windows.now (lists scratch.old out.old) (lists scratch.new out.new) (results stats.old «data».old decibels.old) (results stats.new «data».new decibels.new) result }
+    ensures { StepCall (as_asked asked.entry) first count windows.now (lists scratch.old out.old)
+        (lists scratch.new out.new) (results stats.old «data».old decibels.old) (results stats.new «data».new decibels.new) result }
 {
     let Some(settings) = asked.settings() else {
         return NOT_UNDERSTOOD;

@@ -1,6 +1,6 @@
 // What is told of an answer that may name a track.
 ghost use Rattle.std.specs.Prelude.{◌≡◌, [], ◌∷◌};
-ghost use Rattle.c_tracks.specs.Told as told;
+ghost use Rattle.c_tracks.specs.inner.Told as told;
 
 use reference::PcmError;
 use tracks_open::{Album, Refused};

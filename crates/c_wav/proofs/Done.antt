@@ -19,11 +19,11 @@ use Rattle.wav_heading.specs.Heading.{head_places, HeaderPromise}
 use Rattle.codes.specs.Codes.{rate_of, known_rate}
 use Rattle.codes.specs.Told.{if_ok, ToldData}
 use Rattle.codes.proofs.Told.{told_written}
-use Rattle.c_wav.specs.Calls.{rate_place, read_numbers, ReadCall, WriteCall, HeaderCall}
-use Rattle.c_wav.specs.Made.{Written, Headed}
+use Rattle.c_wav.specs.Calls.{rate_place, format_numbers, WavReadCall, WavWriteCall, WavHeaderCall}
+use Rattle.c_wav.specs.inner.Made.{WavMade, HeaderMade}
 
 pub read_done : (file : List ℕ) {told told' : List ℕ} {answer : ℕ} (made : Result WavFormat PcmError) → ReadPromise file made → (n : ℕ) → n ≡ length (file_samples file)
-    → (answer ≡ refusal_number (decision made)) × (told' ≡ if_ok (read_numbers n) made told) → ReadCall file told told' answer
+    → (answer ≡ refusal_number (decision made)) × (told' ≡ if_ok (format_numbers n) made told) → WavReadCall file told told' answer
 read_done file {told} made p n e t = record { made = made; promise = p; number = t.0; written = t.1 ∙ rw e refl }
 
 -- an unknown rate is refused before all else; past it the later places decide
@@ -42,32 +42,32 @@ module _ (rate : ℕ) (later : List Place) where
   known e = at_next _ _ (ap not e)
 
 module _ (rate channels : ℕ) (bytes out : List ℕ) where
-  pub unknown_written : known_rate rate ≡ false → Written rate channels bytes out out (Err NotWav)
+  pub unknown_written : known_rate rate ≡ false → WavMade rate channels bytes out out (Err NotWav)
   unknown_written e = record { decided = sym (unknown rate _ e); written = unknown_keeps rate _ (wav_file (rate_of rate) channels bytes) out e }
 
   pub known_written : known_rate rate ≡ true → (r : PcmRate) → rate_of rate ≡ r → (out' : List ℕ) (v : Result (Unit {0}) PcmError) → WritePromise r channels bytes out out' v
-      → Written rate channels bytes out out' v
+      → WavMade rate channels bytes out out' v
   known_written e r h out' v w =
       let p = subst (λ (x : PcmRate). WritePromise x channels bytes out out' v) (sym h) w in
       let past : d rate (write_places (rate_of rate) channels bytes (length out)) ≡ decide (write_places (rate_of rate) channels bytes (length out)) = known rate _ e in
       record { decided = p.decided ∙ sym past; written = p.written ∙ ap (λ (x : Decision). by_decision x (wav_file (rate_of rate) channels bytes) out) (sym past) }
 
 module _ (rate channels n : ℕ) (out : List ℕ) where
-  pub unknown_headed : known_rate rate ≡ false → Headed rate channels n out out (Err NotWav)
+  pub unknown_headed : known_rate rate ≡ false → HeaderMade rate channels n out out (Err NotWav)
   unknown_headed e = record { decided = sym (unknown rate _ e); written = unknown_keeps rate _ (wav.header (hertz (rate_of rate)) channels n) out e }
 
   pub known_headed : length out ≡ 44 → known_rate rate ≡ true → (r : PcmRate) → rate_of rate ≡ r → (out' : List ℕ) (v : Result (Unit {0}) PcmError) → HeaderPromise r channels n out out' v
-      → Headed rate channels n out out' v
+      → HeaderMade rate channels n out out' v
   known_headed l e r h out' v w =
       let p = subst (λ (x : PcmRate). HeaderPromise x channels n out out' v) (sym h) w in
       let past : decide (head_places (rate_of rate) channels n (length out)) ≡ d rate (head_places (rate_of rate) channels n 44) =
       ap (λ (k : ℕ). decide (head_places (rate_of rate) channels n k)) l ∙ sym (known rate _ e) in
       record { decided = p.decided ∙ past; written = p.written ∙ ap (λ (x : Decision). by_decision x (wav.header (hertz (rate_of rate)) channels n) out) past }
 
-pub write_done : (rate channels : ℕ) (bytes : List ℕ) {out out' data' : List ℕ} {answer : ℕ} (made : Result (Unit {0}) PcmError) → Written rate channels bytes out out' made
-    → ToldData (decision made) answer data' → WriteCall rate channels bytes out out' data' answer
+pub write_done : (rate channels : ℕ) (bytes : List ℕ) {out out' data' : List ℕ} {answer : ℕ} (made : Result (Unit {0}) PcmError) → WavMade rate channels bytes out out' made
+    → ToldData (decision made) answer data' → WavWriteCall rate channels bytes out out' data' answer
 write_done rate channels bytes made p t = told_written made p.decided t p.written
 
-pub header_done : (rate channels n : ℕ) {out out' : List ℕ} {answer : ℕ} (made : Result (Unit {0}) PcmError) → Headed rate channels n out out' made
-    → answer ≡ refusal_number (decision made) → HeaderCall rate channels n out out' answer
+pub header_done : (rate channels n : ℕ) {out out' : List ℕ} {answer : ℕ} (made : Result (Unit {0}) PcmError) → HeaderMade rate channels n out out' made
+    → answer ≡ refusal_number (decision made) → WavHeaderCall rate channels n out out' answer
 header_done rate channels n made p t = record { number = t ∙ ap refusal_number p.decided; written = p.written }

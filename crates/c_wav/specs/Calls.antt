@@ -16,27 +16,27 @@ use Rattle.codes.specs.Told.{if_ok, ToldWritten}
 -- ---- the reader
 
 -- rate, channels, and where the sample bytes begin and how many there are, of a file that was taken
-abbrev pub read_numbers : ℕ → WavFormat → List ℕ
-read_numbers n f = hertz f.rate ∷ f.channels ∷ 44 ∷ n ∷ []
+abbrev pub format_numbers : ℕ → WavFormat → List ℕ
+format_numbers n f = hertz f.rate ∷ f.channels ∷ 44 ∷ n ∷ []
 
-pub record ReadCall (file told told' : List ℕ) (answer : ℕ) : Type 0 where
+pub record WavReadCall (file told told' : List ℕ) (answer : ℕ) : Type 0 where
   pub made : Result WavFormat PcmError
   pub promise : ReadPromise file made
   pub number : answer ≡ refusal_number (decision made)
-  pub written : told' ≡ if_ok (read_numbers (length (file_samples file))) made told
+  pub written : told' ≡ if_ok (format_numbers (length (file_samples file))) made told
 
 -- ---- a file from sample bytes, and its header: a rate that is none of the three is refused 12, before all else
 
 abbrev pub rate_place : ℕ → Place
 rate_place rate = place (not (known_rate rate)) 12 []
 
-abbrev pub WriteCall : ℕ → ℕ → List ℕ → List ℕ → List ℕ → List ℕ → ℕ → Type 0
-WriteCall rate channels bytes out =
+abbrev pub WavWriteCall : ℕ → ℕ → List ℕ → List ℕ → List ℕ → List ℕ → ℕ → Type 0
+WavWriteCall rate channels bytes out =
     ToldWritten (decide (rate_place rate ∷ write_places (rate_of rate) channels bytes (length out))) (wav_file (rate_of rate) channels bytes) out
 
-pub record HeaderDone (d : Decision) (rate channels n : ℕ) (out out' : List ℕ) (answer : ℕ) : Type 0 where
+pub record WavHeaderDone (d : Decision) (rate channels n : ℕ) (out out' : List ℕ) (answer : ℕ) : Type 0 where
   pub number : answer ≡ refusal_number d
   pub written : out' ≡ by_decision d (wav.header rate channels n) out
 
-abbrev pub HeaderCall : ℕ → ℕ → ℕ → List ℕ → List ℕ → ℕ → Type 0
-HeaderCall rate channels n out = HeaderDone (decide (rate_place rate ∷ head_places (rate_of rate) channels n 44)) (hertz (rate_of rate)) channels n out
+abbrev pub WavHeaderCall : ℕ → ℕ → ℕ → List ℕ → List ℕ → ℕ → Type 0
+WavHeaderCall rate channels n out = WavHeaderDone (decide (rate_place rate ∷ head_places (rate_of rate) channels n 44)) (hertz (rate_of rate)) channels n out

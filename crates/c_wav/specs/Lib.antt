@@ -1,2 +1,2 @@
 pub mod Calls
-pub mod Made
+pub mod inner

@@ -1,20 +1,21 @@
-// The call about a WAV file's header, as C has it. Where a format or a rate is unknown, it answers 255 and writes nothing.
+// The call about a WAV file's header, as C has it. Where a format or a rate is unknown, it answers 255 and writes
+// nothing.
 #![tactic(auto)]
 
 ghost use Rattle.std.specs.Prelude.{◌≡◌, [], ◌∷◌, ◌&&◌};
 ghost use Rattle.reference.specs.Refusals.{decision, refusal_number};
 ghost use Rattle.codes.specs.Codes as codes;
-ghost use Rattle.codes.specs.Codes.{if_known};
+ghost use Rattle.codes.specs.inner.Codes.{if_known};
 ghost use Rattle.codes.specs.Told.{if_ok};
 ghost use Rattle.wave_headers.specs.Headers as headers;
 ghost use Rattle.c_wave.specs.Calls as calls;
-ghost use Rattle.c_wave.specs.Calls.{known_format, HeaderCall};
+ghost use Rattle.c_wave.specs.Calls.{known_format, KindHeaderCall};
 
-use codes::{NOT_UNDERSTOOD, Report, rate_of};
+use codes::{Answer, NOT_UNDERSTOOD, rate_of};
 use reference::{PcmError, PcmRate};
 use wave_headers::Format;
 
-#[tactic(auto, unfolding(codes::specs::Codes::if_known, crate::specs::Calls::format_of))]
+#[tactic(auto, unfolding(codes::specs::inner::Codes::if_known, crate::specs::Calls::format_of))]
 fn format_of(n: u64) -> Option<Format>
     ensures { result ≡ if_known (known_format n) (calls.format_of n) }
 {
@@ -27,7 +28,7 @@ fn format_of(n: u64) -> Option<Format>
 }
 
 // What known numbers stand for.
-#[tactic(auto, using(codes::proofs::Known::some_known, codes::proofs::Known::none_known), unfolding(codes::specs::Codes::if_known))]
+#[tactic(auto, using(codes::proofs::Known::some_known, codes::proofs::Known::none_known), unfolding(codes::specs::inner::Codes::if_known))]
 fn asked(format: u64, rate: u64) -> Option<(Format, PcmRate)>
     ensures { result ≡ if_known (known_format format && codes.known_rate rate) (calls.format_of format, codes.rate_of rate) }
 {
@@ -44,7 +45,7 @@ fn tell_lengths(made: Result<u64, PcmError>, n: u64, told: &mut [u64; 2]) -> u8
     if let Ok(length) = made {
         *told = [length, n % 2];
     }
-    Report::of(&made).number
+    Answer::of(&made).number
 }
 
 // The header of a file with so many bytes of samples.
@@ -58,7 +59,7 @@ pub fn header(
     out: &mut [u8; 104],
     told: &mut [u64; 2],
 ) -> u8
-    ensures { HeaderCall format rate channels «channel_type» bytes out.old out.new told.old told.new result }
+    ensures { KindHeaderCall format rate channels «channel_type» bytes out.old out.new told.old told.new result }
 {
     let Some((format, rate)) = asked(format, rate) else {
         return NOT_UNDERSTOOD;

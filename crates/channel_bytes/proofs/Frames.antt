@@ -12,10 +12,10 @@ use lib.Dec.{ltb, leb, eqb}
 use lib.ListN.{length, get_or, take, drop, length-append, length-drop, length-replicate, get_or-replicate, get_or-append, get_or-eq_default}
 use lib.Seq.{get_or-append-add, get_or-take, get_or-drop, length-take-le}
 use borrow.Rule.Slice.PartMut.{put_mid}
-use Rattle.numbers.specs.Lists.{Held}
+use Rattle.numbers.specs.inner.Lists.{Held}
 use Rattle.numbers.proofs.Lists.{below_or, part_end}
 use Rattle.reference.specs.Frames.{frame_length, frame, neighbour, sequence, channel_byte}
-use Rattle.channel_bytes.specs.Lent.{lent_run, Lent, frame_part, byte_at}
+use Rattle.channel_bytes.specs.inner.Lent.{lent_run, Lent, frame_part, byte_at}
 
 -- a neighbour's frame and the slice that is lent for it
 module _ (ch : ℕ) (bytes : List ℕ) (one : 0 < length bytes → length bytes ≡ frame_length ch) where

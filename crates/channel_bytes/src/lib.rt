@@ -2,10 +2,10 @@
 #![tactic(auto)]
 
 ghost use Rattle.std.specs.Prelude.{◌≡◌, [], ◌+◌, ◌*◌, ◌/◌, ◌≤◌, ◌<◌, length, get_or};
-ghost use Rattle.numbers.specs.Lists.{Held};
+ghost use Rattle.numbers.specs.inner.Lists.{Held};
 ghost use Rattle.reference.specs.Frames.{frame_length};
-ghost use Rattle.channel_bytes.specs.Lent.{frame_part};
-ghost use Rattle.channel_bytes.specs.Runs.{bytes_of};
+ghost use Rattle.channel_bytes.specs.inner.Lent.{frame_part};
+ghost use Rattle.channel_bytes.specs.inner.Runs.{slices_bytes};
 
 use reference::FRAME_BYTES;
 
@@ -63,7 +63,7 @@ impl<'a> Slices<'a> {
     // The bytes of a channel from a position on, as many as `bytes` has places; idle where no frame holds the position.
     pub fn gather(&self, channel: usize, position: usize, bytes: &mut [u8])
         requires { (channel < self.now.channels) × (position + length bytes.old < 18446744073709551616) }
-        ensures { Held 0 (bytes_of self.now channel) position (length bytes.old) bytes.new }
+        ensures { Held 0 (slices_bytes self.now channel) position (length bytes.old) bytes.new }
     {
         let mut k = 0;
         // Each turn goes to the end of a frame, or of the places.

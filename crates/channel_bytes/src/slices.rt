@@ -1,5 +1,5 @@
 // A run as it is lent.
-ghost use Rattle.channel_bytes.specs.Lent.{Lent};
+ghost use Rattle.channel_bytes.specs.inner.Lent.{Lent};
 
 // The frame before the run or nothing, its frames, the frame after it or nothing; its frames are so many, of so many
 // channels. The count stands beside the slice: it is divided out once a run, and not for each block of each channel.

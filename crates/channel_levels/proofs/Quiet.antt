@@ -1,4 +1,5 @@
--- A channel whose lowest and highest sample lie between the ends of full scale has no overs, and leaves nothing in progress.
+-- A channel whose lowest and highest sample lie between the ends of full scale has no overs, and leaves nothing in
+-- progress.
 use Rattle.std.proofs.Common.{◌≡◌, ℕ, zero, suc, ◌+◌, ◌*◌, ◌/◌, ◌<◌, ◌≤◌, true, List, length, get_or, ℤ, pos, negsuc, ⊎_elim, le-div_iff_mul-le, arith}
 use lib.Signed.{lt_z}
 use Rattle.numbers.specs.Extremes.{lesser, greater, picked, extreme}

@@ -1,1 +1,1 @@
-pub mod Channels
+pub mod inner

@@ -4,7 +4,7 @@
 ghost use Rattle.std.specs.Prelude.{◌≡◌, ◌*◌, ◌+◌, ◌/◌, ◌<◌, ◌≤◌, length, get_or, pos};
 ghost use Rattle.numbers.specs.Extremes as extremes;
 ghost use Rattle.overs.specs.Overs.{overs_of};
-ghost use Rattle.channel_levels.specs.Channels.{level_of};
+ghost use Rattle.channel_levels.specs.inner.Channels.{level_of};
 
 use level_lines::Level;
 use overs::{OverCount, Progress};
@@ -54,7 +54,7 @@ fn overs_of(samples: &[i32], ch: usize, c: usize, e: Extremes, p: Progress) -> O
 }
 
 // What is told of a channel of a frame with so many clips, and what is in progress after it.
-#[tactic(auto, unfolding(crate::specs::Channels::level_of))]
+#[tactic(auto, unfolding(crate::specs::inner::Channels::level_of))]
 pub fn level(clipped: u64, samples: &[i32], ch: usize, c: usize, p: Progress) -> (Level, Progress)
     requires { (c < ch) × (ch ≤ 6) × (ch ≤ length samples.now) × (length samples.now ≡ length samples.now / ch * ch) }
     ensures level_value { result.0 ≡ level_of clipped samples.now ch c p }

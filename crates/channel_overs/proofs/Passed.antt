@@ -16,7 +16,7 @@ use Rattle.overs.specs.declared.End.{End}
 use Rattle.overs.specs.declared.OverCount.{OverCount}
 use Rattle.overs.specs.Overs.{Progress, end_of, same_end, none, length_at, longer, third_after, step_at, step, overs_from, after}
 use Rattle.overs.proofs.Laws.{overs_append, after_append, quiet_step}
-use Rattle.channel_overs.specs.Passed.{Passed}
+use Rattle.channel_overs.specs.inner.Passed.{Passed}
 
 pub small_quotient : (a n : ℕ) → a / n ≤ a
 small_quotient a n = div-le_self a n

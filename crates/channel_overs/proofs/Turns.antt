@@ -9,7 +9,7 @@ use Rattle.numbers.specs.Lists.{tabulate}
 use Rattle.numbers.proofs.Lists.{length_tabulate, tabulate_join}
 use Rattle.overs.specs.declared.OverCount.{OverCount}
 use Rattle.overs.specs.Overs.{Progress, none, step, overs_from, after}
-use Rattle.channel_overs.specs.Passed.{Passed}
+use Rattle.channel_overs.specs.inner.Passed.{Passed}
 use Rattle.overs.proofs.Laws.{at, overs_append, after_append, overs_more, after_more, overs_few}
 
 -- what k samples give from a state

@@ -1,1 +1,1 @@
-pub mod Passed
+pub mod inner

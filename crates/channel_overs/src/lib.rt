@@ -3,7 +3,7 @@
 
 ghost use Rattle.std.specs.Prelude.{◌≡◌, ◌+◌, ◌*◌, ◌≤◌, pos, length, get_or};
 ghost use Rattle.overs.specs.Overs as overs;
-ghost use Rattle.channel_overs.specs.Passed.{Passed};
+ghost use Rattle.channel_overs.specs.inner.Passed.{Passed};
 
 use overs::{OverCount, Progress, end_of, normal, step};
 

@@ -2,12 +2,12 @@
 use mathlib.Core.Path.{◌≡◌, refl, sym, ◌∙◌}
 use mathlib.Core.Bool.{Bool, true, false, true≢false, ◌&&◌}
 use Prim.Native.Nat.{ℕ}
-use Rattle.codes.specs.Calls.{Call}
+use Rattle.codes.specs.Calls.{CCall}
 
-pub done_so : {b : Bool} {answer : ℕ} {Kept Done : Type 0} → b ≡ true → Done → Call b answer Kept Done
+pub done_so : {b : Bool} {answer : ℕ} {Kept Done : Type 0} → b ≡ true → Done → CCall b answer Kept Done
 done_so e d = record { unclear = λ f. absurd (true≢false (sym e ∙ f)); done = λ f. d }
 
-pub turned_away : {b : Bool} {Kept Done : Type 0} → b ≡ false → Kept → Call b 255 Kept Done
+pub turned_away : {b : Bool} {Kept Done : Type 0} → b ≡ false → Kept → CCall b 255 Kept Done
 turned_away e k = record { unclear = λ f. (refl, k); done = λ f. absurd (true≢false (sym f ∙ e)) }
 
 -- one of two is unknown

@@ -3,7 +3,7 @@ use mathlib.Core.Path.{refl}
 use lib.Ieee.{of_bits, of_int, binary64}
 use Rattle.std.proofs.Common.{rules, Some, None, ◌≡◌, Bool, true, false}
 use Rattle.reference.specs.Scaling.{whole}
-use Rattle.codes.specs.Codes.{if_known}
+use Rattle.codes.specs.inner.Codes.{if_known}
 
 pub zero_is : of_bits binary64 0 ≡ whole 0
 unfolding of_bits of_int

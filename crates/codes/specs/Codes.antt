@@ -1,13 +1,12 @@
 -- Numbers for C: rates, cutoffs, channels and flags, and a decision as a number with its data.
-use Rattle.std.specs.Prelude.{List, [], ◌∷◌, map, Bool, cond, ℕ, eqb, ltb, Float, get_or, Option, Some, None}
+use Rattle.std.specs.Prelude.{List, [], ◌∷◌, map, Bool, cond, ℕ, eqb, ltb, Float, get_or}
 use Rattle.reference.specs.Scaling.{whole}
 use Rattle.reference.specs.Codes.{hertz, cutoff_number}
-use Rattle.reference.specs.Refusals.{Decision, accepted, refused, refusal_number, Datum, number, rate, cutoff, decibels}
+use Rattle.reference.specs.Refusals.{Decision, accepted, refused, Datum, number, rate, cutoff, decibels}
 use Rattle.reference.specs.declared.PcmRate.{PcmRate}
 use Rattle.reference.specs.declared.PcmRate.TheVariants.{Hz88200, Hz176400, Hz352800}
 use Rattle.reference.specs.declared.Cutoff.{Cutoff}
 use Rattle.reference.specs.declared.Cutoff.TheVariants.{Standard, Low, Wide}
-use Rattle.codes.specs.declared.Report.{Report}
 
 -- ---- arguments: each number is read as something, and is known if it is the number of what it is read as
 
@@ -33,10 +32,6 @@ known_flag n = ltb n 2
 
 abbrev pub flag : ℕ → Bool
 flag n = eqb n 1
-
--- what a known number stands for; nothing for an unknown one
-unfoldable pub if_known : {A : Type 0} → Bool → A → Option A
-if_known b a = cond b (Some a) None
 
 -- ---- what is told of a decision
 
@@ -67,7 +62,3 @@ first_decibels (decibels db ∷ ds) = db
 
 abbrev pub carried_decibels : Decision → Float
 carried_decibels d = first_decibels (carried d)
-
--- all that is told, as the code hands it on
-abbrev pub report : Decision → Report
-report d = record { number = refusal_number d; «data» = data_numbers d; decibels = carried_decibels d }

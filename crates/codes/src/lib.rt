@@ -5,7 +5,7 @@
 ghost use Rattle.std.specs.Prelude.{◌≡◌};
 ghost use Rattle.reference.specs.Refusals.{error_decision, decision};
 ghost use Rattle.codes.specs.Codes as codes;
-ghost use Rattle.codes.specs.Codes.{if_known, report};
+ghost use Rattle.codes.specs.inner.Codes.{if_known, report};
 ghost use Rattle.codes.specs.Told.{ToldData, ToldDecibels, ToldWhole};
 
 use reference::{Cutoff, PcmError, PcmRate};
@@ -13,7 +13,7 @@ use reference::{Cutoff, PcmError, PcmRate};
 // What a call answers whose arguments are not understood; it writes nothing then.
 pub const NOT_UNDERSTOOD: u8 = 255;
 
-#[tactic(auto, unfolding(reference::specs::Codes::rate_from, crate::specs::Codes::if_known, crate::specs::Codes::rate_of))]
+#[tactic(auto, unfolding(reference::specs::inner::Codes::rate_from, crate::specs::inner::Codes::if_known, crate::specs::Codes::rate_of))]
 pub fn rate_of(n: u64) -> Option<PcmRate>
     ensures { result ≡ if_known (codes.known_rate n) (codes.rate_of n) }
 {
@@ -21,7 +21,7 @@ pub fn rate_of(n: u64) -> Option<PcmRate>
     PcmRate::try_from(n).ok()
 }
 
-#[tactic(auto, unfolding(reference::specs::Codes::cutoff_from, crate::specs::Codes::if_known, crate::specs::Codes::cutoff_of))]
+#[tactic(auto, unfolding(reference::specs::inner::Codes::cutoff_from, crate::specs::inner::Codes::if_known, crate::specs::Codes::cutoff_of))]
 pub fn cutoff_of(n: u64) -> Option<Cutoff>
     ensures { result ≡ if_known (codes.known_cutoff n) (codes.cutoff_of n) }
 {
@@ -30,7 +30,7 @@ pub fn cutoff_of(n: u64) -> Option<Cutoff>
 }
 
 // Channels are a byte.
-#[tactic(auto, unfolding(crate::specs::Codes::if_known))]
+#[tactic(auto, unfolding(crate::specs::inner::Codes::if_known))]
 pub fn channels_of(n: u64) -> Option<u8>
     ensures { result ≡ if_known (codes.known_channels n) n }
 {
@@ -38,7 +38,7 @@ pub fn channels_of(n: u64) -> Option<u8>
 }
 
 // A flag is 0 or 1.
-#[tactic(auto, unfolding(crate::specs::Codes::if_known))]
+#[tactic(auto, unfolding(crate::specs::inner::Codes::if_known))]
 pub fn flag_of(n: u64) -> Option<bool>
     ensures { result ≡ if_known (codes.known_flag n) (codes.flag n) }
 {
@@ -51,7 +51,7 @@ pub fn flag_of(n: u64) -> Option<bool>
 
 // A decision's number, data and decibels.
 #[derive(Clone, Copy)]
-pub struct Report {
+pub struct Answer {
     pub number: u8,
     pub data: [u64; 2],
     pub decibels: f64,
@@ -84,11 +84,11 @@ fn decibels(e: PcmError) -> f64
     }
 }
 
-impl From<PcmError> for Report {
+impl From<PcmError> for Answer {
     ghost from_gives = { λ e made. made ≡ report (error_decision e) };
 
-    fn from(e: PcmError) -> Report {
-        Report {
+    fn from(e: PcmError) -> Answer {
+        Answer {
             number: e.number() as u8,
             data: data(e),
             decibels: decibels(e),
@@ -96,19 +96,19 @@ impl From<PcmError> for Report {
     }
 }
 
-impl Report {
+impl Answer {
     // Of an answer.
     #[tactic(auto, using(crate::proofs::Known::zero_is))]
     pub fn of<T>(answer: &Result<T, PcmError>) -> Self
         ensures { result ≡ report (decision answer.now) }
     {
         match answer {
-            Ok(_) => Report {
+            Ok(_) => Answer {
                 number: 0,
                 data: [0, 0],
                 decibels: 0.0,
             },
-            Err(e) => Report::from(*e),
+            Err(e) => Answer::from(*e),
         }
     }
 }
@@ -117,7 +117,7 @@ impl Report {
 pub fn tell_decibels<T>(answer: &Result<T, PcmError>, decibels: &mut [f64; 1]) -> u8
     ensures { ToldDecibels (decision answer.now) result decibels.new }
 {
-    let report = Report::of(answer);
+    let report = Answer::of(answer);
     *decibels = [report.decibels];
     report.number
 }
@@ -126,7 +126,7 @@ pub fn tell_decibels<T>(answer: &Result<T, PcmError>, decibels: &mut [f64; 1]) -
 pub fn tell_data<T>(answer: &Result<T, PcmError>, data: &mut [u64; 2]) -> u8
     ensures { ToldData (decision answer.now) result «data».new }
 {
-    let report = Report::of(answer);
+    let report = Answer::of(answer);
     let numbers = report.data;
     *data = numbers;
     report.number
@@ -136,6 +136,6 @@ pub fn tell_data<T>(answer: &Result<T, PcmError>, data: &mut [u64; 2]) -> u8
 pub fn tell<T>(answer: &Result<T, PcmError>, data: &mut [u64; 2], decibels: &mut [f64; 1]) -> u8
     ensures { ToldWhole (decision answer.now) result «data».new decibels.new }
 {
-    *decibels = [Report::of(answer).decibels];
+    *decibels = [Answer::of(answer).decibels];
     tell_data(answer, data)
 }

@@ -3,8 +3,8 @@
 
 ghost use Rattle.std.specs.Prelude.{◌≡◌, ◌+◌, ◌≤◌, length, replicate};
 ghost use Rattle.text.specs.Text as texts;
-ghost use Rattle.text.specs.Writing.{Prints};
-ghost use Rattle.columns.specs.Columns.{column, entry, level_text};
+ghost use Rattle.text.specs.inner.Writing.{Prints};
+ghost use Rattle.columns.specs.Columns.{column, cell, level_text};
 
 use text::Text;
 
@@ -38,7 +38,7 @@ pub fn put_blanks(text: &mut Text, n: usize)
 // A number in a column.
 pub fn put_number(text: &mut Text, width: usize, n: u64)
     requires { (length (texts.decimal n) ≤ width) × (text.old.at + width ≤ length text.old.out.now) }
-    ensures printed { Prints (column (entry width (texts.decimal n))) text.old text.new }
+    ensures printed { Prints (column (cell width (texts.decimal n))) text.old text.new }
     ensures value { text.new.at ≡ text.old.at + width }
 {
     put_blanks(text, width - digits(n));
@@ -48,7 +48,7 @@ pub fn put_number(text: &mut Text, width: usize, n: u64)
 // A channel's lowest or highest in a column of twelve; a hyphen where it has no samples.
 pub fn put_level(text: &mut Text, level: Option<i64>)
     requires { (length (level_text level) ≤ 12) × (text.old.at + 12 ≤ length text.old.out.now) }
-    ensures printed { Prints (column (entry 12 (level_text level))) text.old text.new }
+    ensures printed { Prints (column (cell 12 (level_text level))) text.old text.new }
     ensures value { text.new.at ≡ text.old.at + 12 }
 {
     put_blanks(text, 12 - width_of(level));

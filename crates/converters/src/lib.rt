@@ -1,5 +1,5 @@
-// Converters: opened, and changed while they are open. Here is what they are turned down for, at the opening, as they are
-// held, and where other settings are wanted: document 01's places, tried from top to bottom.
+// Converters: opened, and changed while they are open. Here is what they are turned down for, at the opening, as they
+// are held, and where other settings are wanted: document 01's places, tried from top to bottom.
 #![tactic(auto)]
 
 ghost use Rattle.std.specs.Prelude.{◌≡◌, [], ◌∷◌};

@@ -1,4 +1,5 @@
--- Request 13: each statement is a test that antt computes at every whole number of decibels, and a lemma that turns it into the statement.
+-- Request 13: each statement is a test that antt computes at every whole number of decibels, and a lemma that turns it
+-- into the statement.
 use mathlib.Core.Path.{◌≡◌}
 use mathlib.Core.Logic.{⊎_elim}
 use Prim.Native.Nat.{ℕ, ◌+◌, ◌-◌, ◌<◌}

@@ -1,4 +1,5 @@
--- Whole decibels beside a console's: d decibels are the factor whose twentieth power is 10^d. No real number is named: fractions are compared over whole numbers.
+-- Whole decibels beside a console's: d decibels are the factor whose twentieth power is 10^d. No real number is named:
+-- fractions are compared over whole numbers.
 use Rattle.std.specs.Prelude.{ℕ, suc, ◌+◌, ◌-◌, ◌*◌, ◌^◌, ◌<◌, true, false, ℤ, pos, negsuc, Float}
 use Rattle.std.proofs.Math.IntN.{suc_ℤ}
 use Rattle.std.specs.Float.{nan, inf, fin, binary64}
@@ -43,7 +44,8 @@ parts = 2 ^ 40
 abbrev pub power : ℕ
 power = 20
 
--- with G the factor: the powers of G (1 - 1 / parts), of 10^(d / 20) and of G (1 + 1 / parts), each times one number that makes all three whole
+-- with G the factor: the powers of G (1 - 1 / parts), of 10^(d / 20) and of G (1 + 1 / parts), each times one number
+-- that makes all three whole
 abbrev pub low_power : ℤ → ℕ
 low_power d = (numerator (factor d) * (parts - 1)) ^ power * ten_under d
 

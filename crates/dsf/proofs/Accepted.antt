@@ -64,7 +64,8 @@ module _ (file : List ℕ) (n : ℕ) where
   pub sound_at : T (is_accepted (decide (places_at file n))) → Sound file n
   unfolding places_at
   sound_at h =
-      let t = apart (leb 92 n) (all (fits file) layout) (fits file frequency) (eqb (samples file % 8) 0) (eqb (stated_length file) n) (eqb (data_size file) (12 + needed file)) (leb (80 + data_size file) n) h in
+      let t = apart (leb 92 n) (all (fits file) layout) (fits file frequency) (eqb (samples file % 8) 0)
+      (eqb (stated_length file) n) (eqb (data_size file) (12 + needed file)) (leb (80 + data_size file) n) h in
       record {
         long = leb→le _ _ t.0;
         as_laid_out = t.1;

@@ -13,7 +13,8 @@ use Rattle.numbers.proofs.Lists.{below_or}
 use Rattle.reference.specs.Refusals.{decide}
 use Rattle.reference.proofs.Refusals.{at_first, at_next}
 use Rattle.text.specs.Bytes.{number_of, number_at, bytes}
-use Rattle.dsf.specs.Dsf.{Field, pairs, orders, layout, frequency, alike, any, all, fits, stated_length, channel_type, channels, bits_per_sample, samples, data_size, data_bytes, needed, frames, places_at, file_places}
+use Rattle.dsf.specs.Dsf.{Field, pairs, orders, layout, frequency, alike, any, all, fits, stated_length, channel_type}
+use Rattle.dsf.specs.Dsf.{channels, bits_per_sample, samples, data_size, data_bytes, needed, frames, places_at, file_places}
 use Rattle.text.specs.Text.{text}
 use Rattle.dsf.specs.Theorems.{HeaderRight}
 use Rattle.dsf.specs.Reading.{file_header, header_places}
@@ -102,7 +103,8 @@ pub header_right : HeaderRight
 unfolding header_places file_places
 header_right file head n h =
     let same = places_same head file (sym h.begins) in (
-      ⊎_elim (λ l. at_first _ _ (lt-ltb (length head) 92 l) ∙ sym (too_short file (length file) (omega (arith, shorter l)))) (λ l. at_next _ _ (le-ltb (length head) 92 l) ∙ ap decide (rw h.long (same n))) (below_or (length head) 92),
+      ⊎_elim (λ l. at_first _ _ (lt-ltb (length head) 92 l) ∙ sym (too_short file (length file) (omega (arith, shorter l))))
+          (λ l. at_next _ _ (le-ltb (length head) 92 l) ∙ ap decide (rw h.long (same n))) (below_or (length head) 92),
       header_same head file (sym h.begins),
     )
   where

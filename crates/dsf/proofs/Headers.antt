@@ -7,54 +7,54 @@ use lib.ListN.{length, drop}
 use Rattle.text.specs.Text.{text}
 use Rattle.text.specs.Bytes.{number_of, number_at, bytes}
 use Rattle.dsf.specs.Dsf.{pair, layout, pairs, orders, frequency, alike, any, all, fits, stated_length, channel_type, channels, bits_per_sample, samples, data_size}
-use Rattle.dsf.specs.Headers.{header}
+use Rattle.dsf.specs.Headers.{header_with}
 use Rattle.dsf.proofs.Alike.{Alike, seg, fixed_alike, all_each}
 use Rattle.text.proofs.Bytes.{padded}
 use Rattle.dsf.proofs.Numbers.{alike_padded}
 
 module _ (xs ys : List ℕ) (t c b : ℕ) (ns : List ℕ) (z : ℕ) (r : List ℕ) where
   abbrev pub h : List ℕ
-  h = header (padded 8 xs) (padded 8 ys) (pair t c) b (padded 8 ns) (bytes 8 z)
+  h = header_with (padded 8 xs) (padded 8 ys) (pair t c) b (padded 8 ns) (bytes 8 z)
 
   pub length_header : length h ≡ 92
-  unfolding header padded bytes text
+  unfolding header_with padded bytes text
   length_header = refl
 
   pub read_stated : stated_length (h ++ r) ≡ number_of (padded 8 xs)
-  unfolding header padded bytes text stated_length number_at
+  unfolding header_with padded bytes text stated_length number_at
   read_stated = refl
 
   pub read_channels : channels (h ++ r) ≡ number_of (bytes 4 c)
-  unfolding header padded bytes text channels number_at
+  unfolding header_with padded bytes text channels number_at
   read_channels = refl
 
   pub read_pointer : number_at (h ++ r) 20 8 ≡ number_of (padded 8 ys)
-  unfolding header padded bytes text number_at
+  unfolding header_with padded bytes text number_at
   read_pointer = refl
 
   pub read_type : channel_type (h ++ r) ≡ number_of (bytes 4 t)
-  unfolding header padded bytes text channel_type number_at
+  unfolding header_with padded bytes text channel_type number_at
   read_type = refl
 
   pub read_bits : bits_per_sample (h ++ r) ≡ number_of (bytes 4 b)
-  unfolding header padded bytes text bits_per_sample number_at
+  unfolding header_with padded bytes text bits_per_sample number_at
   read_bits = refl
 
   pub read_samples : samples (h ++ r) ≡ number_of (padded 8 ns)
-  unfolding header padded bytes text samples number_at
+  unfolding header_with padded bytes text samples number_at
   read_samples = refl
 
   pub read_size : data_size (h ++ r) ≡ number_of (bytes 8 z)
-  unfolding header padded bytes text data_size number_at
+  unfolding header_with padded bytes text data_size number_at
   read_size = refl
 
   pub read_frequency : T (fits (h ++ r) frequency)
-  unfolding header padded bytes text fits any alike frequency
+  unfolding header_with padded bytes text fits any alike frequency
   read_frequency = tt
 
 -- the header is as laid out, whatever its other fields
 abbrev pub Laid : ℕ → ℕ → ℕ → Type 0
-Laid t c b = (xs ys ns : List ℕ) (z : ℕ) (r : List ℕ) → T (all (fits (header (padded 8 xs) (padded 8 ys) (pair t c) b (padded 8 ns) (bytes 8 z) ++ r)) layout)
+Laid t c b = (xs ys ns : List ℕ) (z : ℕ) (r : List ℕ) → T (all (fits (header_with (padded 8 xs) (padded 8 ys) (pair t c) b (padded 8 ns) (bytes 8 z) ++ r)) layout)
 
 -- ---- the pieces of a header, each as far as the beginning goes
 module _ (p : List ℕ) (laid_out : T (all (fits p) layout)) (right-frequency : T (fits p frequency)) (xs : List ℕ) (t c b z : ℕ) where
@@ -62,7 +62,7 @@ module _ (p : List ℕ) (laid_out : T (all (fits p) layout)) (right-frequency : 
   head = h xs (drop 20 p) t c b (drop 64 p) z []
 
   pub alike_head : Alike (drop 12 p) (padded 8 xs) → Alike (drop 48 p) (pair t c) → Alike (drop 60 p) (bytes 4 b) → Alike (drop 84 p) (bytes 8 z) → T (alike p head)
-  unfolding layout pairs orders text bytes padded header
+  unfolding layout pairs orders text bytes padded header_with
   alike_head ax ap ab az =
       let e = all_each (fits p) layout laid_out in
       let p80 = seg p 80 4 refl (fixed_alike p 80 (text "data") e.1.1.1.1.1.1.1.1.1.1.0) az in

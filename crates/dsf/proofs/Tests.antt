@@ -103,8 +103,13 @@ module _ (p : List ℕ) {X : Type 0} (k : (t c : ℕ) → (1 ≤ c) × (c ≤ 6)
   pub with_channels : all (fits p) layout ≡ true → X
   unfolding layout pairs fits
   with_channels h =
-      any_elim (alike (drop 48 p)) (pair 1 1 ∷ pair 2 2 ∷ pair 3 3 ∷ pair 4 4 ∷ pair 5 4 ∷ pair 6 5 ∷ pair 7 6 ∷ []) (all_each (fits p) layout (T_of h)).1.1.1.1.1.1.0
-      (by_pair 1 1 (lit≤ tt, lit≤ tt), (by_pair 2 2 (lit≤ tt, lit≤ tt), (by_pair 3 3 (lit≤ tt, lit≤ tt), (by_pair 4 4 (lit≤ tt, lit≤ tt), (by_pair 5 4 (lit≤ tt, lit≤ tt), (by_pair 6 5 (lit≤ tt, lit≤ tt), (by_pair 7 6 (lit≤ tt, lit≤ tt), tt)))))))
+      any_elim (alike (drop 48 p)) (pair 1 1 ∷ pair 2 2 ∷ pair 3 3 ∷ pair 4 4 ∷ pair 5 4 ∷ pair 6 5 ∷ pair 7 6 ∷ []) (all_each (fits p) layout (T_of h)).1.1.1.1.1.1.0 (
+        by_pair 1 1 (lit≤ tt, lit≤ tt),
+        (
+          by_pair 2 2 (lit≤ tt, lit≤ tt),
+          (by_pair 3 3 (lit≤ tt, lit≤ tt), (by_pair 4 4 (lit≤ tt, lit≤ tt), (by_pair 5 4 (lit≤ tt, lit≤ tt), (by_pair 6 5 (lit≤ tt, lit≤ tt), (by_pair 7 6 (lit≤ tt, lit≤ tt), tt))))),
+        ),
+      )
 
 pub channels_few : (p : List ℕ) → all (fits p) layout ≡ true → channels p ≤ 6
 unfolding channels number_at bytes

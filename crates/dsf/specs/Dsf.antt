@@ -66,7 +66,8 @@ unfoldable pub all : {A : Type 0} → (A → Bool) → List A → Bool
 all f [] = true
 all f (x ∷ xs) = f x && all f xs
 
--- a file has one of a field's values, as far as the file goes: a field past its end fits, so `places_at` asks for 92 bytes first
+-- a file has one of a field's values, as far as the file goes: a field past its end fits, so `places_at` asks for 92
+-- bytes first
 unfoldable pub fits : List ℕ → Field → Bool
 fits file f = any (alike (drop f.start file)) f.values
 
@@ -181,9 +182,6 @@ module _ (file : List ℕ) where
   -- byte j of the data
   abbrev pub file_data : ℕ → ℕ
   file_data j = get_or file (92 + j) 0
-
-  abbrev pub file_byte : ℕ → ℕ → ℕ
-  file_byte = sample_byte file_data (channels file) (bits_per_sample file) (samples file)
 
   abbrev pub file_frame : ℕ → List ℕ
   file_frame = data_frame file_data (channels file) (bits_per_sample file) (samples file)

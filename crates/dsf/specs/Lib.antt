@@ -1,5 +1,5 @@
 pub mod Dsf
 pub mod Reading
 pub mod Headers
-pub mod Orders
 pub mod Theorems
+pub mod inner

@@ -24,7 +24,8 @@ header_places head n = place (ltb (length head) 92) 9 [] ∷ places_at head n
 abbrev pub HeaderPromise : List ℕ → ℕ → Result DsfHeader PcmError → Type 0
 HeaderPromise head n = OpenedPromise (header_places head n) head
 
--- `head` begins as the file does, up to 92 bytes, and the file has n bytes: then both promises say the same (proofs/Head, `header_right`)
+-- `head` begins as the file does, up to 92 bytes, and the file has n bytes: then both promises say the same
+-- (proofs/Head, `header_right`)
 pub record HeadOf (file head : List ℕ) (n : ℕ) : Type 0 where
   pub begins : take 92 file ≡ take 92 head
   pub long : length file ≡ n

@@ -7,7 +7,7 @@ ghost use Rattle.dsf.specs.Reading.{ReadPromise, HeaderPromise, header_places, f
 use crate::DsfHeader;
 use crate::bytes::number;
 use crate::fields::{at_frequency, laid_out, needs};
-use reference::PcmError;
+use reference::{FRAME_BYTES, PcmError};
 
 // The frequency and whole bytes of samples: else 10.
 #[tactic(auto, unfolding(crate::specs::Dsf::samples))]
@@ -55,7 +55,7 @@ pub fn header_numbers(head: &[u8]) -> DsfHeader
         channels: number(head, 52, 4),
         bits_per_sample: number(head, 60, 4),
         samples,
-        frames: (samples / 8 + 4703) / 4704,
+        frames: (samples / 8).div_ceil(FRAME_BYTES as u64),
     }
 }
 

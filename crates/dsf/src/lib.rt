@@ -2,7 +2,7 @@
 #![tactic(auto)]
 
 ghost use Rattle.std.specs.Prelude.{◌≡◌};
-ghost use Rattle.dsf.specs.Orders.{bit_order};
+ghost use Rattle.dsf.specs.inner.Orders.{bit_order};
 
 mod bytes;
 mod fields;

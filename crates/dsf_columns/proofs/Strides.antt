@@ -11,7 +11,7 @@ use lib.Seq.{get_or-set_same, get_or-set_other, get_or-take, get_or-drop, length
 use Rattle.numbers.proofs.Lists.{below_or}
 use Rattle.reference.specs.Frames.{idle}
 use Rattle.dsf.specs.Dsf.{blocks, data_place}
-use Rattle.dsf_columns.specs.Columns.{Strided, Column, column_byte, ColumnArgs}
+use Rattle.dsf_columns.specs.inner.Columns.{Strided, Column, column_byte, ColumnArgs}
 use Rattle.dsf_columns.proofs.Blocks.{remainder, place_below, group}
 use Rattle.dsf.proofs.Alike.{pick, skip}
 
@@ -98,7 +98,8 @@ module _ {n c first end start size out : ℕ} (a : ColumnArgs n c first end star
     piece_byte q stop i f e b h =
         let k : first + (q - first + i) ≡ q + i = omega arith in
         let p : place_at q - start + i ≡ place_at (q + i) - start = omega (arith, run q i (omega arith), above q f) in
-        rw (get_or-take (stop - q) (drop (place_at q - start) window) i 0 h, get_or-drop (place_at q - start) window i 0, p, k) (sym (pick (ltb (q + i) end) (get_or table (get_or window (place_at (q + i) - start) 0) 0) idle (lt→ltb (q + i) end (omega arith))))
+        rw (get_or-take (stop - q) (drop (place_at q - start) window) i 0 h, get_or-drop (place_at q - start) window i 0, p, k)
+        (sym (pick (ltb (q + i) end) (get_or table (get_or window (place_at (q + i) - start) 0) 0) idle (lt→ltb (q + i) end (omega arith))))
 
     idle_byte : (i : ℕ) → idle ≡ column_byte window table n first end start c (end - first + i)
     unfolding column_byte

@@ -8,7 +8,7 @@ use Rattle.numbers.specs.Tests.{each_below}
 use Rattle.numbers.proofs.Tests.{each_below_at}
 use Rattle.std.specs.Int.{w8, reverse_bits, reverse_bits_onto}
 use Rattle.dsf.specs.Dsf.{turned, our_byte}
-use Rattle.dsf.specs.Orders.{bit_order, ordered}
+use Rattle.dsf.specs.inner.Orders.{bit_order, ordered}
 use Rattle.dsf.specs.declared.BitOrder.TheVariants.{LowestFirst, HighestFirst}
 use Rattle.dsf.proofs.Alike.{left}
 

@@ -1,7 +1,7 @@
 // Bytes in our bit order, highest first.
 ghost use Rattle.std.specs.Prelude.{◌≡◌};
-ghost use Rattle.dsf.specs.Orders.{ordered};
-ghost use Rattle.dsf_columns.specs.Columns.{Ordering};
+ghost use Rattle.dsf.specs.inner.Orders.{ordered};
+ghost use Rattle.dsf_columns.specs.inner.Columns.{Ordering};
 
 use dsf::BitOrder;
 

@@ -1,7 +1,9 @@
 // A channel of a frame: pieces of its blocks through a table of bytes, and idle bytes past the data.
 ghost use Rattle.std.specs.Prelude.{◌≡◌, ◌+◌, ◌*◌, ◌≤◌, ◌<◌, ◌^◌, length, get_or};
-ghost use Rattle.reference.specs.Frames.{idle};
-ghost use Rattle.dsf_columns.specs.Columns.{Strided, Column, column_byte, ColumnArgs};
+ghost use Rattle.reference.specs.Frames.{idle, frame_bytes};
+ghost use Rattle.dsf_columns.specs.inner.Columns.{Strided, Column, column_byte, ColumnArgs};
+
+use reference::FRAME_BYTES;
 
 // Some bytes of the data, and where in the data they start.
 #[derive(Clone, Copy)]
@@ -42,7 +44,8 @@ pub struct Channel {
 // A channel of a frame: its pieces, block by block, and idle bytes past the data.
 pub fn column(window: &Stretch, table: &[u8; 256], channel: Channel, out: &mut [u8])
     requires { ColumnArgs channel.channels channel.number channel.first channel.end window.now.start (length window.now.bytes.now) (length out.old) }
-    ensures { Column channel.channels channel.number 4704 (column_byte window.now.bytes.now table.now channel.channels channel.first channel.end window.now.start channel.number) out.old out.new }
+    ensures { Column channel.channels channel.number frame_bytes
+        (column_byte window.now.bytes.now table.now channel.channels channel.first channel.end window.now.start channel.number) out.old out.new }
 {
     let stride = channel.channels as usize;
     let mut q = channel.first;
@@ -57,7 +60,7 @@ pub fn column(window: &Stretch, table: &[u8; 256], channel: Channel, out: &mut [
         spread(&window.bytes[from..to], table, at, stride, out);
         q = stop;
     }
-    let rest = (channel.first + 4704 - channel.end) as usize;
+    let rest = (channel.first + FRAME_BYTES as u64 - channel.end) as usize;
     let at = ((channel.end - channel.first) * channel.channels + channel.number) as usize;
     idle_at(rest, at, stride, out);
 }

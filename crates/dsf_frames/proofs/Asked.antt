@@ -1,9 +1,10 @@
--- What the places of an asked frame decide; the window that every file has past its header; and frames of windows as the file's.
+-- What the places of an asked frame decide; the window that every file has past its header; and frames of windows as
+-- the file's.
 use mathlib.Core.Path.{◌≡◌, refl, sym, ap, ap₂, ◌∙◌}
 use mathlib.Core.List.{List, [], ◌∷◌, ◌++◌}
 use mathlib.Core.Bool.{Bool, true, false, cond, not, ◌&&◌, and-false}
 use mathlib.Core.Logic.{◌≢◌, ⊎_elim}
-use Rattle.std.specs.Prelude.{Result, Ok, Err, Some, None}
+use Rattle.std.specs.Prelude.{Result, Ok, Err, Some, None, min}
 use Prim.Native.Nat.{ℕ, suc, ◌+◌, ◌-◌, ◌*◌, ◌/◌, ◌%◌, ◌^◌, ◌≤◌, ◌<◌}
 use native.Mathlib.Nat.{mul-le-mul_right, mod-lt, div-lt_iff_lt-mul}
 use native.Mathlib.Omega.{arith}
@@ -20,7 +21,8 @@ use Rattle.reference.specs.Promises.{by_decision}
 use Rattle.reference.specs.declared.PcmError.{PcmError}
 use Rattle.reference.proofs.Promises.{accepted_is, exit_accepted, exit_refused}
 use Rattle.text.specs.Bytes.{Bytes, number_at}
-use Rattle.dsf.specs.Dsf.{blocks, data_bytes, data_place, channels, bits_per_sample, samples, needed, frames, frames_in, file_places, frame_places, accepts, our_byte, sample_byte, turn_byte, data_frame, file_data, file_frame}
+use Rattle.dsf.specs.Dsf.{blocks, data_bytes, data_place, channels, bits_per_sample, samples, needed, frames, frames_in}
+use Rattle.dsf.specs.Dsf.{file_places, frame_places, accepts, our_byte, sample_byte, turn_byte, data_frame, file_data, file_frame}
 use Rattle.dsf.specs.Reading.{HeadOf, file_header, header_places}
 use Rattle.dsf.specs.declared.DsfHeader.{DsfHeader}
 use Rattle.dsf.proofs.Alike.{T_is, T_of, left, right, skip}
@@ -28,8 +30,8 @@ use Rattle.text.proofs.Bytes.{number_small, each_take, each_drop}
 use Rattle.dsf.proofs.Accepted.{sound_at, head_channels}
 use Rattle.dsf.proofs.Head.{whole_head, header_right}
 use Rattle.dsf_frames.specs.Theorems.{WindowRight}
-use Rattle.dsf_frames.specs.Reading.{lesser, window_start, window_end, window_of, asked_places, window_places, window_data, window_frame, Framed, WindowOf}
-use Rattle.dsf_frames.specs.Windows.{WindowArgs}
+use Rattle.dsf_frames.specs.Reading.{window_start, window_end, window_of, asked_places, window_places, window_data, window_frame, Framed, WindowOf}
+use Rattle.dsf_frames.specs.inner.Windows.{WindowArgs}
 use Rattle.dsf_frames.specs.declared.FrameWindow.{FrameWindow}
 use Rattle.dsf_columns.proofs.Strides.{place_at, above, within}
 use Rattle.dsf_frames.proofs.Windows.{column_args, turn_at}
@@ -107,7 +109,7 @@ module _ (file : List ℕ) (f room : ℕ) where
   unfolding accepts file_places window_end blocks needed data_bytes
   covered a =
       let s = sound_at file (length file) a in
-      let last = lesser (samples file / 8) (f * 4704 + 4704) in
+      let last = min (samples file / 8) (f * 4704 + 4704) in
       let k : (last + 4095) / 4096 * 4096 ≤ (samples file / 8 + 4095) / 4096 * 4096 = omega arith in
       let within : (last + 4095) / 4096 * 4096 * channels file ≤ 0 + length (drop 92 file) = omega (arith, mul-le-mul_right (channels file) k, s.sized, s.ends, length-drop 92 file) in
       le-leb _ _ within
@@ -163,14 +165,16 @@ given places {frame} {out} e w = record { decided = e; written = w ∙ sym (exit
 pub turned_down : (places : List Place) {frame out : List ℕ} (e : PcmError) → error_decision e ≡ decide places → Framed places frame out out (Err e)
 turned_down places {frame} {out} e d = record { decided = d; written = sym (exit_refused _ frame out (ap is_accepted (sym d) ∙ error_refuses e)) }
 
-pub window_refused : (head : List ℕ) (n f start size : ℕ) {x out : List ℕ} (e : PcmError) → error_decision e ≡ decide (header_places head n) → Framed (window_places head n f start size (length out)) x out out (Err e)
+pub window_refused : (head : List ℕ) (n f start size : ℕ) {x out : List ℕ} (e : PcmError) → error_decision e
+    ≡ decide (header_places head n) → Framed (window_places head n f start size (length out)) x out out (Err e)
 unfolding window_places
 window_refused head n f start size {out = out} e a =
     let s = decide_stop (header_places head n) (asked_places (channels head) (samples head) f start size (length out)) (ap is_accepted (sym a) ∙ error_refuses e) in
     turned_down _ e (a ∙ sym s)
 
 -- ---- a frame by its bytes
-frame_same : (r r' : ℕ → ℕ) (n b s f : ℕ) → 0 < n → ((c k : ℕ) → c < n → k < 4704 → sample_byte r n b s c (f * 4704 + k) ≡ sample_byte r' n b s c (f * 4704 + k)) → data_frame r n b s f ≡ data_frame r' n b s f
+frame_same : (r r' : ℕ → ℕ) (n b s f : ℕ) → 0 < n
+    → ((c k : ℕ) → c < n → k < 4704 → sample_byte r n b s c (f * 4704 + k) ≡ sample_byte r' n b s c (f * 4704 + k)) → data_frame r n b s f ≡ data_frame r' n b s f
 unfolding data_frame
 frame_same r r' n b s f z h =
     let first = f * (4704 * n) in
@@ -212,7 +216,8 @@ module _ (file head : List ℕ) (n : ℕ) (h : HeadOf file head n) (b : Bytes fi
       omega (arith, same_samples)
 
   cell : (c k : ℕ) → c < channels head → k < 4704
-      → sample_byte (window_data window start) (channels head) (bits_per_sample head) (samples head) c (f * 4704 + k) ≡ sample_byte (file_data file) (channels head) (bits_per_sample head) (samples head) c (f * 4704 + k)
+      → sample_byte (window_data window start) (channels head) (bits_per_sample head) (samples head) c (f * 4704 + k)
+      ≡ sample_byte (file_data file) (channels head) (bits_per_sample head) (samples head) c (f * 4704 + k)
   unfolding sample_byte data_place
   cell c k l m =
       let q = f * 4704 + k in

@@ -10,7 +10,9 @@ use lib.ListN.{get_or}
 use Rattle.numbers.specs.Lists.{total}
 use Rattle.numbers.proofs.Lists.{get_d_tabulate}
 use Rattle.text.specs.Bytes.{Bytes}
-use Rattle.dsf.specs.Dsf.{data_place, channels, bits_per_sample, samples, frames, frames_in, turned, our_byte, sample_byte, turn_byte, data_frame, file_data, file_byte, file_frame, sample_from_lowest, sample_from_highest, file_sample}
+use Rattle.dsf.specs.Dsf.{data_place, channels, bits_per_sample, samples, frames, frames_in, turned, our_byte, sample_byte, turn_byte}
+use Rattle.dsf.specs.Dsf.{data_frame, file_data, file_frame, sample_from_lowest, sample_from_highest, file_sample}
+use Rattle.dsf.specs.inner.Dsf.{file_byte}
 use Rattle.dsf.proofs.Alike.{pick, skip}
 use Rattle.dsf.proofs.Accepted.{sound}
 use Rattle.numbers.specs.Tests.{each_below}
@@ -48,7 +50,8 @@ unfolding data_frame turn_byte
 layout_right file f c p h l =
     let n = channels file in
     let e : f * (4704 * n) + (p * n + c) ≡ (f * 4704 + p) * n + c = omega (arith, mul_assoc f 4704 n, add-mul (f * 4704) p n) in
-    get_d_tabulate (turn_byte (file_data file) n (bits_per_sample file) (samples file)) (f * (4704 * n)) (4704 * n) (p * n + c) 0 (omega (arith, mul-le-mul_right n l)) ∙ rw (e, quotient (f * 4704 + p) n c h, remainder (f * 4704 + p) n c h)
+    get_d_tabulate (turn_byte (file_data file) n (bits_per_sample file) (samples file)) (f * (4704 * n)) (4704 * n) (p * n + c) 0 (omega (arith, mul-le-mul_right n l))
+    ∙ rw (e, quotient (f * 4704 + p) n c h, remainder (f * 4704 + p) n c h)
 
 pub samples_right : SamplesRight
 unfolding frames frames_in

@@ -1,3 +1,4 @@
+use Rattle.std.proofs.Common.{min}
 -- A frame out of a window, from its channels.
 use mathlib.Core.Path.{◌≡◌, sym, ap₂, ◌∙◌}
 use mathlib.Core.List.{List}
@@ -11,10 +12,10 @@ use borrow.Author.Tests.{le-leb, lt-leb}
 use Rattle.numbers.proofs.Lists.{below_or, is_tabulate}
 use Rattle.reference.specs.Frames.{idle}
 use Rattle.dsf.specs.Dsf.{data_place, our_byte, sample_byte, turn_byte, data_frame}
-use Rattle.dsf_frames.specs.Reading.{lesser, window_start, window_end, window_data}
-use Rattle.dsf_frames.specs.Windows.{WindowArgs}
-use Rattle.dsf_columns.specs.Columns.{Column, column_byte, Ordering, ColumnArgs}
-use Rattle.dsf.specs.Orders.{bit_order}
+use Rattle.dsf_frames.specs.Reading.{window_start, window_end, window_data}
+use Rattle.dsf_frames.specs.inner.Windows.{WindowArgs}
+use Rattle.dsf_columns.specs.inner.Columns.{Column, column_byte, Ordering, ColumnArgs}
+use Rattle.dsf.specs.inner.Orders.{bit_order}
 use Rattle.dsf_columns.proofs.Turned.{ordered_is}
 use Rattle.dsf_columns.proofs.Blocks.{quotient, remainder}
 use Rattle.dsf.proofs.Alike.{pick, skip}
@@ -38,7 +39,7 @@ next {n} {c} {f} {mid} {new} l h w d k m t =
 
 module _ {n samples' f start size out : ℕ} (a : WindowArgs n samples' f start size out) where
   abbrev last : ℕ
-  last = lesser (samples' / 8) (f * 4704 + 4704)
+  last = min (samples' / 8) (f * 4704 + 4704)
 
   pub column_args : (c : ℕ) → c < n → samples' < 2 ^ 64 → ColumnArgs n c (f * 4704) last start size out
   unfolding window_start window_end
@@ -64,7 +65,8 @@ module _ {n samples' f start size out : ℕ} (a : WindowArgs n samples' f start 
         let q = f * 4704 + i in
         let at = (q / 4096 * n + c) * 4096 + q % 4096 - start in
         ⊎_elim
-        (λ b. pick (ltb q last) (get_or table (get_or window at 0) 0) idle (lt→ltb q last (omega arith)) ∙ o.is (get_or window at 0) (each at) ∙ ordered_is bits (get_or window at 0) ∙ sym (pick (ltb q (samples' / 8)) (our_byte bits (get_or window at 0)) idle (lt→ltb q (samples' / 8) b)))
+        (λ b. pick (ltb q last) (get_or table (get_or window at 0) 0) idle (lt→ltb q last (omega arith)) ∙ o.is (get_or window at 0) (each at)
+        ∙ ordered_is bits (get_or window at 0) ∙ sym (pick (ltb q (samples' / 8)) (our_byte bits (get_or window at 0)) idle (lt→ltb q (samples' / 8) b)))
         (λ b. skip (ltb q last) _ _ (λ t. omega (arith, ltb→lt q last t)) ∙ sym (skip (ltb q (samples' / 8)) _ _ (λ t. omega (arith, ltb→lt q (samples' / 8) t))))
         (below_or q (samples' / 8))
 

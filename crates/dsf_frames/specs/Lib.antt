@@ -1,3 +1,3 @@
 pub mod Reading
-pub mod Windows
 pub mod Theorems
+pub mod inner

@@ -18,16 +18,12 @@ FramePromise file f out = Framed (frame_places file f (length out)) (file_frame 
 
 -- ---- windows: a stretch of the data, which starts at byte 92 of the file
 
--- the lesser of two
-abbrev pub lesser : ℕ → ℕ → ℕ
-lesser a b = min a b
-
 -- the groups of blocks that frame f touches, from the first's beginning to the last's end
 unfoldable pub window_start : ℕ → ℕ → ℕ
 window_start channels f = f * frame_bytes / block * block * channels
 
 unfoldable pub window_end : ℕ → ℕ → ℕ → ℕ
-window_end channels samples f = blocks (lesser (samples / 8) (f * frame_bytes + frame_bytes)) * block * channels
+window_end channels samples f = blocks (min (samples / 8) (f * frame_bytes + frame_bytes)) * block * channels
 
 -- what a program reads for frame f; nothing of more than six channels or where there is no such frame
 unfoldable pub window_of : ℕ → ℕ → ℕ → Option FrameWindow

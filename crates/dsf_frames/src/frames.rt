@@ -1,15 +1,16 @@
 // Frames out of a window of a file's data, or out of a whole file.
 ghost use Rattle.std.specs.Prelude.{◌≡◌, ◌+◌, ◌*◌, ◌/◌, ◌≤◌, ◌<◌, leb, length};
 ghost use Rattle.reference.specs.Refusals.{decide, decision};
+ghost use Rattle.reference.specs.Frames.{frame_bytes};
 ghost use Rattle.text.specs.Bytes.{Bytes};
 ghost use Rattle.dsf.specs.Dsf.{data_frame};
 ghost use Rattle.dsf_frames.specs.Reading.{window_start, window_end, window_of, asked_places, window_data, Framed, FramePromise, WindowPromise};
-ghost use Rattle.dsf_frames.specs.Windows.{WindowArgs};
+ghost use Rattle.dsf_frames.specs.inner.Windows.{WindowArgs};
 
 use crate::FrameWindow;
 use dsf::{DsfHeader, read_header};
 use dsf_columns::{Channel, Stretch, column, order_table};
-use reference::PcmError;
+use reference::{FRAME_BYTES, PcmError};
 
 // Tells that a slice's numbers are bytes: of a parameter that is known, of the slice in a `Stretch` it is not.
 fn are_bytes(bytes: &[u8])
@@ -23,8 +24,8 @@ fn frame_from_window(header: DsfHeader, f: u64, window: &Stretch, out: &mut [u8]
 {
     are_bytes(window.bytes);
     let channels = header.channels;
-    let first = f * 4704;
-    let end = (header.samples / 8).min(first + 4704);
+    let first = f * FRAME_BYTES as u64;
+    let end = (header.samples / 8).min(first + FRAME_BYTES as u64);
     let table = order_table(header.bit_order());
     for number in 0..channels {
         let channel = Channel {
@@ -40,11 +41,11 @@ fn frame_from_window(header: DsfHeader, f: u64, window: &Stretch, out: &mut [u8]
 // The groups of blocks that frame f touches.
 #[tactic(auto, unfolding(crate::specs::Reading::window_start, crate::specs::Reading::window_end, dsf::specs::Dsf::blocks))]
 fn groups(channels: u64, samples: u64, f: u64) -> FrameWindow
-    requires { (channels ≤ 6) × (f * 4704 < samples / 8) }
+    requires { (channels ≤ 6) × (f * frame_bytes < samples / 8) }
     ensures { (result.start ≡ window_start channels f) × (result.end ≡ window_end channels samples f) }
 {
-    let first = f * 4704;
-    let last = (samples / 8).min(first + 4704);
+    let first = f * FRAME_BYTES as u64;
+    let last = (samples / 8).min(first + FRAME_BYTES as u64);
     let start = first / 4096 * 4096 * channels;
     let end = (last + 4095) / 4096 * 4096 * channels;
     FrameWindow { start, end }
@@ -55,7 +56,7 @@ fn groups(channels: u64, samples: u64, f: u64) -> FrameWindow
 pub fn window(channels: u64, samples: u64, frame: u64) -> Option<FrameWindow>
     ensures { result ≡ window_of channels samples frame }
 {
-    if channels > 6 || (samples / 8 + 4703) / 4704 <= frame {
+    if channels > 6 || (samples / 8).div_ceil(FRAME_BYTES as u64) <= frame {
         return None;
     }
     Some(groups(channels, samples, frame))
@@ -76,14 +77,14 @@ fn asked(header: DsfHeader, frame: u64, window: &Stretch, room: usize) -> Result
     requires { header.channels ≤ 6 }
     ensures { decision result ≡ decide (asked_places header.channels header.samples frame window.now.start (length window.now.bytes.now) room) }
 {
-    if (header.samples / 8 + 4703) / 4704 <= frame {
+    if (header.samples / 8).div_ceil(FRAME_BYTES as u64) <= frame {
         return Err(PcmError::Frames(frame as usize));
     }
     let held = groups(header.channels, header.samples, frame);
     if held.start < window.start || !reaches(window.start, window.bytes.len() as u64, held.end) {
         return Err(PcmError::DsfLength);
     }
-    let expected = 4704 * header.channels as usize;
+    let expected = FRAME_BYTES * header.channels as usize;
     if room != expected {
         return Err(PcmError::OutputBytes(room, expected));
     }
@@ -93,7 +94,8 @@ fn asked(header: DsfHeader, frame: u64, window: &Stretch, room: usize) -> Result
 // A frame of a file whose header is accepted.
 fn take(header: DsfHeader, frame: u64, window: &Stretch, out: &mut [u8]) -> Result<(), PcmError>
     requires { (1 ≤ header.channels) × (header.channels ≤ 6) }
-    ensures { Framed (asked_places header.channels header.samples frame window.now.start (length window.now.bytes.now) (length out.old)) (data_frame (window_data window.now.bytes.now window.now.start) header.channels header.bits_per_sample header.samples frame) out.old out.new result }
+    ensures { Framed (asked_places header.channels header.samples frame window.now.start (length window.now.bytes.now) (length out.old))
+        (data_frame (window_data window.now.bytes.now window.now.start) header.channels header.bits_per_sample header.samples frame) out.old out.new result }
 {
     asked(header, frame, window, out.len())?;
     frame_from_window(header, frame, window, out);

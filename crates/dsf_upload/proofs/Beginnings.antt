@@ -83,7 +83,8 @@ module _ {file head : List ℕ} {n : ℕ} (h : HeadOf file head n) where
   short l =
       let e : take 92 file ≡ file = take_all 92 file (omega (arith, h.long)) in
       let s : length (take 92 head) ≡ n = ap length (sym h.begins ∙ e) ∙ h.long in
-      ⊎_elim (λ k. let t : length (take 92 head) ≡ length head = ap length (take_all 92 head (omega arith)) in omega arith) (λ k. absurd (omega (arith, length-take-le 92 head k))) (below_or (length head) 92)
+      ⊎_elim (λ k. let t : length (take 92 head) ≡ length head = ap length (take_all 92 head (omega arith)) in
+      omega arith) (λ k. absurd (omega (arith, length-take-le 92 head k))) (below_or (length head) 92)
 
   long_head : 92 ≤ n → 92 ≤ length head
   long_head l =

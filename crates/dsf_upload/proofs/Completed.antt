@@ -11,7 +11,7 @@ use Rattle.numbers.proofs.Lists.{below_or}
 use Rattle.text.specs.Text.{text}
 use Rattle.text.specs.Bytes.{Bytes, number_of, number_at, bytes}
 use Rattle.dsf.specs.Dsf.{pair, alike, any, all, fits, layout, pairs, orders, data_bytes, stated_length, channels, samples, data_size, needed}
-use Rattle.dsf.specs.Headers.{header}
+use Rattle.dsf.specs.Headers.{header_with}
 use Rattle.dsf_upload.specs.Uploads.{Continued}
 use Rattle.dsf_upload.specs.Deciding.{hopeful}
 use Rattle.dsf.proofs.Alike.{Alike, fixed_alike, all_each, any_elim, join, alike_append, alike_after, alike_take}
@@ -29,7 +29,7 @@ module _ (p : List ℕ) (o : Open p) (xs : List ℕ) (t c b z : ℕ) where
   header_of = head p o.as_laid_out o.at_frequency xs t c b z
 
   bytes_head : Bytes p → Bytes xs → Bytes header_of
-  unfolding header text all
+  unfolding header_with text all
   bytes_head bp bx =
       each_append (each_all (text "DSD ") tt)
       (each_append (each_bytes 8 28)
@@ -156,7 +156,7 @@ module _ (p : List ℕ) (laid_out : T (all (fits p) layout)) {X : Type 0}
       (λ e. k t c 1 small one (record { is = a }) (record { is = e }), (λ e. k t c 8 small eight (record { is = a }) (record { is = e }), tt))
 
   pub with_pair : X
-  unfolding layout pairs orders fits any all alike header text bytes padded
+  unfolding layout pairs orders fits any all alike header_with text bytes padded
   with_pair =
       any_elim (alike (drop 48 p)) (pair 1 1 ∷ pair 2 2 ∷ pair 3 3 ∷ pair 4 4 ∷ pair 5 4 ∷ pair 6 5 ∷ pair 7 6 ∷ []) (all_each (fits p) layout laid_out).1.1.1.1.1.1.0 (
         with_bits 1 1 (lit≤ tt, lit≤ tt) (λ xs ys ns z r. tt) (λ xs ys ns z r. tt),

@@ -1,4 +1,5 @@
--- `hopeful` decides whether a beginning has an accepted continuation; where a file's beginnings turn hopeless; and the promise leaves one answer.
+-- `hopeful` decides whether a beginning has an accepted continuation; where a file's beginnings turn hopeless; and the
+-- promise leaves one answer.
 use mathlib.Core.Path.{◌≡◌, refl, sym, ap, ◌∙◌}
 use mathlib.Core.List.{List, [], ◌++◌, append_assoc}
 use mathlib.Core.Bool.{not}

@@ -20,7 +20,9 @@ regroup false b r = refl
 
 module _ (file : List ℕ) where
   pub hopeful_is : (n : ℕ) → all (fits file) layout ≡ true
-      → head_hopeful file n ≡ (fits file frequency && (fits file (fixed 84 (bytes 8 (12 + needed file))) && (eqb (samples file % 8) 0 && (ltb n 20 || leb (92 + needed file) (stated_length file) && leb n (stated_length file)))))
+      → head_hopeful file n
+      ≡ (fits file frequency
+      && (fits file (fixed 84 (bytes 8 (12 + needed file))) && (eqb (samples file % 8) 0 && (ltb n 20 || leb (92 + needed file) (stated_length file) && leb n (stated_length file)))))
   unfolding head_hopeful all
   hopeful_is n l = rw l (regroup (fits file frequency) (fits file (fixed 84 (bytes 8 (12 + needed file)))) _)
 

@@ -55,7 +55,8 @@ module _ (p : List ℕ) where
   pub is_open : Open p → T (hopeful p)
   unfolding hopeful head_hopeful all
   is_open o =
-      hopes_together (all (fits p) layout) (fits p frequency) (fits p (fixed 84 (bytes 8 (12 + needed p)))) (eqb (samples p % 8) 0) (ltb (length p) 20) (leb (92 + needed p) (stated_length p)) (leb (length p) (stated_length p))
+      hopes_together (all (fits p) layout) (fits p frequency) (fits p (fixed 84 (bytes 8 (12 + needed p))))
+      (eqb (samples p % 8) 0) (ltb (length p) 20) (leb (92 + needed p) (stated_length p)) (leb (length p) (stated_length p))
       o.as_laid_out o.at_frequency o.sized (eq→eqb _ _ o.whole) (late (ltb (length p) 20) (nltb→le _ _))
     where
       late : (b : Bool) → (T (not b) → 20 ≤ length p) → T (b || leb (92 + needed p) (stated_length p) && leb (length p) (stated_length p))

@@ -3,7 +3,8 @@ use Rattle.std.specs.Prelude.{List, [], ◌∷◌, Bool, ◌&&◌, ◌||◌, ℕ
 use Rattle.text.specs.Bytes.{bytes}
 use Rattle.dsf.specs.Dsf.{fixed, layout, frequency, all, fits, stated_length, samples, needed}
 
--- the reader's tests on the first bytes of a beginning of n bytes: fields as far as it goes, absent bytes of the sample count 0, the stated length once it is there
+-- the reader's tests on the first bytes of a beginning of n bytes: fields as far as it goes, absent bytes of the sample
+-- count 0, the stated length once it is there
 unfoldable pub head_hopeful : List ℕ → ℕ → Bool
 head_hopeful head n =
     all (fits head) layout

@@ -10,7 +10,8 @@ ghost use Rattle.dsf_upload.specs.Deciding.{head_hopeful};
 
 use dsf::{at_frequency, holds, laid_out, needs, number, read_header};
 
-// The answer for a file: accepted; refused, but a longer file may be accepted; or the length of its shortest hopeless beginning.
+// The answer for a file: accepted; refused, but a longer file may be accepted; or the length of its shortest hopeless
+// beginning.
 #[derive(Clone, Copy, PartialEq, Eq)]
 pub enum Upload {
     Accepted,
@@ -18,7 +19,8 @@ pub enum Upload {
     GiveUp(u64),
 }
 
-// Whether a beginning of so many bytes and this stated length can go on to a file that needs so many bytes of data. The length is there from byte 20 on.
+// Whether a beginning of so many bytes and this stated length can go on to a file that needs so many bytes of data. The
+// length is there from byte 20 on.
 fn has_room(total: u64, stated: u64, need: u64) -> bool
     requires { need ≤ 6 * (2 ^ 61 + 4095) }
     ensures { result ≡ (ltb total 20 || leb (92 + need) stated && leb total stated) }

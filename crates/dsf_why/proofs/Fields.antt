@@ -1,7 +1,8 @@
 -- What a table's fields tell, one after the other.
 use mathlib.Core.Path.{◌≡◌, refl, sym, ap, ap₂, ◌∙◌}
 use lib.Dec.{leb}
-use Rattle.std.proofs.Common.{arith, Bor, add-one, drop-cons, Option, Some, None, option_map, List, [], ◌∷◌, Bool, true, false, cond, ◌&&◌, ◌||◌, ℕ, zero, suc, ◌+◌, ◌<◌, ◌≤◌, length, get_or, map, drop}
+use Rattle.std.proofs.Common.{arith, Bor, add-one, drop-cons, Option, Some, None, option_map, List, [], ◌∷◌, Bool}
+use Rattle.std.proofs.Common.{true, false, cond, ◌&&◌, ◌||◌, ℕ, zero, suc, ◌+◌, ◌<◌, ◌≤◌, length, get_or, map, drop}
 use Rattle.std.proofs.Math.Seq.{take-length}
 use Rattle.std.proofs.lemmas.List.{drop_all}
 use borrow.Author.Tests.{leb-true}
@@ -11,9 +12,10 @@ use Rattle.std.specs.List.{list_any}
 use Rattle.dsf.specs.Dsf.{fixed, alike, any, all, fits}
 use Rattle.dsf.proofs.Tests.{fits_fixed}
 use Rattle.dsf.specs.Dsf as spec
-use Rattle.dsf_why.specs.Fields.{field_of}
+use Rattle.dsf_why.specs.inner.Fields.{field_of}
 use Rattle.dsf_why.specs.declared.table.Field.{Field}
-use Rattle.dsf_why.specs.Why.{first_unfit, readable, all_readable, first_value}
+use Rattle.dsf_why.specs.Why.{first_unfit, first_value}
+use Rattle.dsf_why.specs.inner.Why.{readable, all_readable}
 
 pub first_is : (vs : List (Bor (List ℕ))) (d : Bor (List ℕ)) → 1 ≤ length vs → (get_or vs 0 d).now ≡ get_or (map (λ v. v.now) vs) 0 []
 first_is [] d m = absurd (omega arith)
@@ -45,8 +47,11 @@ module _ (fs : List Field) (k : ℕ) (d : Field) (m : k < length fs) (e : all_re
   readable_here =
       let f = get_or fs k d in
       let r = and_left (readable (field_of f)) _ both in
-      let s = and_right (leb f.start 92) _ r in
-      (leb-true _ _ (and_left (leb f.start 92) _ r), length_same f.values.now (leb-true _ _ (and_left (leb 1 (length (field_of f).values)) _ s)), leb-true _ _ (and_right (leb 1 (length (field_of f).values)) _ s))
+      let s = and_right (leb f.start 92) _ r in (
+        leb-true _ _ (and_left (leb f.start 92) _ r),
+        length_same f.values.now (leb-true _ _ (and_left (leb 1 (length (field_of f).values)) _ s)),
+        leb-true _ _ (and_right (leb 1 (length (field_of f).values)) _ s),
+      )
     where
       length_same : (vs : List (Bor (List ℕ))) → 1 ≤ length (map (λ v. v.now) vs) → 1 ≤ length vs
       length_same [] l = l

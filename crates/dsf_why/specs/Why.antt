@@ -1,5 +1,5 @@
 -- Why a DSF file is refused: the first wrong field.
-use Rattle.std.specs.Prelude.{Option, Some, None, unwrap_or, option_map, List, [], ◌∷◌, Bool, true, cond, not, ◌&&◌, ℕ, ◌+◌, ◌%◌, min, eqb, ltb, leb, length, get_or}
+use Rattle.std.specs.Prelude.{Option, Some, None, unwrap_or, option_map, List, [], ◌∷◌, cond, not, ℕ, ◌+◌, ◌%◌, min, eqb, ltb, length, get_or}
 use Rattle.dsf.specs.Dsf.{Field, layout, frequency, fits, stated_length, samples, data_size, needed}
 use Rattle.text.specs.Bytes.{number_of, number_at}
 use Rattle.dsf_why.specs.declared.Why.{Why}
@@ -19,14 +19,6 @@ first_value f = get_or f.values 0 []
 
 abbrev pub of_field : List ℕ → Field → Why
 of_field head f = why f.start (number_at head f.start (length (first_value f))) (number_of (first_value f))
-
--- a field that is read as one number
-abbrev pub readable : Field → Bool
-readable f = leb f.start 92 && (leb 1 (length f.values) && leb (length (first_value f)) 8)
-
-abbrev pub all_readable : List Field → Bool
-all_readable [] = true
-all_readable (f ∷ fs) = readable f && all_readable fs
 
 -- a file of n bytes that is laid out: 10, the frequency and whole bytes of samples; 11, the length that it states, the
 -- data chunk's size, and that it does not end before its data do. Zeros where nothing is wrong

@@ -4,9 +4,10 @@
 ghost use Rattle.std.specs.Prelude.{◌≡◌, true, false, cond, not, ◌+◌, ◌%◌, map, option_map, unwrap_or, ltb, eqb, ◌≤◌, length};
 ghost use Rattle.dsf.specs.Dsf.{all, fits, layout, frequency, samples, stated_length, data_size, needed};
 ghost use Rattle.text.specs.Bytes.{number_at};
-ghost use Rattle.dsf_why.specs.Fields.{field_of};
+ghost use Rattle.dsf_why.specs.inner.Fields.{field_of};
 ghost use Rattle.dsf_why.specs.Why as spelled;
-ghost use Rattle.dsf_why.specs.Why.{first_unfit, of_field, all_readable, why_of};
+ghost use Rattle.dsf_why.specs.Why.{first_unfit, of_field, why_of};
+ghost use Rattle.dsf_why.specs.inner.Why.{all_readable};
 
 use dsf::number;
 use table::{Field, LAYOUT, fits};

@@ -1,7 +1,7 @@
 // The fields of refusal 9 as a table, in the order in which they stand.
 ghost use Rattle.std.specs.Prelude.{◌≡◌};
 ghost use Rattle.dsf.specs.Dsf.{fits};
-ghost use Rattle.dsf_why.specs.Fields.{field_of};
+ghost use Rattle.dsf_why.specs.inner.Fields.{field_of};
 
 // A field of the header: where it stands, and the values that it may have.
 pub struct Field {

@@ -9,7 +9,7 @@ use borrow.Author.Rules.{rules}
 use borrow.Rule.Slice.PartMut.{put_mid}
 use Rattle.std.proofs.lemmas.Slice.{overwrites}
 use Rattle.std.proofs.lemmas.List.{places}
-use Rattle.numbers.specs.Lists.{Wrote}
+use Rattle.numbers.specs.inner.Lists.{Wrote}
 
 -- k places from `at` on hold `part`
 module _ (at k : ℕ) (old part : List ℕ) (fits : at + k ≤ length old) (size : length part ≡ k) where

@@ -12,8 +12,10 @@ use Rattle.numbers.specs.Lists.{tabulate}
 use Rattle.numbers.proofs.Lists.{part_end, below_or, length_tabulate, get_d_tabulate, is_tabulate}
 use Rattle.reference.specs.Frames.{frame, frame_count}
 use Rattle.text.specs.Bytes.{Bytes, number_of, number_at, bytes}
-use Rattle.dsf.specs.Dsf.{pair, alike, blocks, data_bytes, data_place, stated_length, channel_type, channels, bits_per_sample, samples, data_size, needed, frames, turned, our_byte, sample_byte, turn_byte, data_frame, file_data, file_byte}
-use Rattle.dsf.specs.Headers.{header}
+use Rattle.dsf.specs.Dsf.{pair, alike, blocks, data_bytes, data_place, stated_length, channel_type, channels, bits_per_sample, samples}
+use Rattle.dsf.specs.Dsf.{data_size, needed, frames, turned, our_byte, sample_byte, turn_byte, data_frame, file_data}
+use Rattle.dsf.specs.inner.Dsf.{file_byte}
+use Rattle.dsf.specs.Headers.{header_with}
 use Rattle.dsf.proofs.Alike.{Alike, seg, join, pick, skip, T_is}
 use Rattle.text.proofs.Bytes.{padded, number_padded, bytes_number, each_padded, each_drop}
 use Rattle.dsf.proofs.Numbers.{alike_padded, field_alike}
@@ -81,7 +83,8 @@ module _ (file : List ℕ) (b : Bytes file) (pl : Plain file) where
       let c : Alike (drop 52 file) (bytes 4 n) = record { is = field_alike file 52 4 b (omega arith) } in
       let e : Alike (drop 60 file) (bytes 4 (bits_per_sample file)) = record { is = field_alike file 60 4 b (omega arith) } in
       let z : Alike (drop 84 file) (bytes 8 (data_size file)) = record { is = field_alike file 84 8 b (omega arith) } in
-      alike_head file s.as_laid_out s.at_frequency (drop 12 file) (channel_type file) n 1 (12 + needed file) (record { is = alike_padded 8 (drop 12 file) }) (seg file 48 4 refl t c) (rw pl.lowest_first at e) (rw s.sized at z)
+      alike_head file s.as_laid_out s.at_frequency (drop 12 file) (channel_type file) n 1 (12 + needed file)
+      (record { is = alike_padded 8 (drop 12 file) }) (seg file 48 4 refl t c) (rw pl.lowest_first at e) (rw s.sized at z)
 
   split : file ≡ hd ++ drop 92 file
   split =
@@ -90,7 +93,7 @@ module _ (file : List ℕ) (b : Bytes file) (pl : Plain file) where
       let z : drop (length file) hd ≡ [] = drop_of_length-le hd {i = length file} (omega (arith, s.long)) in
       sym (append-nil file) ∙ sym (ap (λ (l : List ℕ). file ++ l) z) ∙ e
 
-  same_header : header (bytes 8 (92 + written_data n fr)) (bytes 8 0) (pair (type_of n) n) 1 (bytes 8 (8 * written_channel n fr)) (bytes 8 (12 + written_data n fr)) ≡ hd
+  same_header : header_with (bytes 8 (92 + written_data n fr)) (bytes 8 0) (pair (type_of n) n) 1 (bytes 8 (8 * written_channel n fr)) (bytes 8 (12 + written_data n fr)) ≡ hd
   unfolding stated_length samples number_at
   same_header =
       let st : 92 + written_data n fr ≡ number_of (take 8 (drop 12 file)) = omega (arith, is_data, pl.no_more, s.stated) in
@@ -128,7 +131,8 @@ module _ (file : List ℕ) (b : Bytes file) (pl : Plain file) where
       let h = channel_below n j one in
       let k = byte_below n j one (blocks (samples file / 8)) (rw below at l) in
       ⊎_elim (λ (i : q < samples file / 8).
-      sym (rw is_channel (pick (ltb q (samples file / 8)) _ _ (lt→ltb _ _ i) ∙ ap turned (frame_byte c q h i) ∙ turned_twice _ (b.each (92 + data_place n c q)) ∙ ap (λ (x : ℕ). get_or file (92 + x) 0) p)))
+      sym (rw is_channel (pick (ltb q (samples file / 8)) _ _ (lt→ltb _ _ i) ∙ ap turned (frame_byte c q h i)
+      ∙ turned_twice _ (b.each (92 + data_place n c q)) ∙ ap (λ (x : ℕ). get_or file (92 + x) 0) p)))
       (λ (i : samples file / 8 ≤ q).
       ap (λ (x : ℕ). get_or file (92 + x) 0) (sym p) ∙ pl.zero_padded c q h i k ∙ sym (rw is_channel (skip (ltb q (samples file / 8)) _ _ (λ t. omega (arith, ltb→lt q (samples file / 8) t)))))
       (below_or q (samples file / 8))

@@ -49,7 +49,8 @@ module _ (n : ℕ) (fr gs : List ℕ) (one : 1 ≤ n) (w : WholeBlocks n fr) whe
   unfolding written_channel frame_count
   both =
       let l : length (fr ++ gs) ≡ length fr / (4704 * n) * (4704 * n) + length gs = length-append fr gs ∙ ap (λ (x : ℕ). x + length gs) w.whole in
-      let c : length (fr ++ gs) / (4704 * n) ≡ length fr / (4704 * n) + length gs / (4704 * n) = ap (λ (x : ℕ). x / (4704 * n)) l ∙ mul-add-div_right (omega arith) (length fr / (4704 * n)) (length gs) in
+      let c : length (fr ++ gs) / (4704 * n) ≡ length fr / (4704 * n) + length gs / (4704 * n) =
+      ap (λ (x : ℕ). x / (4704 * n)) l ∙ mul-add-div_right (omega arith) (length fr / (4704 * n)) (length gs) in
       rw c (omega (arith, here))
 
   -- bytes of the data

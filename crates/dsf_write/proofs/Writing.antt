@@ -12,7 +12,8 @@ use lib.Seq.{length-take-le, take-length}
 use borrow.Author.Tests.{le-leb, lt-leb, lt-ltb, le-ltb, eq-eqb, ne_eqb, eqb-true, leb-true, ltb-false, not-false}
 use borrow.Rule.Slice.PartMut.{put_mid}
 use Rattle.std.proofs.lemmas.Slice.{take-put_mid}
-use Rattle.numbers.specs.Lists.{tabulate, Wrote}
+use Rattle.numbers.specs.Lists.{tabulate}
+use Rattle.numbers.specs.inner.Lists.{Wrote}
 use Rattle.numbers.proofs.Lists.{below_or, is_tabulate}
 use Rattle.reference.specs.Frames.{frame_count}
 use Rattle.std.specs.Prelude.{Ok, Err}
@@ -25,14 +26,15 @@ use Rattle.reference.proofs.Refusals.{error_refuses, at_first, at_next, at_end, 
 use Rattle.text.specs.Text.{text}
 use Rattle.text.specs.Bytes.{bytes}
 use Rattle.dsf.specs.Dsf.{pair, blocks, data_bytes, turned}
-use Rattle.dsf.specs.Headers.{header}
+use Rattle.dsf.specs.Headers.{header_with}
 use Rattle.dsf.proofs.Alike.{T_is, T_of, left, right, pick, skip}
 use Rattle.dsf.specs.declared.BitOrder.TheVariants.{LowestFirst}
-use Rattle.dsf_columns.specs.Columns.{Ordering}
+use Rattle.dsf_columns.specs.inner.Columns.{Ordering}
 use Rattle.dsf_columns.proofs.Blocks.{group}
 use Rattle.dsf_write.proofs.Pieces.{long_mid, wrote_piece}
-use Rattle.dsf_write.specs.Written.{type_of, data_channel, data_byte, written_channel, written_data, written_byte, head, laid_out, written, file_length, length_places, write_places, laid_places, HeadPromise, LaidPromise, WritePromise, Writable}
-use Rattle.dsf_write.specs.Putting.{PutPromise, DataArgs, BlockArgs}
+use Rattle.dsf_write.specs.Written.{type_of, data_channel, data_byte, written_channel, written_data, written_byte, head, laid_out, written}
+use Rattle.dsf_write.specs.Written.{file_length, length_places, dsf_write_places, laid_places, HeadPromise, LaidPromise, WritePromise, Writable}
+use Rattle.dsf_write.specs.inner.Putting.{PutPromise, DataArgs, BlockArgs}
 use Rattle.dsf_write.proofs.Written.{by_channels}
 
 -- ---- the header
@@ -48,7 +50,8 @@ put_piece at k old part word fits size e =
       put = take-put_mid at k old part (at + length word) (omega (arith, ap length e)) (omega arith) ∙ ap (λ (l : List ℕ). take at old ++ l) e;
     }
 
--- a piece of n places from a place on that a call has written by f, or filled with zeros; k is the piece's end less its start
+-- a piece of n places from a place on that a call has written by f, or filled with zeros; k is the piece's end less its
+-- start
 module _ (at n k : ℕ) (old part : List ℕ) (fits : at + n ≤ length old) (e : k ≡ n) where
   pub piece_long : length (take k (drop at old)) ≡ n
   piece_long = length-take-le k (drop at old) (omega (arith, length-drop at old)) ∙ e
@@ -59,7 +62,8 @@ module _ (at n k : ℕ) (old part : List ℕ) (fits : at + n ≤ length old) (e 
 
   pub zeroed : part ≡ replicate (length (take k (drop at old))) 0 → Wrote 0 (λ i. 0) at n old (put_mid at k old part)
   zeroed p =
-      rw (← e) (wrote_piece at k old part (omega arith) (omega (arith, ap length p, length-replicate {A = ℕ} (length (take k (drop at old))) 0, piece_long)) (λ i. 0) (λ i l. rw p (get_or-replicate (length (take k (drop at old))) i 0 0 (omega (arith, piece_long)))))
+      rw (← e) (wrote_piece at k old part (omega arith) (omega (arith, ap length p, length-replicate {A = ℕ} (length (take k (drop at old))) 0, piece_long))
+      (λ i. 0) (λ i l. rw p (get_or-replicate (length (take k (drop at old))) i 0 0 (omega (arith, piece_long)))))
 
 -- two pieces, one after the other
 pub then : {v w old mid new : List ℕ} (at n : ℕ) → length v ≡ n → PutPromise at v old mid → PutPromise (at + n) w mid new → PutPromise at (v ++ w) old new
@@ -259,16 +263,16 @@ module _ (n b size : ℕ) (whole out : List ℕ) where
 -- of a file
 module _ (n : ℕ) (fr out : List ℕ) where
   pub turned_down : (e : PcmError) → error_decision e ≡ decide (length_places n (length fr)) → WritePromise n fr out out (Err e)
-  unfolding write_places
+  unfolding dsf_write_places
   turned_down e d = let a = down n (length fr) (file_length n (length fr)) (written n fr) out e d in record { decided = a.0; written_out = a.1 }
 
   module _ (e : decide (length_places n (length fr)) ≡ accepted) where
     pub wrong_output : length out ≢ file_length n (length fr) → WritePromise n fr out out (Err (OutputBytes (length out) (file_length n (length fr))))
-    unfolding write_places
+    unfolding dsf_write_places
     wrong_output h = let a = wrong n (length fr) (file_length n (length fr)) (written n fr) out e h in record { decided = a.0; written_out = a.1 }
 
     pub given : length out ≡ file_length n (length fr) → {new : List ℕ} → new ≡ written n fr → WritePromise n fr out new (Ok tt)
-    unfolding write_places
+    unfolding dsf_write_places
     given h w = let a = right_size n (length fr) (file_length n (length fr)) (written n fr) out e h w in record { decided = a.0; written_out = a.1 }
 
 -- of the data alone
@@ -292,7 +296,7 @@ module _ (n b : ℕ) (out : List ℕ) where
   head_down e d = record { decided = d; written_out = sym (exit_refused _ (head n b) out (ap is_accepted (sym d) ∙ error_refuses e)) }
 
   pub head_put : {new : List ℕ} → PutPromise 0 (head n b) out new → take 92 new ≡ head n b
-  unfolding head header text bytes
+  unfolding head header_with text bytes
   head_put p = p.put
 
   pub head_given : decide (length_places n b) ≡ accepted → length out ≡ 92 → {new : List ℕ} → PutPromise 0 (head n b) out new → HeadPromise n b out new (Ok tt)

@@ -13,8 +13,11 @@ use Rattle.numbers.proofs.Lists.{part_end, length_tabulate, get_d_tabulate, is_t
 use Rattle.reference.specs.Frames.{frame, frame_count}
 use Rattle.text.specs.Text.{text}
 use Rattle.text.specs.Bytes.{Bytes, number_at, bytes}
-use Rattle.dsf.specs.Dsf.{alike, any, all, fits, layout, pairs, orders, blocks, data_bytes, data_place, stated_length, channel_type, channels, bits_per_sample, samples, data_size, needed, accepts, frames, frames_in, turned, our_byte, sample_byte, turn_byte, data_frame, file_data, file_byte, file_frame}
-use Rattle.dsf.specs.Headers.{header}
+use Rattle.dsf.specs.Dsf.{alike, any, all, fits, layout, pairs, orders, blocks, data_bytes, data_place, stated_length}
+use Rattle.dsf.specs.Dsf.{channel_type, channels, bits_per_sample, samples, data_size, needed, accepts, frames, frames_in}
+use Rattle.dsf.specs.Dsf.{turned, our_byte, sample_byte, turn_byte, data_frame, file_data, file_frame}
+use Rattle.dsf.specs.inner.Dsf.{file_byte}
+use Rattle.dsf.specs.Headers.{header_with}
 use Rattle.dsf.proofs.Alike.{pick, skip}
 use Rattle.text.proofs.Bytes.{padded, number_bytes}
 use Rattle.dsf.proofs.Accepted.{is_sound}
@@ -23,7 +26,7 @@ use Rattle.dsf.proofs.Headers as H
 use Rattle.dsf_columns.proofs.Blocks.{place_below}
 use Rattle.dsf_columns.proofs.Turned.{turned_twice}
 use Rattle.dsf_write.specs.Written.{type_of, written_channel, written_data, written_byte, written, Writable, Plain}
-use Rattle.dsf_write.specs.Theorems.{WrittenRead}
+use Rattle.dsf_write.specs.Theorems.{DsfWrittenRead}
 use Rattle.dsf_write.proofs.Places.{channel_is, byte_is}
 
 -- ---- 1 to 6 channels
@@ -39,7 +42,7 @@ module _ (P : ℕ → Type 0) (p1 : P 1) (p2 : P 2) (p3 : P 3) (p4 : P 4) (p5 : 
   by_channels (suc (suc (suc (suc (suc (suc (suc n))))))) a b = absurd (omega arith)
 
 laid : (n : ℕ) → 1 ≤ n → n ≤ 6 → Laid (type_of n) n 1
-unfolding type_of layout pairs orders fits any all alike header text bytes padded
+unfolding type_of layout pairs orders fits any all alike header_with text bytes padded
 laid =
     by_channels (λ n. Laid (type_of n) n 1) (λ xs ys ns z r. tt) (λ xs ys ns z r. tt) (λ xs ys ns z r. tt) (λ xs ys ns z r. tt) (λ xs ys ns z r. tt) (λ xs ys ns z r. tt)
 
@@ -111,7 +114,8 @@ module _ (n : ℕ) (fr : List ℕ) (w : Writable n fr) where
   is_size = ap data_size is_file ∙ H.read_size (bytes 8 (92 + d)) (bytes 8 0) (type_of n) n 1 (bytes 8 (8 * m)) (12 + d) body ∙ number_bytes 8 (12 + d) (omega (arith, d_small))
 
   is_length : length F ≡ 92 + d
-  is_length = ap length is_file ∙ omega (arith, length-append hd body, H.length_header (bytes 8 (92 + d)) (bytes 8 0) (type_of n) n 1 (bytes 8 (8 * m)) (12 + d) [], length_tabulate (written_byte n fr) 0 d)
+  is_length = ap length is_file
+      ∙ omega (arith, length-append hd body, H.length_header (bytes 8 (92 + d)) (bytes 8 0) (type_of n) n 1 (bytes 8 (8 * m)) (12 + d) [], length_tabulate (written_byte n fr) 0 d)
 
   is_needed : needed F ≡ d
   unfolding needed written_data
@@ -210,5 +214,5 @@ module _ (n : ℕ) (fr : List ℕ) (w : Writable n fr) where
             rw is_channels (placed c q h' l' ∙ skip (ltb q m) _ _ (λ t. omega (arith, is_channel_length, ltb→lt q m t)));
       }
 
-pub written_reads : WrittenRead
+pub written_reads : DsfWrittenRead
 written_reads n fr w = record { accepted = written_accepted n fr w; frames = written_frames n fr w; frame = written_frame n fr w; plain = written_plain n fr w }

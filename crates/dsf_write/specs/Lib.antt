@@ -1,3 +1,3 @@
 pub mod Written
-pub mod Putting
 pub mod Theorems
+pub mod inner

@@ -1,4 +1,5 @@
--- What is proved of the files that are written: read, they give the frames back, and what was read from a file of their kind is written back as it.
+-- What is proved of the files that are written: read, they give the frames back, and what was read from a file of their
+-- kind is written back as it.
 use Rattle.std.specs.Prelude.{◌≡◌, List, ◌++◌, map, ℕ, ◌*◌, ◌%◌, ◌≤◌, ◌<◌, T, length}
 use Rattle.numbers.specs.Lists.{Each}
 use Rattle.reference.specs.Frames.{frame, frame_count, frame_length}
@@ -7,16 +8,16 @@ use Rattle.text.specs.Bytes.{Bytes}
 use Rattle.dsf.specs.Dsf.{accepts, channels, frames, file_frame}
 use Rattle.dsf_write.specs.Written.{head, laid_out, written, all_frames, Plain, Writable}
 
--- a written file is accepted, has as many frames as were written, and each is the frame written; and it is of the kind that is written.
--- Proved in proofs/Written, `written_reads`
+-- a written file is accepted, has as many frames as were written, and each is the frame written; and it is of the kind
+-- that is written. Proved in proofs/Written, `written_reads`
 pub record WrittenReads (n : ℕ) (fr : List ℕ) : Type 0 where
   pub accepted : T (accepts (written n fr))
   pub frames : frames (written n fr) ≡ frame_count n fr
   pub frame : Bytes fr → (f : ℕ) → f < frame_count n fr → file_frame (written n fr) f ≡ frame n fr f
   pub plain : Plain (written n fr)
 
-abbrev pub WrittenRead : Type 0
-WrittenRead = (n : ℕ) (fr : List ℕ) → Writable n fr → WrittenReads n fr
+abbrev pub DsfWrittenRead : Type 0
+DsfWrittenRead = (n : ℕ) (fr : List ℕ) → Writable n fr → WrittenReads n fr
 
 -- what was read from a file of that kind can be written, and gives its bytes. Proved in proofs/Rewritten, `rewritten`
 abbrev pub Rewritten : Type 0

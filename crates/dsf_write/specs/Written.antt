@@ -2,12 +2,13 @@
 use Rattle.std.specs.Prelude.{◌≡◌, List, [], ◌∷◌, ◌++◌, Result, IfOk, cond, not, ◌&&◌, ℕ, ◌+◌, ◌*◌, ◌/◌, ◌%◌, ◌≤◌, ◌<◌, T, eqb, ltb, leb, length, get_or}
 use Rattle.numbers.specs.Lists.{tabulate}
 use Rattle.reference.specs.Frames.{frame_count, frame_bytes, frame_length}
-use Rattle.reference.specs.Refusals.{Place, place, decide, decision, number, lent_length}
+use Rattle.reference.specs.Refusals.{Place, place, decide, decision, number, lent_length, most}
 use Rattle.reference.specs.Promises.{by_decision}
 use Rattle.reference.specs.declared.PcmError.{PcmError}
+use Rattle.reference.specs.declared.Limit.TheVariants as limit
 use Rattle.text.specs.Bytes.{number_at, bytes}
 use Rattle.dsf.specs.Dsf.{pair, block, blocks, data_bytes, data_place, channel_type, channels, bits_per_sample, samples, needed, accepts, frames, turned, turn_byte, file_data}
-use Rattle.dsf.specs.Headers.{header}
+use Rattle.dsf.specs.Headers.{header_with}
 
 -- the channel type that is written for 1 to 6 channels: 1, 2, 3, 4, 6, 7
 unfoldable pub type_of : ℕ → ℕ
@@ -35,7 +36,7 @@ module _ (channels : ℕ) (bytes_in : List ℕ) where
   -- the file of these frames
   unfoldable pub written : List ℕ
   written =
-      header (bytes 8 (92 + written_data)) (bytes 8 0) (pair (type_of channels) channels) 1 (bytes 8 (8 * written_channel)) (bytes 8 (12 + written_data))
+      header_with (bytes 8 (92 + written_data)) (bytes 8 0) (pair (type_of channels) channels) 1 (bytes 8 (8 * written_channel)) (bytes 8 (12 + written_data))
       ++ tabulate written_byte 0 written_data
 
 -- its parts: the 92 bytes before the data, of n bytes of frames, and the data
@@ -43,7 +44,7 @@ unfoldable pub head : ℕ → ℕ → List ℕ
 head channels n =
     let bytes_of = n / frame_length channels * frame_bytes in
     let size = data_bytes (8 * bytes_of) channels in
-    header (bytes 8 (92 + size)) (bytes 8 0) (pair (type_of channels) channels) 1 (bytes 8 (8 * bytes_of)) (bytes 8 (12 + size))
+    header_with (bytes 8 (92 + size)) (bytes 8 0) (pair (type_of channels) channels) 1 (bytes 8 (8 * bytes_of)) (bytes 8 (12 + size))
 
 unfoldable pub laid_out : ℕ → List ℕ → List ℕ
 laid_out channels bytes_in = tabulate (written_byte channels bytes_in) 0 (written_data channels bytes_in)
@@ -57,12 +58,12 @@ unfoldable pub length_places : ℕ → ℕ → List Place
 length_places channels n =
     place (not (leb 1 channels && leb channels 6)) 1 (number channels ∷ [])
     ∷ place (not (eqb (n % frame_length channels) 0)) 4 (number n ∷ number 0 ∷ [])
-    ∷ place (ltb 540000 (n / frame_length channels)) 5 (number (n / frame_length channels) ∷ [])
+    ∷ place (ltb (most limit.Rack) (n / frame_length channels)) 5 (number (n / frame_length channels) ∷ [])
     ∷ []
 
 -- then an output of another length
-unfoldable pub write_places : ℕ → List ℕ → ℕ → List Place
-write_places channels bytes_in out = length_places channels (length bytes_in) ++ (lent_length 7 out (file_length channels (length bytes_in)) ∷ [])
+unfoldable pub dsf_write_places : ℕ → List ℕ → ℕ → List Place
+dsf_write_places channels bytes_in out = length_places channels (length bytes_in) ++ (lent_length 7 out (file_length channels (length bytes_in)) ∷ [])
 
 -- then an output for the data alone of another length
 unfoldable pub laid_places : ℕ → List ℕ → ℕ → List Place
@@ -77,8 +78,8 @@ pub record LengthPromise (channels n : ℕ) (answer : Result ℕ PcmError) : Typ
 
 -- `out` is the output at entry, `out'` at exit
 pub record WritePromise (channels : ℕ) (bytes_in out out' : List ℕ) (answer : Result (Unit {0}) PcmError) : Type 0 where
-  pub decided : decision answer ≡ decide (write_places channels bytes_in (length out))
-  pub written_out : out' ≡ by_decision (decide (write_places channels bytes_in (length out))) (written channels bytes_in) out
+  pub decided : decision answer ≡ decide (dsf_write_places channels bytes_in (length out))
+  pub written_out : out' ≡ by_decision (decide (dsf_write_places channels bytes_in (length out))) (written channels bytes_in) out
 
 -- of the header of so many bytes of frames
 pub record HeadPromise (channels n : ℕ) (out out' : List ℕ) (answer : Result (Unit {0}) PcmError) : Type 0 where
@@ -104,7 +105,7 @@ pub record Plain (file : List ℕ) : Type 0 where
   pub written_type : channel_type file ≡ type_of (channels file)
   pub no_more : length file ≡ 92 + needed file
   pub whole_frames : samples file / 8 ≡ frames file * frame_bytes
-  pub few : frames file ≤ 540000
+  pub few : frames file ≤ most limit.Rack
   pub zero_padded : (c q : ℕ) → c < channels file → samples file / 8 ≤ q → q < blocks (samples file / 8) * block → file_data file (data_place (channels file) c q) ≡ 0
 
 -- frames that can be written: 1 to 6 channels, 0 to 540,000 whole frames
@@ -112,4 +113,4 @@ pub record Writable (channels : ℕ) (bytes_in : List ℕ) : Type 0 where
   pub one : 1 ≤ channels
   pub six : channels ≤ 6
   pub whole : length bytes_in ≡ frame_count channels bytes_in * frame_length channels
-  pub few : frame_count channels bytes_in ≤ 540000
+  pub few : frame_count channels bytes_in ≤ most limit.Rack

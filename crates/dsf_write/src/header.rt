@@ -2,9 +2,9 @@
 ghost use Rattle.std.specs.Prelude.{◌≡◌, ◌+◌, ◌≤◌, length};
 ghost use Rattle.text.specs.Bytes.{bytes};
 ghost use Rattle.dsf.specs.Dsf.{pair};
-ghost use Rattle.dsf.specs.Headers.{header};
+ghost use Rattle.dsf.specs.Headers.{header_with};
 ghost use Rattle.dsf_write.specs.Written.{type_of};
-ghost use Rattle.dsf_write.specs.Putting.{PutPromise};
+ghost use Rattle.dsf_write.specs.inner.Putting.{PutPromise};
 
 // Bytes put into a list from a place on.
 fn put(out: &mut [u8], at: usize, bytes: &[u8])
@@ -17,7 +17,7 @@ fn put(out: &mut [u8], at: usize, bytes: &[u8])
 // The header: the stated length of the file, the samples of each channel, and the size of the data's chunk.
 pub fn put_header(channels: u8, stated: u64, samples: u64, size: u64, out: &mut [u8])
     requires { (1 ≤ channels) × (channels ≤ 6) × (92 ≤ length out.old) }
-    ensures { PutPromise 0 (header (bytes 8 stated) (bytes 8 0) (pair (type_of channels) channels) 1 (bytes 8 samples) (bytes 8 size)) out.old out.new }
+    ensures { PutPromise 0 (header_with (bytes 8 stated) (bytes 8 0) (pair (type_of channels) channels) 1 (bytes 8 samples) (bytes 8 size)) out.old out.new }
 {
     put(out, 0, b"DSD \x1c\0\0\0\0\0\0\0");
     put(out, 12, &stated.to_le_bytes());

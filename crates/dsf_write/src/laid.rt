@@ -1,10 +1,10 @@
 // The data: the channels' blocks in turn, lowest bit first, zero bytes past the samples.
 ghost use Rattle.std.specs.Prelude.{◌≡◌, ◌+◌, ◌-◌, ◌*◌, ◌≤◌, ◌<◌, ◌^◌, length, get_or};
-ghost use Rattle.numbers.specs.Lists.{Wrote};
+ghost use Rattle.numbers.specs.inner.Lists.{Wrote};
 ghost use Rattle.dsf.specs.declared.BitOrder.TheVariants.{LowestFirst};
-ghost use Rattle.dsf_columns.specs.Columns.{Ordering};
+ghost use Rattle.dsf_columns.specs.inner.Columns.{Ordering};
 ghost use Rattle.dsf_write.specs.Written.{written_byte};
-ghost use Rattle.dsf_write.specs.Putting.{DataArgs, BlockArgs};
+ghost use Rattle.dsf_write.specs.inner.Putting.{DataArgs, BlockArgs};
 
 use dsf::BitOrder;
 use dsf_columns::order_table;

@@ -2,9 +2,11 @@
 #![tactic(auto)]
 
 ghost use Rattle.std.specs.Prelude.{◌≡◌, ◌/◌, ◌*◌, ◌≤◌, length};
-ghost use Rattle.reference.specs.Refusals.{decide, decision};
+ghost use Rattle.reference.specs.Refusals.{decide, decision, most};
+ghost use Rattle.reference.specs.declared.Limit.TheVariants as limit;
+ghost use Rattle.reference.specs.Frames.{frame_length};
 ghost use Rattle.dsf_write.specs.Written.{file_length, length_places, written_data, head, laid_out, written, LengthPromise, HeadPromise, LaidPromise, WritePromise, Writable};
-ghost use Rattle.dsf_write.specs.Putting.{PutPromise};
+ghost use Rattle.dsf_write.specs.inner.Putting.{PutPromise};
 
 mod header;
 mod laid;
@@ -12,7 +14,7 @@ mod laid;
 use dsf::data_bytes;
 use header::put_header;
 use laid::put_data;
-use reference::{Length, PcmError};
+use reference::{FRAME_BYTES, Length, MOST_FRAMES, PcmError};
 
 // Channels and frames that can be written.
 #[tactic(auto, using(crate::proofs::Writing::no_channels, crate::proofs::Writing::many_channels, crate::proofs::Writing::not_whole, crate::proofs::Writing::too_many, crate::proofs::Writing::all_right))]
@@ -22,12 +24,12 @@ fn tried(channels: u8, bytes: usize) -> Result<(), PcmError>
     if channels < 1 || channels > 6 {
         return Err(PcmError::Channels(channels));
     }
-    let frame = 4704 * channels as usize;
+    let frame = FRAME_BYTES * channels as usize;
     if bytes % frame != 0 {
         return Err(PcmError::InputLength(bytes, Length::WholeFrames));
     }
     let count = bytes / frame;
-    if count > 540000 {
+    if count > MOST_FRAMES {
         return Err(PcmError::Frames(count));
     }
     Ok(())
@@ -36,11 +38,11 @@ fn tried(channels: u8, bytes: usize) -> Result<(), PcmError>
 // The length of a file of so many bytes of frames.
 #[tactic(auto, unfolding(crate::specs::Written::file_length))]
 fn length_of(channels: u8, bytes: usize) -> usize
-    requires { (1 ≤ channels) × (channels ≤ 6) × (bytes / (4704 * channels) ≤ 540000) }
+    requires { (1 ≤ channels) × (channels ≤ 6) × (bytes / frame_length channels ≤ most limit.Rack) }
     ensures { result ≡ file_length channels bytes }
 {
-    let count = bytes / (4704 * channels as usize);
-    let samples = 8 * (count * 4704) as u64;
+    let count = bytes / (FRAME_BYTES * channels as usize);
+    let samples = 8 * (count * FRAME_BYTES) as u64;
     92 + data_bytes(samples, channels as u64) as usize
 }
 
@@ -54,10 +56,10 @@ pub fn file_length(channels: u8, bytes: usize) -> Result<usize, PcmError>
 
 // The header of the file of so many bytes of frames that can be written, at the front of a list.
 fn put_head(channels: u8, bytes: usize, out: &mut [u8])
-    requires { (1 ≤ channels) × (channels ≤ 6) × (bytes / (4704 * channels) ≤ 540000) × (92 ≤ length out.old) }
+    requires { (1 ≤ channels) × (channels ≤ 6) × (bytes / frame_length channels ≤ most limit.Rack) × (92 ≤ length out.old) }
     ensures { PutPromise 0 (head channels bytes) out.old out.new }
 {
-    let samples = 8 * (bytes / (4704 * channels as usize) * 4704) as u64;
+    let samples = 8 * (bytes / (FRAME_BYTES * channels as usize) * FRAME_BYTES) as u64;
     let need = data_bytes(samples, channels as u64);
     put_header(channels, 92 + need, samples, 12 + need, out);
 }
@@ -77,7 +79,7 @@ fn fill_laid(channels: u8, frames: &[u8], out: &mut [u8])
     ensures { out.new ≡ laid_out channels frames.now }
 {
     let count = channels as usize;
-    let bytes = frames.len() / (4704 * count) * 4704;
+    let bytes = frames.len() / (FRAME_BYTES * count) * FRAME_BYTES;
     put_data(frames, count, bytes, out);
 }
 

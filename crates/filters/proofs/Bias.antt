@@ -9,9 +9,9 @@ use Rattle.numbers.specs.Sums.{sum_to, at0}
 use Rattle.numbers.proofs.Integers.{pp, nn, zext, add_parts, abs_parts, +ℤ-left-comm, add_mul}
 use Rattle.reference.specs.Rounding.{R}
 use Rattle.reference.specs.Stages.{tap, M, fir}
-use Rattle.lanes.specs.Lanes.{Filled, raised, arms}
-use Rattle.filters.specs.Filters.{alone, between_by, same_rate, middle, half_rate, Fit, ones, Filter, Phases, Between}
-use Rattle.filters.specs.Lifts.{lifted, Raised, Sums, rounded}
+use Rattle.lanes.specs.inner.Lanes.{Filled, raised, arms}
+use Rattle.filters.specs.inner.Filters.{alone, between_by, same_rate, middle, half_rate, Fit, ones, UnityGain, Phases, Between}
+use Rattle.filters.specs.inner.Lifts.{lifted, Raised, Sums, rounded}
 use Rattle.filters.proofs.Pairs.{fir_is, between_is, fir_same, between_same, fir_lift, between_lift}
 use Rattle.filters.proofs.Places.{filled_as, filled_then, filled_again}
 
@@ -75,12 +75,12 @@ middle_gain h x v n long a k m =
     ∙ between_lift h x (k + length h - 1)
 
 -- ---- the lift in all is 2^53
-pub same_filled : (h x : List ℤ) {old new : List ℤ} → Filter h → Filled (λ k. fir h (lifted x) (k + M h)) old new → Filled (λ k. same_rate h x k +ℤ pos (2 ^ 53)) old new
+pub same_filled : (h x : List ℤ) {old new : List ℤ} → UnityGain h → Filled (λ k. fir h (lifted x) (k + M h)) old new → Filled (λ k. same_rate h x k +ℤ pos (2 ^ 53)) old new
 unfolding same_rate
 same_filled h x f c = filled_as c (λ k m. fir_lift h x (k + M h) ∙ ap (λ (z : ℤ). fir h (at0 x) (k + M h) +ℤ z *ℤ pos (2 ^ 29)) f.whole)
 
 -- its taps are those of a filter
-pub same_sums : (h x : List ℤ) (v : List ℕ) {y₀ y₁ y₂ : List ℤ} → Filter h → length y₀ + 2 * M h ≤ length x → Raised (length x) x v
+pub same_sums : (h x : List ℤ) (v : List ℕ) {y₀ y₁ y₂ : List ℤ} → UnityGain h → length y₀ + 2 * M h ≤ length x → Raised (length x) x v
     → Filled (λ k. tap h 0 *ℤ raised v (M h + k)) y₀ y₁ → Filled (λ k. at0 y₁ k +ℤ arms h (raised v) 1 (M h + 1 + k - 1) (M h + k) (M h)) y₁ y₂
     → Filled (λ k. same_rate h x k +ℤ pos (2 ^ 53)) y₀ y₂
 same_sums h x v f long a c p = same_filled h x f (fir_filled h x v long a c p)

@@ -9,9 +9,9 @@ use Rattle.numbers.specs.Sums.{sum_to, apart, at0}
 use Rattle.numbers.proofs.Integers.{+ℤ-left-comm, mul_add, add_mul, *ℤ-assoc, sums}
 use Rattle.numbers.proofs.Sums.{sum_same, sum_head}
 use Rattle.reference.specs.Stages.{tap, M, fir}
-use Rattle.lanes.specs.Lanes.{arms}
-use Rattle.filters.specs.Filters.{between_by, ones}
-use Rattle.filters.specs.Lifts.{lifted}
+use Rattle.lanes.specs.inner.Lanes.{arms}
+use Rattle.filters.specs.inner.Filters.{between_by, ones}
+use Rattle.filters.specs.inner.Lifts.{lifted}
 
 -- ---- the filter's sum: the centre, and the pairs
 module _ (h : List ℤ) (s : ℕ → ℤ) (c : ℕ) where

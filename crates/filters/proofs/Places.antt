@@ -11,9 +11,9 @@ use lib.Seq.{get_or-set_same, get_or-set_other}
 use Rattle.numbers.specs.Sums.{at0}
 use Rattle.numbers.proofs.Integers.{abs_add}
 use Rattle.numbers.proofs.Lists.{below_or, length_tabulate, get_d_tabulate}
-use Rattle.lanes.specs.Lanes.{Small, Filled, raised, Low}
-use Rattle.filters.specs.Filters.{seconds}
-use Rattle.filters.specs.Lifts.{lifted, Raised}
+use Rattle.lanes.specs.inner.Lanes.{Small, Filled, raised, Low}
+use Rattle.filters.specs.inner.Filters.{seconds}
+use Rattle.filters.specs.inner.Lifts.{lifted, Raised}
 
 -- ---- whole lists
 pub filled_as : {f g : ℕ → ℤ} {old new : List ℤ} → Filled f old new → ((k : ℕ) → k < length old → f k ≡ g k) → Filled g old new
@@ -39,7 +39,10 @@ gained_small g {old} B u a e l = filled_small B u (λ k. omega (arith, abs_add (
 
 -- ---- the copy
 pub low_zeros : (n : ℕ) → Low (replicate n 0)
-low_zeros n = record { size = λ k. ⊎_elim (λ l. rw (get_or-replicate {A = ℕ} n k 0 0 l) (omega arith)) (λ l. rw (get_or-eq_default {A = ℕ} (replicate n 0) 0 {n = k} (past k l)) (omega arith)) (below_or k n) }
+low_zeros n = record {
+  size = λ k. ⊎_elim (λ l. rw (get_or-replicate {A = ℕ} n k 0 0 l) (omega arith))
+      (λ l. rw (get_or-eq_default {A = ℕ} (replicate n 0) 0 {n = k} (past k l)) (omega arith)) (below_or k n);
+}
   where
     past : (k : ℕ) → n ≤ k → length {A = ℕ} (replicate n 0) ≤ k
     past k l = rw (length-replicate {A = ℕ} n 0) l

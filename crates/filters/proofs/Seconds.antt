@@ -1,4 +1,5 @@
--- A filter at half the rate over one array: what `dec2` sums is the reference's sum, for an even and for an odd number of taps.
+-- A filter at half the rate over one array: what `dec2` sums is the reference's sum, for an even and for an odd number
+-- of taps.
 use mathlib.Core.Path.{◌≡◌, ◌∙◌, ap}
 use mathlib.Core.List.{List}
 use mathlib.Core.Logic.{⊎_elim}
@@ -10,7 +11,7 @@ use Rattle.numbers.specs.Sums.{apart, at0}
 use Rattle.numbers.proofs.Sums.{sum_same}
 use Rattle.numbers.proofs.Lists.{below_or}
 use Rattle.reference.specs.Stages.{tap, M, fir}
-use Rattle.filters.specs.Filters.{even_taps, odd_taps, half_rate, seconds}
+use Rattle.filters.specs.inner.Filters.{even_taps, odd_taps, half_rate, seconds}
 use Rattle.filters.proofs.Places.{second_at}
 use Rattle.filters.proofs.Signals.{split_halves, half_signal, length_even, length_odd}
 
@@ -40,7 +41,8 @@ module _ (F x : List ℤ) (some : 0 < length F) (i : ℕ) (room : 2 * i + 2 * M 
       ∙ ap (fir F (λ k. at0 x (k - 1))) (omega (arith, length_even F))
       ∙ fir_later F (at0 x) (2 * i + M F) (omega arith)
 
-  pub decimated : half_rate (even_taps F) (odd_taps F) (seconds (length (odd_taps F) + 1 - length (even_taps F)) x) (seconds (length (even_taps F) - length (odd_taps F)) x) i ≡ fir F (at0 x) (2 * i + M F)
+  pub decimated : half_rate (even_taps F) (odd_taps F) (seconds (length (odd_taps F) + 1 - length (even_taps F)) x)
+      (seconds (length (even_taps F) - length (odd_taps F)) x) i ≡ fir F (at0 x) (2 * i + M F)
   decimated =
       ⊎_elim
       (λ (l : length F % 2 < 1).

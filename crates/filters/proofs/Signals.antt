@@ -1,4 +1,5 @@
--- From a block to the signal that it is a part of: each place of the output is the reference's sum over the signal. For every filter h.
+-- From a block to the signal that it is a part of: each place of the output is the reference's sum over the signal. For
+-- every filter h.
 use mathlib.Core.Path.{◌≡◌, refl, sym, ◌∙◌, ap, ap₂}
 use mathlib.Core.List.{List}
 use mathlib.Core.Logic.{⊎_elim}
@@ -8,14 +9,15 @@ use native.Mathlib.Omega.{arith}
 use lib.IntN.{ℤ, pos, nat_abs, ◌+ℤ◌, ◌*ℤ◌, +ℤ_assoc, +ℤ_comm, +ℤ_idr, zero-*ℤ}
 use lib.ListN.{length, get_or-eq_default}
 use Rattle.numbers.specs.Sums.{sum_to, apart, at0}
-use Rattle.numbers.specs.Lists.{tabulate, Held}
+use Rattle.numbers.specs.Lists.{tabulate}
+use Rattle.numbers.specs.inner.Lists.{Held}
 use Rattle.numbers.proofs.Integers.{+ℤ-left-comm}
 use Rattle.numbers.proofs.Sums.{sum_same}
 use Rattle.numbers.proofs.Lists.{below_or, length_tabulate, get_d_tabulate, is_tabulate}
 use Rattle.reference.specs.Rounding.{R}
 use Rattle.reference.specs.Stages.{tap, M, fir}
-use Rattle.lanes.specs.Lanes.{Small, Filled, arms}
-use Rattle.filters.specs.Filters.{even_taps, odd_taps, between_by, same_rate, middle, half_rate, Fit, ones, Filter, Phases}
+use Rattle.lanes.specs.inner.Lanes.{Small, Filled, arms}
+use Rattle.filters.specs.inner.Filters.{even_taps, odd_taps, between_by, same_rate, middle, half_rate, Fit, ones, UnityGain, Phases}
 use Rattle.filters.proofs.Pairs.{fir_is}
 
 -- 0 past the end
@@ -176,7 +178,7 @@ module _ {h he ho : List ℤ} (t : Halves h he ho) where
     half_held u l m = filled_held u (λ i a. ap (λ (z : ℤ). R z 24) (half_signal i (omega arith) (omega arith)))
 
   -- a filter's halves are as its taps are
-  pub halves_phases : Filter h → Phases he ho
+  pub halves_phases : UnityGain h → Phases he ho
   unfolding fir between_by
   halves_phases f =
       record {

@@ -10,9 +10,9 @@ use Rattle.numbers.specs.Lists.{total, tabulate}
 use Rattle.numbers.proofs.Sums.{sum_same}
 use Rattle.reference.specs.Taps.{HB, F40, F30, F80}
 use Rattle.reference.specs.Stages.{tap, fir, between}
-use Rattle.reference.specs.Sizes.{absolute_sum}
+use Rattle.reference.specs.inner.Sizes.{absolute_sum}
 use Rattle.reference.proofs.Sizes.{F40_sum, F30_sum}
-use Rattle.filters.specs.Filters.{even_taps, odd_taps, alone, between_by, Filter, Between}
+use Rattle.filters.specs.inner.Filters.{even_taps, odd_taps, alone, between_by, UnityGain, Between}
 use Rattle.filters.proofs.Signals.{Halves, split_halves, halves_phases}
 use Rattle.filters.proofs.Totals.{filter_by_sums}
 
@@ -24,19 +24,19 @@ pub absolute_F80 : absolute_sum F80 ≡ 40030264
 unfolding F80 absolute_sum total
 absolute_F80 = refl
 
-pub filter_HB : Filter HB
+pub filter_HB : UnityGain HB
 unfolding HB fir sum_to
 filter_HB = filter_by_sums HB refl (omega (arith, absolute_HB))
 
-pub filter_F40 : Filter F40
+pub filter_F40 : UnityGain F40
 unfolding F40 fir sum_to
 filter_F40 = filter_by_sums F40 refl (omega (arith, F40_sum))
 
-pub filter_F30 : Filter F30
+pub filter_F30 : UnityGain F30
 unfolding F30 fir sum_to
 filter_F30 = filter_by_sums F30 refl (omega (arith, F30_sum))
 
-pub filter_F80 : Filter F80
+pub filter_F80 : UnityGain F80
 unfolding F80 fir sum_to
 filter_F80 = filter_by_sums F80 refl (omega (arith, absolute_F80))
 

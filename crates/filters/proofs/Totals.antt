@@ -12,9 +12,9 @@ use Rattle.numbers.specs.Lists.{total}
 use Rattle.numbers.proofs.Integers.{abs_add, abs_neg, add_mul}
 use Rattle.numbers.proofs.Lists.{below_or, total_same, total_join}
 use Rattle.reference.specs.Stages.{tap, M, fir}
-use Rattle.reference.specs.Sizes.{absolute_sum}
-use Rattle.filters.specs.Filters.{ones, Filter}
-use Rattle.lanes.specs.Lanes.{arms}
+use Rattle.reference.specs.inner.Sizes.{absolute_sum}
+use Rattle.filters.specs.inner.Filters.{ones, UnityGain}
+use Rattle.lanes.specs.inner.Lanes.{arms}
 use Rattle.filters.proofs.Pairs.{fir_is}
 use Rattle.filters.proofs.Bias.{back}
 use Rattle.filters.proofs.Signals.{past}
@@ -73,7 +73,7 @@ one_of (suc n) f j l =
     rw z (⊎_elim (λ (e : j ≡ n). rw e (omega (arith, all_of n f))) (λ (m : j < n). omega (arith, one_of n f j m)) (eq-or-lt_of_le u))
 
 -- so no tap is over 2^25
-pub filter_by_sums : (h : List ℤ) → fir h ones (M h) ≡ pos (2 ^ 24) → absolute_sum h ≤ 3 * 2 ^ 24 → Filter h
+pub filter_by_sums : (h : List ℤ) → fir h ones (M h) ≡ pos (2 ^ 24) → absolute_sum h ≤ 3 * 2 ^ 24 → UnityGain h
 unfolding fir one absolute_sum
 filter_by_sums h e l = record { small = record { size = λ i. ⊎_elim (inside i) (outside i) (below_or i (length h)) }; whole = e }
   where

@@ -1,7 +1,7 @@
 // Taps, widened to i64.
 ghost use Rattle.std.specs.Prelude.{◌≡◌, ◌+◌, ◌*◌, ◌≤◌, length};
 ghost use Rattle.numbers.specs.Sums.{at0};
-ghost use Rattle.lanes.specs.Lanes.{Filled};
+ghost use Rattle.lanes.specs.inner.Lanes.{Filled};
 
 pub fn widen_taps(h: &[i32], out: &mut [i64])
     requires { length out.old ≡ length h.now }

@@ -1,9 +1,9 @@
 // What the sums start with: the centre's products. And the copy of a block that the taps
 // read: each value is below 2^29 in size, and lifted by that.
 ghost use Rattle.std.specs.Prelude.{◌≡◌, ◌+◌, ◌-◌, ◌/◌, ◌^◌, ◌≤◌, pos, nat_abs, ◌+ℤ◌, ◌*ℤ◌, length};
-ghost use Rattle.lanes.specs.Lanes.{Small, Filled, raised, Low};
-ghost use Rattle.filters.specs.Filters.{seconds};
-ghost use Rattle.filters.specs.Lifts.{Raised};
+ghost use Rattle.lanes.specs.inner.Lanes.{Small, Filled, raised, Low};
+ghost use Rattle.filters.specs.inner.Filters.{seconds};
+ghost use Rattle.filters.specs.inner.Lifts.{Raised};
 
 // A value lifted.
 fn lift(a: i64) -> u64

@@ -1,5 +1,5 @@
--- No order has a smaller greatest lateness than the simulation: the albums that go no later than album a are due no later, and in any order the
--- last of them finishes no earlier than a does in the simulation.
+-- No order has a smaller greatest lateness than the simulation: the albums that go no later than album a are due no
+-- later, and in any order the last of them finishes no earlier than a does in the simulation.
 use mathlib.Core.Path.{◌≡◌, refl}
 use mathlib.Core.List.{List, [], ◌∷◌}
 use mathlib.Core.Bool.{Bool, true, false, cond}
@@ -14,7 +14,7 @@ use Rattle.numbers.specs.Lists.{total}
 use Rattle.numbers.proofs.Integers.{pp, nn, add_parts, pp_neg, nn_neg}
 use Rattle.numbers.proofs.Lists.{below_or}
 use Rattle.boards.specs.Boards.{Board}
-use Rattle.finishes.specs.Turns.{after_turn, after, finish, finish_in, lateness_in, simulated, GivesTurns, greatest, greatest_lateness, DueFirstIsBest}
+use Rattle.finishes.specs.Turns.{after_turn, after_turns, finish, finish_in, lateness_in, simulated, GivesTurns, greatest, greatest_lateness, DueFirstIsBest}
 use Rattle.finishes.proofs.Counts.{turn_less, needed, none_needed, no_more, finish_done, finish_later}
 use Rattle.finishes.proofs.DueFirst.{rank, no_later, all_done, finishes}
 use Rattle.boards.proofs.Ranges.{Ranges, ranges}
@@ -23,9 +23,9 @@ use Rattle.boards.proofs.Ranges.{Ranges, ranges}
 
 -- where each album of a set finishes by turn N, their turns are N at most
 by_then : (t n : ℕ) (p : ℕ → Bool) → 0 < t → (order : List ℕ) (left : ℕ → ℕ) (N : ℕ)
-    → ((b : ℕ) → b < n → p b ≡ true → (after t order left b ≡ 0) × (finish t order left b ≤ N))
+    → ((b : ℕ) → b < n → p b ≡ true → (after_turns t order left b ≡ 0) × (finish t order left b ≤ N))
     → total (needed t p left) 0 n ≤ N
-unfolding after
+unfolding after_turns
 by_then t n p some [] left N h = omega (arith, none_needed t p left n (λ b l e. (h b l e).0))
 by_then t n p some (x ∷ order) left zero h = omega (
   arith,

@@ -1,4 +1,5 @@
--- The simulation: the next album is the one that it is to be, and an album finishes after the turns of all that go no later than it.
+-- The simulation: the next album is the one that it is to be, and an album finishes after the turns of all that go no
+-- later than it.
 use mathlib.Core.Path.{◌≡◌, refl, sym, ◌∙◌, ap}
 use mathlib.Core.List.{List, [], ◌∷◌}
 use mathlib.Core.Bool.{Bool, true, false, cond, ◌&&◌, ◌||◌}
@@ -12,7 +13,7 @@ use lib.Dec.{ltb, eqb, leb}
 use Rattle.numbers.specs.Lists.{total}
 use Rattle.numbers.proofs.Lists.{below_or}
 use Rattle.boards.specs.Boards.{Board}
-use Rattle.finishes.specs.Turns.{after_turn, after, finish, next, NextIsDueFirst, by_due}
+use Rattle.finishes.specs.Turns.{after_turn, after_turns, finish, next, NextIsDueFirst, by_due}
 use Rattle.boards.proofs.Ranges.{ranges}
 use Rattle.finishes.proofs.Counts.{moved, part_le, turn_same, turn_other, turn_less, turns, turns_of, needed, none_needed, one_needed, finish_done, finish_later}
 
@@ -90,8 +91,8 @@ next_is_due_first s e left a l u =
     let w = next_is s.due left s.albums r.few in
     record { album = (w a l u).0; unfinished = (w a l u).1; first = λ b m v. by_rank s.due (next s.due left s.albums) b s.albums (w b m v).2 (w b m v).0 m r.few }
 
-after_less : (t : ℕ) (order : List ℕ) (left : ℕ → ℕ) (a : ℕ) → after t order left a ≤ left a
-unfolding after
+after_less : (t : ℕ) (order : List ℕ) (left : ℕ → ℕ) (a : ℕ) → after_turns t order left a ≤ left a
+unfolding after_turns
 after_less t [] left a = omega arith
 after_less t (x ∷ order) left a = omega (arith, after_less t order (after_turn t x left) a, turn_less t x left a)
 
@@ -119,13 +120,13 @@ module _ (s : Board) (few : s.albums ≤ 8) (some : 0 < s.turn) where
         omega (arith, moved left (then left) (first left) n (λ b e. sym (turn_other s.turn (first left) left b e)) is.0, turn_same s.turn (first left) left, is.1)
 
   -- enough turns finish every album
-  pub all_done : (most : ℕ) (left : ℕ → ℕ) → total left 0 n ≤ most → (a : ℕ) → a < n → after s.turn (by_due s most left) left a ≡ 0
-  unfolding after
+  pub all_done : (most : ℕ) (left : ℕ → ℕ) → total left 0 n ≤ most → (a : ℕ) → a < n → after_turns s.turn (by_due s most left) left a ≡ 0
+  unfolding after_turns
   all_done zero left f a l = omega (arith, part_le left a n l, after_less s.turn (by_due s zero left) left a)
   all_done (suc most) left f a l = go (all_done most (then left)) (below_or 0 (left a))
     where
-      go : (total (then left) 0 n ≤ most → (b : ℕ) → b < n → after s.turn (by_due s most (then left)) (then left) b ≡ 0)
-          → (0 < left a) ⊎ (left a ≤ 0) → after s.turn (by_due s (suc most) left) left a ≡ 0
+      go : (total (then left) 0 n ≤ most → (b : ℕ) → b < n → after_turns s.turn (by_due s most (then left)) (then left) b ≡ 0)
+          → (0 < left a) ⊎ (left a ≤ 0) → after_turns s.turn (by_due s (suc most) left) left a ≡ 0
       go r (inl u) = rw (taken most left f a l u) (r (fewer most left f a l u) a l)
       go r (inr u) = omega (arith, after_less s.turn (by_due s (suc most) left) left a)
 

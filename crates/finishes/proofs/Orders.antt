@@ -7,15 +7,15 @@ use native.Mathlib.Nat.{suc-mul}
 use native.Mathlib.Omega.{arith}
 use lib.Dec.{eqb}
 use Rattle.boards.specs.Boards.{Board}
-use Rattle.finishes.specs.Turns.{after_turn, after, GivesTurns}
+use Rattle.finishes.specs.Turns.{after_turn, after_turns, GivesTurns}
 
 -- how often an order lists album a
 unfoldable pub times : ℕ → List ℕ → ℕ
 times a [] = 0
 times a (x ∷ order) = cond (eqb a x) (suc (times a order)) (times a order)
 
-pub after_times : (t : ℕ) (order : List ℕ) (left : ℕ → ℕ) (a : ℕ) → after t order left a ≡ left a - times a order * t
-unfolding after times after_turn
+pub after_times : (t : ℕ) (order : List ℕ) (left : ℕ → ℕ) (a : ℕ) → after_turns t order left a ≡ left a - times a order * t
+unfolding after_turns times after_turn
 after_times t [] left a = omega arith
 after_times t (x ∷ order) left a = after_times t order (after_turn t x left) a ∙ go (eqb a x)
   where

@@ -52,7 +52,8 @@ greatest_lateness s order = greatest (lateness_in s order) (s.albums - 1)
 
 -- ---- the turn is the right album's
 
--- what makes an album the next one: it is unfinished, and every other unfinished one is due later, or is due with it and has a higher number
+-- what makes an album the next one: it is unfinished, and every other unfinished one is due later, or is due with it
+-- and has a higher number
 pub record IsNext (s : Board) (left : ℕ → ℕ) (x : ℕ) : Type 0 where
   pub album : x < s.albums
   pub unfinished : 0 < left x
@@ -65,15 +66,16 @@ NextIsDueFirst = (s : Board) → in_range s ≡ true → (left : ℕ → ℕ) (a
 -- ---- no order is better
 
 -- what is left after the turns of an order
-unfoldable pub after : ℕ → List ℕ → (ℕ → ℕ) → ℕ → ℕ
-after turn [] left = left
-after turn (x ∷ order) left = after turn order (after_turn turn x left)
+unfoldable pub after_turns : ℕ → List ℕ → (ℕ → ℕ) → ℕ → ℕ
+after_turns turn [] left = left
+after_turns turn (x ∷ order) left = after_turns turn order (after_turn turn x left)
 
 -- an order that gives each album its turns: nothing is left of any. Turns may be wasted, on a finished album or on none
 pub record GivesTurns (s : Board) (order : List ℕ) : Type 0 where
-  pub done : (a : ℕ) → a < s.albums → after s.turn order s.frames a ≡ 0
+  pub done : (a : ℕ) → a < s.albums → after_turns s.turn order s.frames a ≡ 0
 
--- the simulation gives each album its turns, and every order that does has a greatest lateness at least as great; proved in proofs/Best
+-- the simulation gives each album its turns, and every order that does has a greatest lateness at least as great;
+-- proved in proofs/Best
 abbrev pub DueFirstIsBest : Type 0
 DueFirstIsBest =
     (s : Board) → in_range s ≡ true

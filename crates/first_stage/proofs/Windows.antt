@@ -9,7 +9,7 @@ use lib.ListN.{length, get_or, take, drop, length-drop}
 use lib.Seq.{length-take-le, get_or-take, get_or-drop}
 use Rattle.numbers.specs.Sums.{sum_to, at0}
 use Rattle.numbers.proofs.Sums.{sum_same}
-use Rattle.first_stage.specs.Windows.{window_sum}
+use Rattle.first_stage.specs.inner.Windows.{window_sum}
 
 -- of a part of the bytes
 pub window_is : (tables : List ℤ) (half : ℕ) (bytes : List ℕ) (at : ℕ) (part : List ℕ) → part ≡ take (2 * half) (drop at bytes) → at + 2 * half ≤ length bytes

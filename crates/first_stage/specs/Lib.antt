@@ -1,1 +1,1 @@
-pub mod Windows
+pub mod inner

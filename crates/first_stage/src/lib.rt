@@ -4,8 +4,8 @@
 
 ghost use Rattle.std.specs.Prelude.{◌≡◌, ◌+◌, ◌*◌, ◌≤◌, pos, length, get_or};
 ghost use Rattle.numbers.specs.Sums.{sum_to, at0};
-ghost use Rattle.numbers.specs.Lists.{Held};
-ghost use Rattle.first_stage.specs.Windows.{window_sum};
+ghost use Rattle.numbers.specs.inner.Lists.{Held};
+ghost use Rattle.first_stage.specs.inner.Windows.{window_sum};
 
 // One table for each byte of the window.
 fn table_sum(tables: &[i32], window: &[u8]) -> i64

@@ -1,4 +1,5 @@
--- The nearest whole number to M + a / d and to M - a / d, for an even M: M plus or minus that of a / d. Nothing here is about floats.
+-- The nearest whole number to M + a / d and to M - a / d, for an even M: M plus or minus that of a / d. Nothing here is
+-- about floats.
 use mathlib.Core.Path.{◌≡◌, refl, sym, ap, ◌∙◌, subst}
 use mathlib.Core.Logic.{◌⊎◌, inl, inr}
 use Prim.Native.Nat.{ℕ, suc, ◌+◌, ◌-◌, ◌*◌, ◌/◌, ◌%◌, ◌≤◌, ◌<◌, compare, Ordering}

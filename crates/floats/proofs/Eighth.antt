@@ -1,4 +1,5 @@
--- An eighth of a float is exact, or the float is so small that it and its eighth are both nearest to 0. An eighth of a float up to 2^36 is below 2^51.
+-- An eighth of a float is exact, or the float is so small that it and its eighth are both nearest to 0. An eighth of a
+-- float up to 2^36 is below 2^51.
 use mathlib.Core.Path.{◌≡◌, refl, sym, ap, ◌∙◌, subst}
 use Prim.Native.Nat.{ℕ, zero, suc, ◌+◌, ◌-◌, ◌*◌, ◌%◌, ◌^◌, ◌≤◌, ◌<◌, compare, Ordering}
 use native.Mathlib.Nat.{le_trans, le_of_eq, lt_of_lt_of_le, lt_of_le_of_lt, mul-one, zero-mul, zero-add, mul_comm, mul_assoc, mul-le-mul_left, mul-lt-mul_of_pos_right, mul-pos}
@@ -12,7 +13,7 @@ use lib.Ieee.Fits.{and_l, and_r, down_pos}
 use lib.Ieee.Exact.{HasValue, round_exact}
 use lib.Ieee.Nearest.{closest, closest_same}
 use lib.Ieee.Back.{round_whole}
-use Rattle.floats.specs.Whole.{signed, whole_of, whole_over, below_51}
+use Rattle.floats.specs.inner.Whole.{signed, whole_of, whole_over, below_51}
 use Rattle.floats.proofs.Closest.{Cmp, cmp, closest_digits}
 use Rattle.floats.proofs.Bound.{AtMost, round_at_most}
 
@@ -50,7 +51,8 @@ reach : (l a : ℕ) → a + 3 ≤ l → l ≡ (l - (a + 3)) + (a + 3)
 reach l a h = omega arith
 
 -- m * 2 ^ b / 2 ^ a, of a format whose least value is 2 ^ -l
-exact_eighth : (f : Format) (s : Bool) (m b a : ℕ) → m < 2 ^ prec f → m * 2 ^ b < 2 ^ suc (emax f) * 2 ^ a → a + 3 ≤ low f → HasValue (round f s (m * 2 ^ b * 1) (2 ^ a * 8)) s (m * 2 ^ b * 1) (2 ^ a * 8)
+exact_eighth : (f : Format) (s : Bool) (m b a : ℕ) → m < 2 ^ prec f → m * 2 ^ b < 2 ^ suc (emax f) * 2 ^ a
+    → a + 3 ≤ low f → HasValue (round f s (m * 2 ^ b * 1) (2 ^ a * 8)) s (m * 2 ^ b * 1) (2 ^ a * 8)
 exact_eighth f s m b a small top h =
     let l = low f in
     let j = l - (a + 3) in
@@ -78,7 +80,8 @@ transfer nan s n d D v = absurd v
 transfer (inf t) s n d D v = absurd v
 transfer (fin t m e) s n d D v =
     ap (λ (z : Bool). signed z (closest (m * up e) (down e * 1))) v.0
-    ∙ ap (signed s) (closest_same (m * up e) (down e * 1) n (d * 8) (mul-pos (down_pos e) (lit< tt)) (mul-pos D (lit< tt)) (v.1 ∙ ap (λ (z : ℕ). z * down e) (mul-one n) ∙ ap (λ (z : ℕ). n * z) (sym (mul-one (down e)))))
+    ∙ ap (signed s) (closest_same (m * up e) (down e * 1) n (d * 8) (mul-pos (down_pos e) (lit< tt))
+    (mul-pos D (lit< tt)) (v.1 ∙ ap (λ (z : ℕ). z * down e) (mul-one n) ∙ ap (λ (z : ℕ). n * z) (sym (mul-one (down e)))))
 
 no_sign : (s : Bool) → signed s 0 ≡ pos 0
 no_sign true = refl

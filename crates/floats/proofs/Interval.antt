@@ -1,4 +1,5 @@
--- Sums, products and quotients of floats that are finite and not negative grow with their operands. So what is computed from an x between 0 and X lies between what is computed from 0 and from X.
+-- Sums, products and quotients of floats that are finite and not negative grow with their operands. So what is computed
+-- from an x between 0 and X lies between what is computed from 0 and from X.
 use mathlib.Core.Path.{◌≡◌, refl, sym, subst}
 use Prim.Native.Nat.{ℕ, zero, suc, ◌+◌, ◌*◌, ◌≤◌, ◌<◌}
 use native.Mathlib.Nat.{le_refl, le_trans, le_of_eq, mul_comm, mul_assoc, mul_left_comm, mul-le-mul, mul-le-mul_right, mul-pos, mul-mul-mul_comm}

@@ -1,8 +1,10 @@
--- Where `round`'s unit is 1: a fraction from 2 ^ (prec - 1) up to 2 ^ prec rounds to the nearest whole number. So x + M, for M = 3 * 2 ^ 51 and an x below 2 ^ 51 in size, is M + x to the nearest whole number,
--- and taking M away again, which is exact, leaves the whole number nearest to x, never -0.
+-- Where `round`'s unit is 1: a fraction from 2 ^ (prec - 1) up to 2 ^ prec rounds to the nearest whole number. So x +
+-- M, for M = 3 * 2 ^ 51 and an x below 2 ^ 51 in size, is M + x to the nearest whole number, and taking M away again,
+-- which is exact, leaves the whole number nearest to x, never -0.
 use mathlib.Core.Path.{◌≡◌, refl, sym, ap, ◌∙◌, subst}
 use Prim.Native.Nat.{ℕ, zero, suc, ◌+◌, ◌-◌, ◌*◌, ◌/◌, ◌%◌, ◌^◌, ◌≤◌, ◌<◌, compare}
-use native.Mathlib.Nat.{le_trans, le_of_eq, lt_of_lt_of_le, lt_of_le_of_lt, lt_of_not-le, not-le_of_lt, mul-one, mul_assoc, mul_right_comm, add-mul, mul-le-mul_right, mul-lt-mul_of_pos_right, mul-pos, le-div_iff_mul-le, div-lt_iff_lt-mul, eq_of_mul-eq-mul_right}
+use native.Mathlib.Nat.{le_trans, le_of_eq, lt_of_lt_of_le, lt_of_le_of_lt, lt_of_not-le, not-le_of_lt, mul-one, mul_assoc, mul_right_comm, add-mul}
+use native.Mathlib.Nat.{mul-le-mul_right, mul-lt-mul_of_pos_right, mul-pos, le-div_iff_mul-le, div-lt_iff_lt-mul, eq_of_mul-eq-mul_right}
 use native.Mathlib.Omega.{arith}
 use mathlib.Core.Bool.{Bool, true, false, cond, ◌&&◌, true≢false}
 use lib.IntN.{ℤ, pos}
@@ -17,7 +19,7 @@ use lib.Ieee.Nearest.{closest, closest_same}
 use lib.Ieee.Back.{positive_back, negative_back}
 use lib.Ieee.Scale.{round_same}
 use lib.Ieee.Bits.{is_true, is_false}
-use Rattle.floats.specs.Whole.{signed, whole_of, whole_over, below_51}
+use Rattle.floats.specs.inner.Whole.{signed, whole_of, whole_over, below_51}
 use Rattle.floats.proofs.Closest.{closest_above, closest_below}
 
 -- ---- a number's digits
@@ -104,11 +106,19 @@ bounds_less a d h = omega arith
 
 rounded : (s : Bool) (a d : ℕ) → 0 < d → a < 2 ^ 51 * d → (w : ℕ) × HasValue (sum binary64 s a false (half * 2 * d) d) false w 1 × Beside s (closest a d) w
 rounded false a d D h =
-    let b = bounds_more a d h in
-    (closest (a + half * 2 * d) d, subst (λ (x : Float). HasValue x false (closest (a + half * 2 * d) d) 1) (sym (sum_more binary64 a (half * 2 * d) d)) (round_unit binary64 (a + half * 2 * d) d D b.0 b.1), closest_above half a d D)
+    let b = bounds_more a d h in (
+      closest (a + half * 2 * d) d,
+      subst (λ (x : Float). HasValue x false (closest (a + half * 2 * d) d) 1)
+          (sym (sum_more binary64 a (half * 2 * d) d)) (round_unit binary64 (a + half * 2 * d) d D b.0 b.1),
+      closest_above half a d D,
+    )
 rounded true a d D h =
-    let b = bounds_less a d h in
-    (closest (half * 2 * d - a) d, subst (λ (x : Float). HasValue x false (closest (half * 2 * d - a) d) 1) (sym (sum_less binary64 a (half * 2 * d) d b.2)) (round_unit binary64 (half * 2 * d - a) d D b.0 b.1), closest_below half a d D b.2)
+    let b = bounds_less a d h in (
+      closest (half * 2 * d - a) d,
+      subst (λ (x : Float). HasValue x false (closest (half * 2 * d - a) d) 1)
+          (sym (sum_less binary64 a (half * 2 * d) d b.2)) (round_unit binary64 (half * 2 * d - a) d D b.0 b.1),
+      closest_below half a d D b.2,
+    )
 
 -- ---- M taken away
 sub_is : (m : ℕ) (e : ℤ) → sub binary64 (fin false m e) magic ≡ sum binary64 false (m * up e * 1) true (6755399441055744 * down e) (down e * 1)
@@ -152,7 +162,8 @@ nearest_is (fin s m e) h =
     let a = m * up e in
     let d = down e in
     let k = rounded s a d (down_pos e) (ltb→lt a (2 ^ 51 * d) h) in
-    ap (λ (x : Float). sub binary64 x magic) (add_is s m e ∙ ap (λ (x : ℕ). sum binary64 s x false (half * 2 * d) (d * 1)) (mul-one a) ∙ ap (λ (x : ℕ). sum binary64 s a false (half * 2 * d) x) (mul-one d))
+    ap (λ (x : Float). sub binary64 x magic) (add_is s m e ∙ ap (λ (x : ℕ). sum binary64 s x false (half * 2 * d) (d * 1)) (mul-one a)
+    ∙ ap (λ (x : ℕ). sum binary64 s a false (half * 2 * d) x) (mul-one d))
     ∙ away (sum binary64 s a false (half * 2 * d) d) s k.0 (closest a d) k.1 k.2
     ∙ ap (λ (x : ℕ). of_int binary64 (signed s (closest a x))) (sym (mul-one d))
 
@@ -173,5 +184,6 @@ cast_is (inf s) h = absurd h
 cast_is (fin s m e) h =
     let c = closest (m * up e) (down e * 1) in
     let le : c ≤ 2 ^ 53 =
-    le_trans (closest_le (m * up e) (down e * 1) (2 ^ 51) (mul-pos (down_pos e) (lit< tt)) (subst (λ (d : ℕ). m * up e < 2 ^ 51 * d) (sym (mul-one (down e))) (ltb→lt (m * up e) (2 ^ 51 * down e) h))) (lit≤ tt) in
+    le_trans (closest_le (m * up e) (down e * 1) (2 ^ 51) (mul-pos (down_pos e) (lit< tt))
+    (subst (λ (d : ℕ). m * up e < 2 ^ 51 * d) (sym (mul-one (down e))) (ltb→lt (m * up e) (2 ^ 51 * down e) h))) (lit≤ tt) in
     subst (λ (z : Float). T (in_signed binary64 63 z) × (to_signed 63 z ≡ signed s c)) (sym (nearest_is (fin s m e) h)) (comes_back s c le)

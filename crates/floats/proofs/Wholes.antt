@@ -1,4 +1,5 @@
--- Whole numbers as floats, where the format has every whole number: they stand in the numbers' order, differ where the numbers do, and each comes back as an integer wide enough.
+-- Whole numbers as floats, where the format has every whole number: they stand in the numbers' order, differ where the
+-- numbers do, and each comes back as an integer wide enough.
 use mathlib.Core.Path.{◌≡◌, refl, sym, ap, ◌∙◌}
 use Prim.Native.Nat.{ℕ, zero, suc, ◌+◌, ◌*◌, ◌^◌, ◌≤◌, ◌<◌}
 use native.Mathlib.Nat.{add_comm, mul-one, zero-mul, add-mul, mul_assoc, mul_comm, mul-pos, mul-le-mul_right, mul-lt-mul_of_pos_right}
@@ -35,7 +36,8 @@ by_values (fin u m e) nan s t a b p q = absurd q
 by_values (fin u m e) (inf v) s t a b p q = absurd q
 by_values (fin u m e) (fin v n d) s t a b p q =
     let l : m * up e * down d ≡ a * (down e * down d) = ap (λ (x : ℕ). x * down d) (sym (mul-one (m * up e)) ∙ p.1) ∙ mul_assoc a (down e) (down d) in
-    let r : n * up d * down e ≡ b * (down e * down d) = ap (λ (x : ℕ). x * down e) (sym (mul-one (n * up d)) ∙ q.1) ∙ mul_assoc b (down d) (down e) ∙ ap (λ (x : ℕ). b * x) (mul_comm (down d) (down e)) in
+    let r : n * up d * down e ≡ b * (down e * down d) = ap (λ (x : ℕ). x * down e) (sym (mul-one (n * up d)) ∙ q.1)
+    ∙ mul_assoc b (down d) (down e) ∙ ap (λ (x : ℕ). b * x) (mul_comm (down d) (down e)) in
     rw (p.0, q.0, l, r) (below_times s t a b (down e * down d) (mul-pos (down_pos e) (down_pos d)))
 
 abbrev minus : ℤ → Bool

@@ -4,4 +4,3 @@ pub mod Records
 pub mod Tallies
 pub mod Scaling
 pub mod Order
-pub mod Clip

@@ -107,7 +107,8 @@ power_in x X p f =
     let f2 = and_r (nonneg R) (F && Q) f1 in
     let P = constants.1 in
     let m : Leq (mul binary64 x step) M = mul_leq x X step step p (leq_refl step constants.0) (and_l (nonneg M) (nonneg R && (F && Q)) f) in
-    let r : Leq (div binary64 (mul binary64 x step) (whole 32)) R = div_leq (mul binary64 x step) M (whole 32) (whole 32) m (leq_refl (whole 32) (positive_nonneg (whole 32) P)) P P (and_l (nonneg R) (F && Q) f1) in
+    let r : Leq (div binary64 (mul binary64 x step) (whole 32)) R =
+    div_leq (mul binary64 x step) M (whole 32) (whole 32) m (leq_refl (whole 32) (positive_nonneg (whole 32) P)) P P (and_l (nonneg R) (F && Q) f1) in
     let s = series_in 25 1 (div binary64 (mul binary64 x step) (whole 32)) R (whole 1) (whole 1) (whole 1) (whole 1) r one_self one_self one_self (and_l F Q f2) in
     squared_in 5 (series (div binary64 (mul binary64 x step) (whole 32)) 25 1 (whole 1) (whole 1)) S s.0 s.1 (and_r F Q f2)
 
@@ -177,7 +178,8 @@ down_bounded x p =
     subst (λ (z : Float). Leq (div binary64 (whole 1) e) z) one_inverse
     (div_leq (whole 1) (whole 1) e (whole 1) one_self k.0 constants.2 P (subst (λ (z : Float). T (nonneg z)) (sym one_inverse) one_self.left)) in
     let l : Leq (div binary64 (whole 1) (power bottom)) (div binary64 (whole 1) e) = div_leq (whole 1) (whole 1) (power bottom) e one_self k.1 P bottom_positive.0 u.left in
-    bounded_of (div binary64 (whole 1) e) (positive_above (div binary64 (whole 1) (power bottom)) (div binary64 (whole 1) e) bottom_positive.1 l) (leq_trans (div binary64 (whole 1) e) (whole 1) sixteen u one_sixteen)
+    bounded_of (div binary64 (whole 1) e) (positive_above (div binary64 (whole 1) (power bottom)) (div binary64 (whole 1) e) bottom_positive.1 l)
+    (leq_trans (div binary64 (whole 1) e) (whole 1) sixteen u one_sixteen)
 
 -- ---- by the sign of db
 whole_0 : whole 0 ≡ nought

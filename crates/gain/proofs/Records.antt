@@ -49,7 +49,8 @@ no_number g h = go (allowed g.db) refl
 
     go : (b : Bool) → allowed g.db ≡ b → b && eqb (to_bits binary64 g.linear) (to_bits binary64 (db_to_linear g.db)) ≡ false
     go false a = refl
-    go true a = rw (is g.linear h) (ne_eqb _ _ (λ e. subst (λ (y : Float). T (bounded y)) (sym (same_bits nan (db_to_linear g.db) (nan-fits binary64) (factor_fits g.db) e)) (factor_bounded g.db (subst T (sym a) tt))))
+    go true a = rw (is g.linear h)
+        (ne_eqb _ _ (λ e. subst (λ (y : Float). T (bounded y)) (sym (same_bits nan (db_to_linear g.db) (nan-fits binary64) (factor_fits g.db) e)) (factor_bounded g.db (subst T (sym a) tt))))
 
 module _ (g : Gain) (held : T (fits binary64 g.linear)) (right : right_gain g ≡ true) where
   pub right_factor : g.linear ≡ db_to_linear g.db

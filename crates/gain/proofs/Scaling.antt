@@ -1,28 +1,28 @@
--- The scaling of a y below 2^32 in size by a bounded factor, and the clamp of the float that holds the result.
+-- The scaling of a y below 2^32 in size by a bounded factor, and the clamp of the result.
 use mathlib.Core.Path.{◌≡◌, refl, sym, ◌∙◌}
 use Prim.Native.Nat.{ℕ, zero, suc, ◌*◌, ◌^◌, ◌≤◌, ◌<◌}
-use native.Mathlib.Nat.{le_trans, le_of_eq, le_of_lt, lt_of_lt_of_le, mul-one, mul-le-mul_right, mul-le-mul, mul-mul-mul_comm, mul-pos}
+use native.Mathlib.Nat.{le_trans, le_of_eq, le_of_lt, mul-one, mul-le-mul_right, mul-le-mul, mul-mul-mul_comm, mul-pos}
 use native.Mathlib.Omega.{arith}
 use mathlib.Core.Bool.{Bool, true, false, cond}
 use borrow.Author.Tests.{ltb-false}
 use lib.IntN.{ℤ, pos, negsuc, neg_ℤ, nat_abs}
-use lib.Signed.{lt_z, nat_abs-le}
+use lib.Signed.{lt_z}
 use lib.Dec.{T, ltb, leb, leb→le, lit≤, lit<}
-use lib.Ieee.{Float, nan, inf, fin, binary64, up, down, mul, ne, of_int, of_bits, to_signed, in_signed, in_float, round, unlike}
-use lib.Ieee.Fits.{and_r, down_pos, mul-fits, of_int-fits}
+use lib.Ieee.{Float, nan, inf, fin, binary64, up, down, mul, of_int, of_bits, to_signed, in_signed, round, unlike}
+use lib.Ieee.Fits.{and_r, down_pos, mul-fits}
 use lib.Ieee.Exact.{HasValue}
 use lib.Ieee.Nearest.{closest, closest_mono}
-use lib.Ieee.Back.{round_whole, Float-back_signed}
+use lib.Ieee.Back.{round_whole}
 use mir.Syntax.{w32, w64}
 use mir.Val.{SFits}
 use Rattle.numbers.proofs.Integers.{sfits_abs}
-use Rattle.reference.specs.Scaling.{eighth, scaled, clamp, clips}
-use Rattle.floats.specs.Whole.{whole_over, whole_of, below_51}
+use Rattle.reference.specs.Scaling.{eighth, scaled, clamp}
+use Rattle.floats.specs.inner.Whole.{whole_over, whole_of, below_51}
 use Rattle.floats.proofs.Bound.{AtMost, round_at_most}
 use Rattle.floats.proofs.Eighth.{an_eighth, eighth_is, eighth_below}
 use Rattle.floats.proofs.Middle.{cast_is, nearest_is}
-use Rattle.floats.proofs.Wholes.{ne_whole, float_holds, whole_back}
-use Rattle.gain.specs.Scale.{bounded, unrounded}
+use Rattle.gain.specs.Scale.{bounded}
+use Rattle.gain.specs.inner.Scale.{unrounded}
 
 -- ---- the product
 
@@ -96,10 +96,7 @@ module _ (y : ℤ) (factor : Float) (small : nat_abs y < 2 ^ 32) (held : T (boun
   pub scaled_fits : SFits w64 (scaled factor y)
   scaled_fits = sfits_abs (omega (arith, scaled_small))
 
-  pub scaled_exact : T (in_float binary64 (scaled factor y))
-  scaled_exact = rw scaled_back.1 at (Float-back_signed binary64 63 (of_int binary64 (scaled factor y)) (of_int-fits binary64 (scaled factor y)) scaled_back.0).0
-
--- ---- the clamp, of a float that holds the number
+-- ---- the clamp
 small_fits : (z : ℤ) → lt_z (pos 8388607) z ≡ false → lt_z z (negsuc 8388607) ≡ false → SFits w32 z
 small_fits (pos n) h k = record { sfits = omega (arith, ltb-false 8388607 n h) }
 small_fits (negsuc n) h k = record { sfits = omega (arith, ltb-false 8388607 n k) }
@@ -112,15 +109,3 @@ clamp_fits z = go (lt_z (pos 8388607) z) (lt_z z (negsuc 8388607)) refl refl
     go true b h k = record { sfits = lit< tt }
     go false true h k = record { sfits = lit< tt }
     go false false h k = small_fits z h k
-
-clamp_exact : (z : ℤ) → T (in_float binary64 (clamp z))
-clamp_exact z = float_holds binary64 (clamp z) (nat_abs-le (clamp z) (lt_of_lt_of_le (clamp_fits z).sfits (lit≤ tt)))
-
--- as an i32
-pub clamp_back : (z : ℤ) → T (in_signed binary64 31 (of_int binary64 (clamp z))) × (to_signed 31 (of_int binary64 (clamp z)) ≡ clamp z)
-clamp_back z = whole_back binary64 31 (clamp z) (clamp_exact z) (clamp_fits z).sfits
-
--- whether it changed
-pub clamp_told : (z : ℤ) → T (in_float binary64 z) → ne (of_int binary64 (clamp z)) (of_int binary64 z) ≡ clips z
-unfolding clips
-clamp_told z h = ne_whole binary64 (clamp z) z (clamp_exact z) h

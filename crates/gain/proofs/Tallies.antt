@@ -28,7 +28,8 @@ pub tally_fits : (f g : ℕ → ℤ) (a b m n : ℕ) → m + n < 2 ^ 64 → (tal
 tally_fits f g a b m n h = omega (arith, tally_few f a m, tally_few g b n)
 
 -- of two stretches that meet, of any length: the clips add up, and the extremes join
-pub tally_parts : (f : ℕ → ℤ) (a m n : ℕ) → ((tally f a m).clipped + (tally f (a + m) n).clipped ≡ (tally f a (m + n)).clipped) × (joined_extremes (tally f a m).extremes (tally f (a + m) n).extremes ≡ (tally f a (m + n)).extremes)
+pub tally_parts : (f : ℕ → ℤ) (a m n : ℕ) → ((tally f a m).clipped + (tally f (a + m) n).clipped ≡ (tally f a (m + n)).clipped)
+    × (joined_extremes (tally f a m).extremes (tally f (a + m) n).extremes ≡ (tally f a (m + n)).extremes)
 unfolding tally
 tally_parts f a m n = (sym (total_join (λ k. cond (clips (f k)) 1 0) a m n), extremes_join f a m n)
 

@@ -1,2 +1,3 @@
 pub mod Tallies
 pub mod Scale
+pub mod inner

@@ -1,9 +1,9 @@
 -- What the scaling asks and gives.
 use Rattle.std.specs.Prelude.{◌≡◌, List, Bool, true, false, ◌&&◌, ℕ, ◌*◌, ◌<◌, ltb, leb, ℤ, length, Float}
-use Rattle.std.specs.Float.{nan, inf, fin, binary64}
-use Rattle.std.specs.Float.Ieee.{up, down, mul, of_int, of_bits}
+use Rattle.std.specs.Float.{nan, inf, fin}
+use Rattle.std.specs.Float.Ieee.{up, down}
 use Rattle.numbers.specs.Sums.{at0}
-use Rattle.reference.specs.Scaling.{scaled, clamp, clips}
+use Rattle.reference.specs.Scaling.{scaled, clamp}
 use Rattle.reference.specs.declared.ChannelStats.{ChannelStats}
 use Rattle.gain.specs.Tallies.{tally}
 
@@ -13,15 +13,6 @@ bounded nan = false
 bounded (inf s) = false
 bounded (fin true m e) = false
 bounded (fin false m e) = ltb 0 m && leb (m * up e) (16 * down e)
-
--- y times the factor, and an eighth of that: each product rounded once
-unfoldable pub unrounded : Float → ℤ → Float
-unrounded factor y = mul binary64 (mul binary64 (of_int binary64 y) factor) (of_bits binary64 0x3fc0_0000_0000_0000)
-
--- the sample of a number z before the clamp, and whether it is clipped
-pub record Clamped (z sample : ℤ) (clipped : Bool) : Type 0 where
-  pub is_sample : sample ≡ clamp z
-  pub is_clipped : clipped ≡ clips z
 
 -- ys scaled into `out`, which holds out' then
 pub record ScaledBlock (factor : Float) (ys out out' : List ℤ) (told : ChannelStats) : Type 0 where

@@ -1,11 +1,12 @@
 // Module 6, scaling.
 ghost use Rattle.std.specs.Prelude.{◌≡◌, ℕ, ◌^◌, ◌<◌, T, nat_abs, length};
 ghost use Rattle.std.specs.Float.{binary64};
-ghost use Rattle.std.specs.Float.Ieee.{of_int, to_signed, in_signed};
+ghost use Rattle.std.specs.Float.Ieee.{of_int};
 ghost use Rattle.numbers.specs.Sums.{at0};
 ghost use Rattle.reference.specs.Scaling.{scaled, clamp};
-ghost use Rattle.floats.specs.Whole.{whole_of, below_51};
-ghost use Rattle.gain.specs.Scale.{bounded, unrounded, Clamped, ScaledBlock};
+ghost use Rattle.floats.specs.inner.Whole.{whole_of, below_51};
+ghost use Rattle.gain.specs.Scale.{bounded, ScaledBlock};
+ghost use Rattle.gain.specs.inner.Scale.{unrounded, Clamped};
 
 use reference::{ChannelStats, Extremes};
 
@@ -17,10 +18,10 @@ struct Scaled {
 
 const MAGIC: f64 = 6755399441055744.0;
 
-// A sample's range, as floats.
-const LOWEST: f64 = -8388608.0;
+// A sample's range.
+const LOWEST: i64 = -8388608;
 
-const HIGHEST: f64 = 8388607.0;
+const HIGHEST: i64 = 8388607;
 
 // The whole number nearest x, ties to even, for x below 2^51 in size: no bit below 1 is left beside MAGIC, 3 × 2^51.
 fn nearest_even(x: f64) -> f64
@@ -30,14 +31,18 @@ fn nearest_even(x: f64) -> f64
     (x + MAGIC) - MAGIC
 }
 
-// z, a whole number, brought into a sample's range. The second test is of the first one's answer: so each is one
-// instruction.
-fn clip(z: f64) -> f64
-    requires { T (in_signed binary64 63 z) }
-    ensures { result ≡ of_int binary64 (clamp (to_signed 63 z)) }
+// z brought into a sample's range. As whole numbers: no float is compared, which takes several instructions each.
+#[tactic(auto, unfolding(reference::specs::Scaling::clamp))]
+fn clip(z: i64) -> i64
+    ensures { result ≡ clamp z }
 {
-    let capped = if z > HIGHEST { HIGHEST } else { z };
-    if capped < LOWEST { LOWEST } else { capped }
+    if z > HIGHEST {
+        HIGHEST
+    } else if z < LOWEST {
+        LOWEST
+    } else {
+        z
+    }
 }
 
 // What y becomes before it is rounded to a whole number.
@@ -46,21 +51,6 @@ fn product(y: i64, factor: f64) -> f64
     ensures { result ≡ unrounded factor y }
 {
     (y as f64) * factor * 0.125
-}
-
-// y as a sample. The clamp comes before the cast, and nothing branches: so the machine scales several at once.
-fn scale(y: i64, factor: f64) -> Scaled
-    requires y_bound { nat_abs y < 2 ^ 32 }
-    requires t { T (bounded factor) }
-    ensures { Clamped (scaled factor y) result.sample result.clipped }
-{
-    let x = product(y, factor);
-    let z = nearest_even(x);
-    let s = clip(z);
-    Scaled {
-        sample: s as i32,
-        clipped: s != z,
-    }
 }
 
 // The number that y becomes, before the clamp.
@@ -73,8 +63,21 @@ fn before_clamp(y: i32, factor: f64) -> i64
     z as i64
 }
 
+// y as a sample.
+fn scale(y: i32, factor: f64) -> Scaled
+    requires { T (bounded factor) }
+    ensures { Clamped (scaled factor y) result.sample result.clipped }
+{
+    let z = before_clamp(y, factor);
+    let s = clip(z);
+    Scaled {
+        sample: s as i32,
+        clipped: (s < z) | (z < s),
+    }
+}
+
 // The numbers of a block as samples. Scaling keeps their order, so that for the lowest and the highest no other y is
-// scaled again. Each y is taken as an i32, of which the machine makes several floats at once.
+// scaled again. Each y fits an i32.
 pub fn scale_block(ys: &[i64], factor: f64, out: &mut [i32]) -> ChannelStats
     requires ys_nonzero { (0 < length ys.now) × (length out.old ≡ length ys.now) }
     requires t { T (bounded factor) }
@@ -86,7 +89,7 @@ pub fn scale_block(ys: &[i64], factor: f64, out: &mut [i32]) -> ChannelStats
     let mut greatest = i32::MIN;
     for (i, place) in out.iter_mut().enumerate() {
         let y = ys[i] as i32;
-        let scaled = scale(y as i64, factor);
+        let scaled = scale(y, factor);
         *place = scaled.sample;
         clipped += u64::from(scaled.clipped);
         least = least.min(y);

@@ -1,5 +1,6 @@
--- What is asked of a list of calls can be met: for every accepted converter and any two frames, a `convert` of the first with the second as
--- its neighbour, a refused call, and a `convert_run` of the second with the first as its neighbour join to the run of both.
+-- What is asked of a list of calls can be met: for every accepted converter and any two frames, a `convert` of the
+-- first with the second as its neighbour, a refused call, and a `convert_run` of the second with the first as its
+-- neighbour join to the run of both.
 use mathlib.Core.Path.{◌≡◌, ap, sym, ◌∙◌}
 use mathlib.Core.List.{List, [], ◌∷◌, ◌++◌, flat_map, append_assoc, append-nil}
 use mathlib.Core.Bool.{true, false, not}
@@ -20,7 +21,9 @@ use Rattle.reference.specs.Scaling.{LN_10, magnitude, exponent, series, squared,
 use Rattle.reference.specs.Settings.{built_in, filter_of, converter_of, true_numbers}
 use Rattle.reference.specs.Figures.{mono}
 use Rattle.reference.specs.Output.{samples_per_frame, channel_samples, all_samples, samples, stats, s24le}
-use Rattle.reference.specs.Refusals.{rack, number, accepted, refused, Place, decide, is_accepted, unsupported, filter_places, opening_places, held_places, input_places, run_length, one_long, if_present, lent_length, byte_lengths, run_lengths, convert_places, convert_run_places}
+use Rattle.reference.specs.Refusals.{rack, number, accepted, refused, Place, decide, is_accepted, unsupported, filter_places}
+use Rattle.reference.specs.Refusals.{opening_places, held_places, input_places, run_length, one_long, if_present}
+use Rattle.reference.specs.Refusals.{lent_length, byte_lengths, run_lengths, convert_places, convert_run_places}
 use Rattle.reference.specs.Promises.{stats_told, if_lent}
 use Rattle.reference.specs.declared.Converter.{Converter}
 use Rattle.std.specs.Prelude.{Ok, Err}
@@ -222,7 +225,8 @@ module _ (conv : Converter) (opens : decide (held_places conv) ≡ accepted) (so
 -- ---- and there is such a converter: Standard 88,200, mono, 0 dB; with a frame of zeros and a frame of ones
 
 pub mono_opens : decide (held_places mono) ≡ accepted
-unfolding decide held_places opening_places filter_of mono converter_of true_numbers samples_per_frame reach taps_of built_in F40 unsupported right_gain allowed db_to_linear exponent magnitude series squared LN_10 of_int of_bits to_bits mul div add lt le
+unfolding decide held_places opening_places filter_of mono converter_of true_numbers samples_per_frame reach taps_of built_in
+    F40 unsupported right_gain allowed db_to_linear exponent magnitude series squared LN_10 of_int of_bits to_bits mul div add lt le
 mono_opens = decide_skip (filter_places built_in) _ built_in_passes
 
 pub some_mono : 0 < mono.channels
@@ -233,5 +237,6 @@ pub byte_frame : (b : ℕ) → length (replicate 4704 b) ≡ frame_length mono.c
 unfolding mono converter_of
 byte_frame b = length-replicate 4704 b
 
-pub cut_exists : JoinTo (both mono mono_opens some_mono (replicate 4704 0x00) (replicate 4704 0xff) (byte_frame 0x00) (byte_frame 0xff)) (calls mono mono_opens some_mono (replicate 4704 0x00) (replicate 4704 0xff) (byte_frame 0x00) (byte_frame 0xff))
+pub cut_exists : JoinTo (both mono mono_opens some_mono (replicate 4704 0x00) (replicate 4704 0xff) (byte_frame 0x00) (byte_frame 0xff))
+    (calls mono mono_opens some_mono (replicate 4704 0x00) (replicate 4704 0xff) (byte_frame 0x00) (byte_frame 0xff))
 cut_exists = joined mono mono_opens some_mono (replicate 4704 0x00) (replicate 4704 0xff) (byte_frame 0x00) (byte_frame 0xff)

@@ -21,7 +21,9 @@ use Rattle.reference.specs.declared.Limit.{Limit}
 use Rattle.reference.proofs.Refusals.{decide_first, decide_skip, some_channel, whole_frames, few_frames, one_before}
 use Rattle.reference.proofs.Frames.{frame_samples}
 use Rattle.reference.proofs.Promises.{accepted_is, exit_accepted, exit_refused}
-use Rattle.joins.specs.Joins.{read_s24le, Call, convert, convert_run, ConvertCall, ConvertRunCall, run_of, answer_of, samples_of, clips_of, lends, counts_of, lengths, right_lengths, is_answered_accepted, Unchanged, keep, pieces, AllAgree, Decided, add_up, accepted_calls, CutRunsJoin}
+use Rattle.joins.specs.Joins.{read_s24le, Call, convert, convert_run, ConvertCall, ConvertRunCall, run_of, answer_of}
+use Rattle.joins.specs.Joins.{samples_of, clips_of, lends, counts_of, lengths, right_lengths, is_answered_accepted}
+use Rattle.joins.specs.Joins.{Unchanged, keep, pieces, AllAgree, Decided, add_up, accepted_calls, CutRunsJoin}
 use Rattle.joins.proofs.Pieces.{PieceOf, piece_samples, piece_clips, piece_counts}
 use Rattle.joins.proofs.Bytes.{samples_back}
 use Rattle.reference.proofs.Statistics.{at_channel}

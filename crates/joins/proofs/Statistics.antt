@@ -49,7 +49,8 @@ module _ (conv : Converter) (r : Run) where
   unfolding stretch no_stats no_samples total extremes_of
   stretch_none a =
       ap (λ l. record { channels = l })
-      (tabulate_constant (stretch_channel conv r a 0) 0 6 no_samples (λ k l. rw (cond_same {A = ℕ} (ltb (0 + k) conv.channels) 0, cond_same {A = Option Extremes} (ltb (0 + k) conv.channels) None) refl))
+      (tabulate_constant (stretch_channel conv r a 0) 0 6 no_samples
+      (λ k l. rw (cond_same {A = ℕ} (ltb (0 + k) conv.channels) 0, cond_same {A = Option Extremes} (ltb (0 + k) conv.channels) None) refl))
 
   -- ---- two stretches, channel by channel
 
@@ -97,7 +98,8 @@ module _ (conv : Converter) (r : Run) (a n : ℕ) (piece : Run) (cut : PieceOf c
 
   same_extremes : (c : ℕ) → stretch_extremes conv piece 0 (n * per) c ≡ stretch_extremes conv r (a * per) (n * per) c
   same_extremes c =
-      used c _ _ None (λ l. extremes_same (unclamped conv piece c) (unclamped conv r c) 0 (a * per) (n * per) (λ k h. let z : 0 + k ≡ k = omega arith in rw z (unclamped_same conv r a n piece cut c k l h)))
+      used c _ _ None (λ l. extremes_same (unclamped conv piece c) (unclamped conv r c) 0 (a * per)
+      (n * per) (λ k h. let z : 0 + k ≡ k = omega arith in rw z (unclamped_same conv r a n piece cut c k l h)))
 
   pub piece_stretch : stretch conv piece 0 (n * per) ≡ stretch conv r (a * per) (n * per)
   unfolding stretch

@@ -102,12 +102,12 @@ pieces calls = map run_of (keep right_lengths calls)
 pub record SameBytes (channels start n : ℕ) (a b : List ℕ) : Type 0 where
   pub same : (c k : ℕ) → c < channels → k < n → channel_byte channels a c (start + k) ≡ channel_byte channels b c (start + k)
 
--- a piece's neighbours agree with the true frames: in each channel the last bytes of the one and the first of the other, as many as the reach
+-- a piece's neighbours agree with the true frames: in each channel, on the reach
 pub record Agree (conv : Converter) (true-before : List ℕ) (piece : Run) (true-after : List ℕ) : Type 0 where
   pub last : SameBytes conv.channels (frame_bytes - reach_of conv) (reach_of conv) (before_frame conv.channels piece) true-before
   pub first : SameBytes conv.channels 0 (reach_of conv) (after_frame conv.channels piece) true-after
 
--- every piece's neighbours agree, the first piece starting after `start` frames of the run. Frame 0 of the sequence is the one before the run
+-- so do all pieces', the first after `start` frames of the run; frame 0 of the sequence is the one before the run
 abbrev pub AllAgree : Converter → List ℕ → ℕ → List Run → Type 0
 AllAgree conv frames start [] = Unit {0}
 AllAgree conv frames start (p ∷ ps) =
@@ -143,8 +143,8 @@ add_up (n ∷ ns) = n + add_up ns
 abbrev pub accepted_calls : {conv : Converter} → List (Call conv) → List (Call conv)
 accepted_calls calls = keep is_answered_accepted calls
 
--- the accepted calls together: samples end to end, clip counts summed channel by channel, per-frame counts end to end where each lends the list,
--- and request 6's statistics joined: channel by channel the least and the greatest over the calls that have samples, the mark where none has
+-- the accepted calls together: samples end to end, clip counts summed channel by channel, per-frame counts end to end
+-- where each lends the list, and request 6's statistics joined: the least and the greatest over the calls
 pub record GiveWholeRun {conv : Converter} (r : Run) (calls : List (Call conv)) : Type 0 where
   pub decided : (call : Call conv) → Memᴰ call calls → Decided call
   pub sampled : flat_map samples_of (accepted_calls calls) ≡ samples conv r

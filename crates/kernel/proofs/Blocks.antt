@@ -9,7 +9,7 @@ use lib.Dec.{lit≤}
 use lib.IntN.{ℤ, pos}
 use lib.ListN.{length, take, get_or-append}
 use lib.Seq.{get_or-take}
-use Rattle.numbers.specs.Lists.{Held}
+use Rattle.numbers.specs.inner.Lists.{Held}
 use Rattle.numbers.proofs.Lists.{held_none}
 use Rattle.reference.specs.Taps.{S1, S1_WIDE, F40, F80}
 use Rattle.reference.specs.Stages.{M, u, v, w, y_narrow, y_wide}
@@ -18,7 +18,8 @@ use Rattle.reference.specs.declared.PcmRate.TheVariants.{Hz88200, Hz176400, Hz35
 use Rattle.reference.specs.declared.Cutoff.{Cutoff}
 use Rattle.reference.specs.declared.Cutoff.TheVariants.{Standard, Low, Wide}
 use Rattle.reference.proofs.Locality.{F40_last, F80_last}
-use Rattle.routes.specs.Routes.{LowPass, HalvedFilter, halves_of, LastFilter, FirstTables, lent_taps, Taps, SomeTaps, input, stride, around, first_byte, fresh, margin_from, block_length, y_of, Kept, State, Brought}
+use Rattle.routes.specs.inner.Routes.{LowPass, HalvedFilter, halves_of, LastFilter, FirstTables, lent_taps, RouteTaps, SomeTaps, filter_input}
+use Rattle.routes.specs.inner.Routes.{stride, around, first_byte, fresh, margin_from, block_length, y_of, Kept, State, Brought}
 use Rattle.tables.specs.Tables.{ByteTables}
 use Rattle.routes.proofs.Arrays.{held_at}
 use Rattle.routes.proofs.Filters.{halves_length}
@@ -39,7 +40,7 @@ module _ {A : Type 0} {d : A} {f : ℕ → A} {a n : ℕ} {l : List A} (held : H
 
 -- ---- what `margin` ensures
 abbrev pub Margined : Cutoff → ℕ → List ℕ → List ℤ → Type 0
-Margined cutoff n bytes x = (β : ℕ → ℕ) (i : ℕ) → 10 ≤ i → Held 0 β (first_byte cutoff i) (stride cutoff * n + around cutoff) bytes → Held (pos 0) (input cutoff β) i n x
+Margined cutoff n bytes x = (β : ℕ → ℕ) (i : ℕ) → 10 ≤ i → Held 0 β (first_byte cutoff i) (stride cutoff * n + around cutoff) bytes → Held (pos 0) (filter_input cutoff β) i n x
 
 -- ---- places at 352,800, for a filter whose last tap is at place m
 first_byte_352 : (n m : ℕ) → 1000 ≤ n → m ≤ 116 → 2 * (n / 2 - 8 - m + 2 * m) - 19 ≡ 2 * (n / 2 + 176 - 184 + m) - 19
@@ -63,7 +64,7 @@ next_kept_352 n l = omega arith
 -- ---- what `block` ensures of a route
 abbrev pub Blocked : PcmRate → Cutoff → Bool → List ℤ → List ℕ → List ℤ → List ℤ → List ℤ → List ℤ → List ℤ → Type 0
 Blocked rate cutoff first h bytes x kept x' kept' y =
-    (F : List ℤ) (β : ℕ → ℕ) (n : ℕ) → Taps rate cutoff F h → 1000 ≤ n → Brought rate cutoff F first β n bytes → State rate cutoff F first β n x kept
+    (F : List ℤ) (β : ℕ → ℕ) (n : ℕ) → RouteTaps rate cutoff F h → 1000 ≤ n → Brought rate cutoff F first β n bytes → State rate cutoff F first β n x kept
     → Held (pos 0) (y_of rate cutoff F β) n (block_length rate cutoff) y × State rate cutoff F false β (n + block_length rate cutoff) x' kept'
 
 module _ {h : List ℤ} {bytes : List ℕ} {x kept x' kept' y : List ℤ} where
@@ -75,7 +76,7 @@ module _ {h : List ℤ} {bytes : List ℕ} {x kept x' kept' y : List ℤ} where
       (first_held r.0 rest l, r.1)
 
   as_low : (rate : PcmRate) (first : Bool) → Blocked rate Standard first h bytes x kept x' kept' y → Blocked rate Low first h bytes x kept x' kept' y
-  unfolding LastFilter lent_taps input stride around first_byte fresh margin_from block_length y_of Kept
+  unfolding LastFilter lent_taps filter_input stride around first_byte fresh margin_from block_length y_of Kept
   as_low Hz88200 first g F β n t m b s =
       let r = g F β n (record { last = t.last; lent = t.lent }) m b (record { margin = s.margin; w_kept = tt }) in
       (r.0, record { margin = r.1.margin; w_kept = tt })
@@ -96,7 +97,7 @@ module _ {h : List ℤ} {bytes : List ℕ} {x kept x' kept' y : List ℤ} where
       → ((F : List ℤ) (β : ℕ → ℕ) (n : ℕ) → LowPass F → h ≡ halves_of F → 1000 ≤ n → Held 0 β (2 * (2 * n + M F) - 19) 372 (take 372 bytes) → Held (pos 0) (v β) (2 * n - M F) (2 * M F) x
       → Held (pos 0) (y_narrow Hz88200 F β) n 84 y × Held (pos 0) (v β) (2 * (n + 84) - M F) (2 * M F) x')
       → Blocked Hz88200 Standard first h bytes x kept x' kept' y
-  unfolding LastFilter lent_taps input stride around first_byte fresh margin_from block_length y_of Kept
+  unfolding LastFilter lent_taps filter_input stride around first_byte fresh margin_from block_length y_of Kept
   blocked_88 first g F β n t m b s =
       let few = t.last.few in
       let r = g F β n t.last t.lent m (held_at _ (omega arith) (front_held b 372 (omega arith))) s.margin in
@@ -106,7 +107,7 @@ module _ {h : List ℤ} {bytes : List ℕ} {x kept x' kept' y : List ℤ} where
       → ((β : ℕ → ℕ) (n : ℕ) → 1000 ≤ n → Held 0 β (2 * (n + M h) - 19) 372 (take 372 bytes) → Held (pos 0) (v β) (n - M h) (2 * M h) x
       → Held (pos 0) (y_narrow Hz176400 h β) n 168 y × Held (pos 0) (v β) (n + 168 - M h) (2 * M h) x')
       → Blocked Hz176400 Standard first h bytes x kept x' kept' y
-  unfolding LastFilter lent_taps input stride around first_byte fresh margin_from block_length y_of Kept
+  unfolding LastFilter lent_taps filter_input stride around first_byte fresh margin_from block_length y_of Kept
   blocked_176 first g F β n t m b s =
       let few = t.last.few in
       let e : F ≡ h = sym t.lent in
@@ -119,7 +120,7 @@ module _ {h : List ℤ} {bytes : List ℕ} {x kept x' kept' y : List ℤ} where
       → Held (pos 0) (w h β) (n / 2 - 8) (184 - k) kept
       → Held (pos 0) (y_narrow Hz352800 h β) n 336 y × Held (pos 0) (v β) (n / 2 + 176 - M h) (2 * M h) x' × Held (pos 0) (w h β) (n / 2 + 160) 16 kept')
       → Blocked Hz352800 Standard first h bytes x kept x' kept' y
-  unfolding LastFilter lent_taps input stride around first_byte fresh margin_from block_length y_of Kept
+  unfolding LastFilter lent_taps filter_input stride around first_byte fresh margin_from block_length y_of Kept
   blocked_352 true k is g F β n t m b s =
       let e : F ≡ h = sym t.lent in
       let l : M h ≤ 116 = omega (arith, t.last.few, ap length e) in
@@ -137,7 +138,7 @@ module _ {h : List ℤ} {bytes : List ℕ} {x kept x' kept' y : List ℤ} where
       → ((β : ℕ → ℕ) (n : ℕ) → 1000 ≤ n → Held 0 β (2 * n + 110) 179 (take 179 bytes) → Held (pos 0) (u S1_WIDE β) (2 * n - 116) 232 x
       → Held (pos 0) (y_wide Hz176400 β) n 84 y × Held (pos 0) (u S1_WIDE β) (2 * (n + 84) - 116) 232 x')
       → Blocked Hz176400 Wide first h bytes x kept x' kept' y
-  unfolding LastFilter lent_taps input stride around first_byte fresh margin_from block_length y_of Kept
+  unfolding LastFilter lent_taps filter_input stride around first_byte fresh margin_from block_length y_of Kept
   blocked_wide176 first g F β n t m b s =
       let e : M F ≡ 116 = rw t.last F80_last in
       let r = g β n m (held_at _ (omega arith) (front_held b 179 (omega arith))) (rw e at s.margin) in
@@ -147,7 +148,7 @@ module _ {h : List ℤ} {bytes : List ℕ} {x kept x' kept' y : List ℤ} where
       → ((β : ℕ → ℕ) (n : ℕ) → 1000 ≤ n → Held 0 β (n + 54) 347 (take 347 bytes) → Held (pos 0) (u S1_WIDE β) (n - 60) 120 x
       → Held (pos 0) (y_wide Hz352800 β) n 336 y × Held (pos 0) (u S1_WIDE β) (n + 336 - 60) 120 x')
       → Blocked Hz352800 Wide first h bytes x kept x' kept' y
-  unfolding LastFilter lent_taps input stride around first_byte fresh margin_from block_length y_of Kept
+  unfolding LastFilter lent_taps filter_input stride around first_byte fresh margin_from block_length y_of Kept
   blocked_wide352 first g F β n t m b s =
       let e : M F ≡ 60 = rw t.last F40_last in
       let r = g β n m (held_at _ (omega arith) (front_held b 347 (omega arith))) (rw e at s.margin) in

@@ -4,15 +4,15 @@
 #![tactic(auto)]
 
 ghost use Rattle.std.specs.Prelude.{◌≡◌, ℕ, ◌+◌, ◌*◌, ◌%◌, ◌^◌, ◌≤◌, ◌<◌, List, true, false, ℤ, pos, length, get_or};
-ghost use Rattle.numbers.specs.Lists.{Held};
-ghost use Rattle.routes.specs.Routes as Routes;
-ghost use Rattle.routes.specs.Routes.{SomeTaps, Taps, FirstTables, State, Brought, y_of, input, block_length, first_byte, margin_from};
+ghost use Rattle.numbers.specs.inner.Lists.{Held};
+ghost use Rattle.routes.specs.inner.Routes as Routes;
+ghost use Rattle.routes.specs.inner.Routes.{SomeTaps, RouteTaps, FirstTables, State, Brought, y_of, filter_input, block_length, first_byte, margin_from};
 
 use reference::{Cutoff, PcmRate};
 use stages::Buffers;
 
 // Samples of a block.
-#[tactic(auto, unfolding(routes::specs::Routes::block_length))]
+#[tactic(auto, unfolding(routes::specs::inner::Routes::block_length))]
 pub fn block_length(rate: PcmRate, cutoff: Cutoff) -> usize
     ensures { (result ≡ block_length rate cutoff) × (0 < result) × (result ≤ 336) }
 {
@@ -28,7 +28,7 @@ pub fn block_length(rate: PcmRate, cutoff: Cutoff) -> usize
 
 // Values of x that a block brings. At 352,800 a frame's first block of Standard or Low brings also the 16 of w before
 // it. `first` is a fact of the block and picks a number, no step: there is nothing beside it that an enum would hold.
-#[tactic(auto, unfolding(routes::specs::Routes::fresh))]
+#[tactic(auto, unfolding(routes::specs::inner::Routes::fresh))]
 pub fn fresh(rate: PcmRate, cutoff: Cutoff, first: bool) -> usize
     ensures { (result ≡ Routes.fresh rate cutoff first) × (result ≤ 336) }
 {
@@ -47,7 +47,7 @@ pub fn fresh(rate: PcmRate, cutoff: Cutoff, first: bool) -> usize
 }
 
 // Bytes from one value of x to the next, and bytes around a value beside its own.
-#[tactic(auto, unfolding(routes::specs::Routes::stride))]
+#[tactic(auto, unfolding(routes::specs::inner::Routes::stride))]
 pub fn stride(cutoff: Cutoff) -> usize
     ensures { (result ≡ Routes.stride cutoff) × (result ≤ 2) }
 {
@@ -57,7 +57,7 @@ pub fn stride(cutoff: Cutoff) -> usize
     }
 }
 
-#[tactic(auto, unfolding(routes::specs::Routes::around))]
+#[tactic(auto, unfolding(routes::specs::inner::Routes::around))]
 pub fn around(cutoff: Cutoff) -> usize
     ensures { (result ≡ Routes.around cutoff) × (result ≤ 36) }
 {
@@ -69,7 +69,7 @@ pub fn around(cutoff: Cutoff) -> usize
 
 // The first byte that the margin of a frame depends on: as many before the byte of the frame's first sample n as
 // document 01's reach. The last filter has taps up to place m.
-#[tactic(auto, unfolding(routes::specs::Routes::first_byte, routes::specs::Routes::margin_from))]
+#[tactic(auto, unfolding(routes::specs::inner::Routes::first_byte, routes::specs::inner::Routes::margin_from))]
 pub fn start(rate: PcmRate, cutoff: Cutoff, m: usize, n: usize) -> usize
     requires { (m ≤ 116) × (1000 ≤ n) × (n < 1000000000000) × (n % 2 ≡ 0) }
     ensures { (result ≡ first_byte cutoff (margin_from rate cutoff m true n)) × (result ≤ 4 * n) }
@@ -97,7 +97,7 @@ pub fn margin(cutoff: Cutoff, tables: &[i32], bytes: &[u8], n: usize, buffers: &
     requires first_tables { FirstTables cutoff tables.now }
     requires n_bound { (n ≤ 232) × (length bytes.now ≡ 512) }
     ensures kept { buffers.new.kept ≡ buffers.old.kept }
-    ensures held { (β : ℕ → ℕ) (i : ℕ) → 10 ≤ i → Held 0 β (first_byte cutoff i) (Routes.stride cutoff * n + Routes.around cutoff) bytes.now → Held (pos 0) (input cutoff β) i n buffers.new.x }
+    ensures held { (β : ℕ → ℕ) (i : ℕ) → 10 ≤ i → Held 0 β (first_byte cutoff i) (Routes.stride cutoff * n + Routes.around cutoff) bytes.now → Held (pos 0) (filter_input cutoff β) i n buffers.new.x }
 {
     match cutoff {
         Cutoff::Standard | Cutoff::Low => buffers.bring_v(tables, &bytes[..2 * n + 36], 0, n),
@@ -120,7 +120,9 @@ pub fn block(
     requires first_tables { FirstTables cutoff tables.now }
     requires some_taps { SomeTaps rate cutoff h.now }
     requires lengths { (length bytes.now ≡ 512) × (length y.old ≡ 336) }
-    ensures { (F : List ℤ) (β : ℕ → ℕ) (n : ℕ) → Taps rate cutoff F h.now → 1000 ≤ n → Brought rate cutoff F first β n bytes.now → State rate cutoff F first β n buffers.old.x buffers.old.kept → Held (pos 0) (y_of rate cutoff F β) n (block_length rate cutoff) y.new × State rate cutoff F false β (n + block_length rate cutoff) buffers.new.x buffers.new.kept }
+    ensures { (F : List ℤ) (β : ℕ → ℕ) (n : ℕ) → RouteTaps rate cutoff F h.now → 1000 ≤ n → Brought rate cutoff F first β n bytes.now
+        → State rate cutoff F first β n buffers.old.x buffers.old.kept → Held (pos 0) (y_of rate cutoff F β) n (block_length rate cutoff) y.new
+        × State rate cutoff F false β (n + block_length rate cutoff) buffers.new.x buffers.new.kept }
 {
     match cutoff {
         Cutoff::Standard | Cutoff::Low => match rate {

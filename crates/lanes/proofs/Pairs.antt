@@ -9,7 +9,7 @@ use Rattle.numbers.specs.Sums.{sum_to}
 use Rattle.numbers.proofs.Integers.{abs_add, abs_mul, sums}
 use Rattle.numbers.proofs.Sums.{sum_same, sum_join}
 use Rattle.reference.specs.Stages.{tap}
-use Rattle.lanes.specs.Lanes.{Small, raised, arm, arms, fourths, Low}
+use Rattle.lanes.specs.inner.Lanes.{Small, raised, arm, arms, fourths, Low}
 
 -- ---- sizes
 pub raised_size : {v : List ℕ} → Low v → (k : ℕ) → nat_abs (raised v k) ≤ 2 ^ 30
@@ -40,7 +40,11 @@ module _ (h : List ℤ) (s : ℕ → ℤ) (from down up n : ℕ) (hs : Small (2 
 
   pub fourths_size : nat_abs (fourths h s from down up n) ≤ 2 * n * 2 ^ 56
   unfolding fourths
-  fourths_size = omega (arith, sum_each n (λ k. arm h s down up (from + 4 * k) +ℤ arm h s down up (from + 4 * k + 2)) (2 ^ 57) (λ k. omega (arith, abs_add (arm h s down up (from + 4 * k)) (arm h s down up (from + 4 * k + 2)), arm_size (from + 4 * k), arm_size (from + 4 * k + 2))))
+  fourths_size = omega (
+    arith,
+    sum_each n (λ k. arm h s down up (from + 4 * k) +ℤ arm h s down up (from + 4 * k + 2)) (2 ^ 57)
+        (λ k. omega (arith, abs_add (arm h s down up (from + 4 * k)) (arm h s down up (from + 4 * k + 2)), arm_size (from + 4 * k), arm_size (from + 4 * k + 2))),
+  )
 
 -- ---- no tap, and a tap more
 pub arms_none : (h : List ℤ) (s : ℕ → ℤ) (from down up n : ℕ) → n ≡ 0 → arms h s from down up n ≡ pos 0
@@ -69,7 +73,9 @@ fourths_none h s from down up = refl
 
 -- for lane l
 pub fourths_more : (h : List ℤ) (s : ℕ → ℤ) (from end up k l : ℕ) → from + 4 * k + 2 < end
-    → fourths h s from (end + l - 1) (up + l) k +ℤ (tap h (from + 4 * k) *ℤ (s (end - 3 - (from + 4 * k) + 2 + l) +ℤ s (up + (from + 4 * k) + l)) +ℤ tap h (from + 4 * k + 2) *ℤ (s (end - 3 - (from + 4 * k) + l) +ℤ s (up + (from + 4 * k) + 2 + l)))
+    → fourths h s from (end + l - 1) (up + l) k +ℤ
+    (tap h (from + 4 * k) *ℤ (s (end - 3 - (from + 4 * k) + 2 + l) +ℤ s (up + (from + 4 * k) + l)) +ℤ
+    tap h (from + 4 * k + 2) *ℤ (s (end - 3 - (from + 4 * k) + l) +ℤ s (up + (from + 4 * k) + 2 + l)))
     ≡ fourths h s from (end + l - 1) (up + l) (k + 1)
 unfolding fourths sum_to
 fourths_more h s from end up k l p =
@@ -99,7 +105,8 @@ module _ (h : List ℤ) (s : ℕ → ℤ) (from down up : ℕ) where
       turn f g a b c d = simp sums
 
   -- and with the rest, up to place m
-  pub by_fourths : (n m : ℕ) → from + 4 * n ≤ m → fourths h s from down up n +ℤ fourths h s (from + 1) down up n +ℤ arms h s (from + 4 * n) down up (m - (from + 4 * n)) ≡ arms h s from down up (m - from)
+  pub by_fourths : (n m : ℕ) → from + 4 * n ≤ m → fourths h s from down up n +ℤ fourths h s (from + 1)
+      down up n +ℤ arms h s (from + 4 * n) down up (m - (from + 4 * n)) ≡ arms h s from down up (m - from)
   unfolding arms
   by_fourths n m l =
       let r = m - (from + 4 * n) in

@@ -11,7 +11,7 @@ use lib.Seq.{get_or-set_same, get_or-set_other}
 use Rattle.numbers.specs.Sums.{at0}
 use Rattle.numbers.proofs.Integers.{abs_add}
 use Rattle.numbers.proofs.Lists.{below_or}
-use Rattle.lanes.specs.Lanes.{Filled, Written, Added, Lanes}
+use Rattle.lanes.specs.inner.Lanes.{Filled, Written, Added, Lanes}
 
 -- place i more
 pub written_more : {f : ℕ → ℤ} {a i j : ℕ} {old new : List ℤ} {v : ℤ} → Written f a i old new → a ≤ i → i < length new → v ≡ f i → j ≡ i + 1 → Written f a j old (set new i v)

@@ -5,7 +5,7 @@
 
 ghost use Rattle.std.specs.Prelude.{◌≡◌, ℕ, ◌+◌, ◌*◌, ◌-◌, ◌^◌, ◌≤◌, ◌<◌, pos, nat_abs, ◌+ℤ◌, ◌*ℤ◌, length};
 ghost use Rattle.numbers.specs.Sums.{at0};
-ghost use Rattle.lanes.specs.Lanes.{Small, Filled, raised, arms, fourths, Low, Lanes, Added, Written};
+ghost use Rattle.lanes.specs.inner.Lanes.{Small, Filled, raised, arms, fourths, Low, Lanes, Added, Written};
 
 // s + h * w
 pub fn tap1(s: i64, h: i64, w: u64) -> i64
@@ -20,7 +20,7 @@ pub fn tap1(s: i64, h: i64, w: u64) -> i64
 }
 
 // A sum gains a tap with two values of the copy.
-#[tactic(auto, unfolding(crate::specs::Lanes::raised))]
+#[tactic(auto, unfolding(crate::specs::inner::Lanes::raised))]
 fn pair(s: i64, h: i64, v: &[u64], i: usize, j: usize) -> i64
     requires i_in_bounds { (i < length v.now) × (j < length v.now) × (nat_abs h ≤ 2 ^ 25) × (nat_abs s ≤ 126 * 2 ^ 56) }
     requires low { Low v.now }
@@ -147,7 +147,8 @@ impl<'a> Arms<'a> {
     fn add_block<const L: usize>(self, y: &mut [i64], i: usize, from: usize)
         requires i_in_bounds { (i + L ≤ length y.old) × (from ≤ length self.h.now) × (self.end + i + L ≤ length self.v.now + 1) × (self.up + i + length self.h.now + L ≤ length self.v.now + 1) }
         requires by_index { (k : ℕ) → i ≤ k → nat_abs (at0 y.old k) ≤ (127 - length self.h.now) * 2 ^ 56 }
-        ensures { Written (λ k. at0 y.old k +ℤ arms self.entry.h.now (raised self.entry.v.now) from (self.entry.end + k - 1) (self.entry.up + k) (length self.entry.h.now - from)) i (i + L) y.old y.new }
+        ensures { Written (λ k. at0 y.old k +ℤ arms self.entry.h.now (raised self.entry.v.now)
+            from (self.entry.end + k - 1) (self.entry.up + k) (length self.entry.h.now - from)) i (i + L) y.old y.new }
     {
         let mut s = [0i64; L];
         s.copy_from_slice(&y[i..i + L]);
@@ -159,7 +160,8 @@ impl<'a> Arms<'a> {
     // filters.
     #[inline(never)]
     pub fn add(self, y: &mut [i64], from: usize)
-        requires from_in_bounds { (from ≤ length self.h.now) × (self.end + length y.old ≤ length self.v.now + 1) × (self.up + length self.h.now + length y.old ≤ length self.v.now + 1) × (length self.v.now ≤ 512) }
+        requires from_in_bounds { (from ≤ length self.h.now) × (self.end + length y.old ≤ length self.v.now + 1)
+            × (self.up + length self.h.now + length y.old ≤ length self.v.now + 1) × (length self.v.now ≤ 512) }
         requires small { Small ((127 - length self.h.now) * 2 ^ 56) y.old }
         ensures { Filled (λ k. at0 y.old k +ℤ arms self.entry.h.now (raised self.entry.v.now) from (self.entry.end + k - 1) (self.entry.up + k) (length self.entry.h.now - from)) y.old y.new }
     {

@@ -19,10 +19,10 @@ use Rattle.reference.proofs.Promises.{exit_accepted}
 use Rattle.reference.proofs.Refusals.{error_refuses, at_next, at_end, decide_skip, some_channel, few_channels}
 use Rattle.text.specs.Text.{Printed}
 use Rattle.overs.specs.Overs.{Progress}
-use Rattle.levels.specs.Levels.{FrameReported, told_length, told_clips, told_states}
+use Rattle.levels.specs.inner.Levels.{FrameReported, told_length, told_clips, told_states}
 use Rattle.levels.specs.declared.Reported.{Reported}
 use Rattle.levels.proofs.Frames.{in_all}
-use Rattle.level_frames.specs.Told.{Added, OneLong}
+use Rattle.level_frames.specs.inner.Told.{PieceAdded, OneLong}
 
 -- ---- a frame is accepted
 
@@ -64,7 +64,7 @@ module _ (conv : Converter) (opens : decide (held_places conv) ≡ accepted) whe
 
 module _ {conv : Converter} {number : ℕ} {states : List Progress} {piece : Run} {items items' : List ℤ} {old new : List ℕ} where
   pub added : (clipped : ℕ) (a : Reported) → FrameReported conv number states piece items items' old new (Ok a) → decide (convert_frame_places conv piece items) ≡ accepted
-      → Added conv number piece clipped states old (clipped + a.clipped) a.states new a.length
+      → PieceAdded conv number piece clipped states old (clipped + a.clipped) a.states new a.length
   unfolding told_length told_clips told_states
   added clipped a r ok = record {
     counted = ap (λ k. clipped + k) (r.counted ∙ exit_accepted _ _ _ ok);

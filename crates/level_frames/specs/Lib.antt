@@ -1,2 +1,2 @@
 pub mod Report
-pub mod Told
+pub mod inner

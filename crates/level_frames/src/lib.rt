@@ -5,7 +5,7 @@ ghost use Rattle.std.specs.Prelude.{◌≡◌, ◌+◌, ◌*◌, ◌<◌, ◌≤
 ghost use Rattle.reference.specs.Frames.{frame_length, run_of};
 ghost use Rattle.text.specs.Text.{Printed};
 ghost use Rattle.level_frames.specs.Report as whole;
-ghost use Rattle.level_frames.specs.Told.{Added, OneLong};
+ghost use Rattle.level_frames.specs.inner.Told.{PieceAdded, OneLong};
 
 use overs::Progress;
 use reference::Run;
@@ -27,7 +27,7 @@ impl Report {
     pub fn told<'a>(&mut self, number: u64, run: Run<'a>, text: &mut [u8]) -> usize
         requires one_long { OneLong (frame_length self.old.of.conv.channels) (run_of run) }
         requires few { (number < 100000000000000) × (self.old.clipped ≤ 28224 * number) × (864 ≤ length text.old) }
-        ensures told { Added self.old.of.conv number (run_of run.entry) self.old.clipped self.old.states text.old self.new.clipped self.new.states text.new result }
+        ensures told { PieceAdded self.old.of.conv number (run_of run.entry) self.old.clipped self.old.states text.old self.new.clipped self.new.states text.new result }
         ensures few { (self.new.of ≡ self.old.of) × (self.new.clipped ≤ 28224 * (number + 1)) × (result ≤ 864) }
     {
         let of = self.of;

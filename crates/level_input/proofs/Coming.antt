@@ -11,7 +11,7 @@ use lib.Seq.{get_or-take, length-take-le, take_all}
 use Rattle.std.specs.Prelude.{Option}
 use Rattle.std.specs.Io.KnownBytes.{Consumes, IsAtEnd}
 use Rattle.std.proofs.lemmas.Slice.{take-put_mid, take-put_mid_below}
-use Rattle.level_input.specs.Lines.{NoNewline, Newline, Unended}
+use Rattle.level_input.specs.inner.Lines.{NoNewline, Newline, Unended}
 use Rattle.level_input.proofs.Known.{consumes_none, consumes_more}
 
 -- the first n bytes have come, with no newline

@@ -7,7 +7,7 @@ use native.Mathlib.Omega.{arith}
 use lib.ListN.{length, take, drop, length-drop}
 use lib.Seq.{take_all}
 use Rattle.std.specs.List.{copy_within}
-use Rattle.level_input.specs.Moved.{moved_on}
+use Rattle.level_input.specs.inner.Moved.{moved_on}
 
 pub all_moved : (d : List ℕ) (size : ℕ) → length d ≡ 3 * size → copy_within d size (length d) 0 ≡ moved_on size d
 unfolding moved_on

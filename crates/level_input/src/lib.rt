@@ -4,13 +4,14 @@
 
 ghost use Rattle.std.specs.Prelude.{◌≡◌, ◌+◌, ◌*◌, ◌<◌, ◌≤◌, length, take, drop, IfOk, IfSome};
 ghost use Rattle.std.specs.Io.KnownBytes.{Appends, Consumes, IsAtEnd, ReadConsumes};
-ghost use Rattle.level_input.specs.Lines.{LineCame};
-ghost use Rattle.level_input.specs.Moved.{moved_on};
+ghost use Rattle.level_input.specs.inner.Lines.{LineCame};
+ghost use Rattle.level_input.specs.inner.Moved.{moved_on};
 
 use std::io;
 use std::io::{Read, Write};
 
-// One read into the slice from place n on: how many bytes came, at least one, or none where the input has ended. An error is that of the read.
+// One read into the slice from place n on: how many bytes came, at least one, or none where the input has ended. An
+// error is that of the read.
 pub fn read_some<R: Read>(from: &mut R, bytes: &mut [u8], n: usize) -> io::Result<usize>
     requires { n < length bytes.old }
     ensures fits { IfOk result (λ more. n + more ≤ length bytes.old) }
@@ -20,7 +21,8 @@ pub fn read_some<R: Read>(from: &mut R, bytes: &mut [u8], n: usize) -> io::Resul
     from.read(&mut bytes[n..])
 }
 
-// Reads until the slice is full, the input ends or a read fails: how many bytes came. Fewer than asked for mean that the input has ended.
+// Reads until the slice is full, the input ends or a read fails: how many bytes came. Fewer than asked for mean that
+// the input has ended.
 pub fn fill<R: Read>(from: &mut R, bytes: &mut [u8]) -> io::Result<usize>
     ensures fits { IfOk result (λ n. n ≤ length bytes.old) }
     ensures bytes { IfOk result (λ n. Consumes (R.remaining from.old) (R.remaining from.new) (take n bytes.new)) }
@@ -38,7 +40,8 @@ pub fn fill<R: Read>(from: &mut R, bytes: &mut [u8]) -> io::Result<usize>
     Ok(n)
 }
 
-// Reads a line byte by byte, and no byte past its newline or past the slice: how many bytes stand before the newline, where it came.
+// Reads a line byte by byte, and no byte past its newline or past the slice: how many bytes stand before the newline,
+// where it came.
 pub fn read_line<R: Read>(from: &mut R, line: &mut [u8]) -> io::Result<Option<usize>>
     ensures fits { IfOk result (λ came. IfSome came (λ n. n ≤ length line.old)) }
     ensures line { IfOk result (LineCame line.new (R.remaining from.old) (R.remaining from.new)) }

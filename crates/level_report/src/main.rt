@@ -1,4 +1,5 @@
-// Clips and levels of the frames on standard input, frame by frame. The first line says how to convert: RATE CUTOFF CHANNELS DB.
+// Clips and levels of the frames on standard input, frame by frame. The first line says how to convert: RATE CUTOFF
+// CHANNELS DB.
 #![tactic(auto)]
 
 use std::io;

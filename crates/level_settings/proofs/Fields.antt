@@ -10,11 +10,12 @@ use Rattle.reference.specs.declared.PcmRate.{PcmRate}
 use Rattle.reference.specs.declared.PcmRate.TheVariants.{Hz88200, Hz176400, Hz352800}
 use Rattle.reference.specs.declared.Cutoff.{Cutoff}
 use Rattle.reference.specs.declared.Cutoff.TheVariants.{Standard, Low, Wide}
-use Rattle.text.specs.Text.{text, joined, decimal, signed}
+use Rattle.text.specs.Text.{text, joined, decimal, signed_decimal}
 use Rattle.text.proofs.Numerals.{all_digits}
-use Rattle.level_settings.specs.Settings.{rate_text, cutoff_text, rate_named, cutoff_named, settings_line, InRange, LineRead}
-use Rattle.level_settings.specs.Reading.{ChannelsRead, DecibelsRead}
-use Rattle.text.specs.Lists.{Without}
+use Rattle.level_settings.specs.Settings.{rate_text, cutoff_text, settings_line, InRange, LineRead}
+use Rattle.level_settings.specs.inner.Settings.{rate_named, cutoff_named}
+use Rattle.level_settings.specs.inner.Reading.{ChannelsRead, DecibelsRead}
+use Rattle.text.specs.inner.Lists.{Without}
 use Rattle.text.proofs.Cuts.{without, cut, uncut}
 use Rattle.level_settings.specs.declared.LineSettings.{LineSettings}
 use Rattle.text.proofs.Options.{no_some, some_is}
@@ -76,7 +77,7 @@ cutoff_back Wide = refl
 -- ---- a line's fields
 
 after_cutoff : LineSettings → List ℕ
-after_cutoff s = decimal s.channels ++ (32 ∷ signed s.db)
+after_cutoff s = decimal s.channels ++ (32 ∷ signed_decimal s.db)
 
 after_rate : LineSettings → List ℕ
 after_rate s = cutoff_text s.cutoff ++ (32 ∷ after_cutoff s)
@@ -115,9 +116,9 @@ module _ {line : List ℕ} (w rest : List ℕ) (p : Without 32 w × (line ≡ w 
     no_third t = refused (λ s o e. uncut 32 _ _ _ t (second s e).1)
 
     module _ (u last : List ℕ) (t : Without 32 u × (rest' ≡ u ++ (32 ∷ last))) where
-      third : (s : LineSettings) → line ≡ settings_line s → (u ≡ decimal s.channels) × (last ≡ signed s.db)
+      third : (s : LineSettings) → line ≡ settings_line s → (u ≡ decimal s.channels) × (last ≡ signed_decimal s.db)
       unfolding after_cutoff
-      third s e = cut 32 u (decimal s.channels) last (signed s.db) t.0 (number_plain s.channels) (sym t.1 ∙ (second s e).1)
+      third s e = cut 32 u (decimal s.channels) last (signed_decimal s.db) t.0 (number_plain s.channels) (sym t.1 ∙ (second s e).1)
 
       pub no_channels : ChannelsRead u None → LineRead line None
       no_channels r = refused (λ s o e. no_some (r.takes s.channels o.one o.two (third s e).0))

@@ -1,2 +1,2 @@
 pub mod Settings
-pub mod Reading
+pub mod inner

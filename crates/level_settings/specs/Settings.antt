@@ -1,11 +1,10 @@
 -- The level report's first line, RATE CUTOFF CHANNELS DB.
-use Rattle.std.specs.Prelude.{◌≡◌, List, [], ◌∷◌, ℕ, ◌≤◌, pos, negsuc, Option, Some, None, cond, ◌≤ℤ◌}
-use Rattle.std.specs.Str.{bytes_eq}
+use Rattle.std.specs.Prelude.{◌≡◌, List, [], ◌∷◌, ℕ, ◌≤◌, pos, negsuc, Option, Some, ◌≤ℤ◌}
 use Rattle.reference.specs.declared.PcmRate.{PcmRate}
 use Rattle.reference.specs.declared.PcmRate.TheVariants.{Hz88200, Hz176400, Hz352800}
 use Rattle.reference.specs.declared.Cutoff.{Cutoff}
 use Rattle.reference.specs.declared.Cutoff.TheVariants.{Standard, Low, Wide}
-use Rattle.text.specs.Text.{text, joined, decimal, signed}
+use Rattle.text.specs.Text.{text, joined, decimal, signed_decimal}
 use Rattle.level_settings.specs.declared.LineSettings.{LineSettings}
 
 unfoldable pub rate_text : PcmRate → List ℕ
@@ -18,27 +17,13 @@ cutoff_text Standard = text "standard"
 cutoff_text Low = text "low"
 cutoff_text Wide = text "wide"
 
--- the rate that a word names, if it names one
-unfoldable pub rate_named : List ℕ → Option PcmRate
-rate_named w =
-    cond (bytes_eq w (rate_text Hz88200)) (Some Hz88200)
-    (cond (bytes_eq w (rate_text Hz176400)) (Some Hz176400)
-    (cond (bytes_eq w (rate_text Hz352800)) (Some Hz352800) None))
-
--- the cutoff
-unfoldable pub cutoff_named : List ℕ → Option Cutoff
-cutoff_named w =
-    cond (bytes_eq w (cutoff_text Standard)) (Some Standard)
-    (cond (bytes_eq w (cutoff_text Low)) (Some Low)
-    (cond (bytes_eq w (cutoff_text Wide)) (Some Wide) None))
-
 abbrev pub blank : List ℕ
 blank = 32 ∷ []
 
 -- the line of some settings, without its newline: one blank between, no needless zeros, no -0
 unfoldable pub settings_line : LineSettings → List ℕ
 settings_line s =
-    joined (rate_text s.rate ∷ blank ∷ cutoff_text s.cutoff ∷ blank ∷ decimal s.channels ∷ blank ∷ signed s.db ∷ [])
+    joined (rate_text s.rate ∷ blank ∷ cutoff_text s.cutoff ∷ blank ∷ decimal s.channels ∷ blank ∷ signed_decimal s.db ∷ [])
 
 -- 1 or 2 channels, -120 to 24 whole decibels
 pub record InRange (s : LineSettings) : Type 0 where
@@ -47,7 +32,8 @@ pub record InRange (s : LineSettings) : Type 0 where
   pub lowest : negsuc 119 ≤ℤ s.db
   pub highest : s.db ≤ℤ pos 24
 
--- what reading a line promises, in both directions: it takes the lines of settings in range, as those settings, and no other line
+-- what reading a line promises, in both directions: it takes the lines of settings in range, as those settings, and no
+-- other line
 pub record LineRead (line : List ℕ) (answer : Option LineSettings) : Type 0 where
   pub takes : (s : LineSettings) → InRange s → line ≡ settings_line s → answer ≡ Some s
   pub takes_only : (s : LineSettings) → answer ≡ Some s → InRange s × (line ≡ settings_line s)

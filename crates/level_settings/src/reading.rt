@@ -1,14 +1,14 @@
 // What the fields of the first line are taken for.
 ghost use Rattle.std.specs.Prelude.{◌≡◌, ◌∷◌};
-ghost use Rattle.level_settings.specs.Settings as names;
-ghost use Rattle.level_settings.specs.Reading.{ChannelsRead, DecibelsRead};
+ghost use Rattle.level_settings.specs.inner.Settings as names;
+ghost use Rattle.level_settings.specs.inner.Reading.{ChannelsRead, DecibelsRead};
 
 use reference::{Cutoff, PcmRate};
 use text::number;
 
-// The words of a rate and, below, of a cutoff: three cases each, of different types. A table of words and values that both
-// search would be longer than the cases.
-#[tactic(auto, unfolding(crate::specs::Settings::rate_named, crate::specs::Settings::rate_text, text::specs::Text::text))]
+// The words of a rate and, below, of a cutoff: three cases each, of different types. A table of words and values that
+// both search would be longer than the cases.
+#[tactic(auto, unfolding(crate::specs::inner::Settings::rate_named, crate::specs::Settings::rate_text, text::specs::Text::text))]
 pub fn rate_named(word: &[u8]) -> Option<PcmRate>
     ensures { result ≡ names.rate_named word.now }
 {
@@ -23,7 +23,7 @@ pub fn rate_named(word: &[u8]) -> Option<PcmRate>
     }
 }
 
-#[tactic(auto, unfolding(crate::specs::Settings::cutoff_named, crate::specs::Settings::cutoff_text, text::specs::Text::text))]
+#[tactic(auto, unfolding(crate::specs::inner::Settings::cutoff_named, crate::specs::Settings::cutoff_text, text::specs::Text::text))]
 pub fn cutoff_named(word: &[u8]) -> Option<Cutoff>
     ensures { result ≡ names.cutoff_named word.now }
 {

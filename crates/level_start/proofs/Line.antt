@@ -20,13 +20,14 @@ use Rattle.reference.specs.declared.PcmRate.TheVariants.{Hz88200, Hz176400, Hz35
 use Rattle.reference.specs.declared.Cutoff.{Cutoff}
 use Rattle.reference.specs.declared.Cutoff.TheVariants.{Standard, Low, Wide}
 use Rattle.reference.specs.declared.Converter.{Converter}
-use Rattle.text.specs.Text.{text, joined, decimal, signed}
+use Rattle.text.specs.Text.{text, joined, decimal, signed_decimal}
 use Rattle.text.proofs.Numerals.{places, all_digits}
 use Rattle.level_settings.specs.Settings.{blank, rate_text, cutoff_text, settings_line, InRange, LineRead}
 use Rattle.level_settings.specs.declared.LineSettings.{LineSettings}
 use Rattle.text.proofs.Options.{no_some}
-use Rattle.level_input.specs.Lines.{NoNewline, Newline, Unended}
-use Rattle.level_start.specs.Begun.{Begun, after_line, InputRead, Starts, refused_settings, leads_to, said}
+use Rattle.level_input.specs.inner.Lines.{NoNewline, Newline, Unended}
+use Rattle.level_start.specs.Begun.{after_line, refused_settings}
+use Rattle.level_start.specs.inner.Begun.{Begun, InputRead, Starts, leads_to, said}
 
 -- ---- the line of settings in range holds no newline, and is at most 22 bytes long
 
@@ -69,18 +70,18 @@ high_blank = high_text blank refl
 high_decimal : (n : ℕ) → High (decimal n)
 high_decimal n k j = omega (arith, all_digits n k j)
 
-high_signed : (z : ℤ) → High (signed z)
-unfolding signed all_high
+high_signed : (z : ℤ) → High (signed_decimal z)
+unfolding signed_decimal all_high
 high_signed (pos n) = high_decimal n
 high_signed (negsuc n) = high_join (45 ∷ []) (decimal (suc n)) (high_text (45 ∷ []) refl) (high_decimal (suc n))
 
 pub high_line : (s : LineSettings) → High (settings_line s)
 unfolding settings_line joined
 high_line s =
-    let gain = signed (s.db) ++ [] in
+    let gain = signed_decimal (s.db) ++ [] in
     let channels = decimal (s.channels) ++ (blank ++ gain) in
     let cutoff = cutoff_text (s.cutoff) ++ (blank ++ channels) in
-    let high_gain : High gain = high_join (signed (s.db)) [] (high_signed (s.db)) (λ k j. absurd (omega arith)) in
+    let high_gain : High gain = high_join (signed_decimal (s.db)) [] (high_signed (s.db)) (λ k j. absurd (omega arith)) in
     let high_channels : High channels = high_join (decimal (s.channels)) (blank ++ gain) (high_decimal (s.channels)) (high_join blank gain high_blank high_gain) in
     let high_rest : High cutoff = high_join (cutoff_text (s.cutoff)) (blank ++ channels) (high_cutoff (s.cutoff)) (high_join blank channels high_blank high_channels) in
     high_join (rate_text (s.rate)) (blank ++ cutoff) (high_rate (s.rate)) (high_join blank cutoff high_blank high_rest)
@@ -97,18 +98,18 @@ cutoff_long Standard = omega arith
 cutoff_long Low = omega arith
 cutoff_long Wide = omega arith
 
-signed_long : (z : ℤ) → negsuc 119 ≤ℤ z → z ≤ℤ pos 24 → length (signed z) ≤ 4
-unfolding signed
+signed_long : (z : ℤ) → negsuc 119 ≤ℤ z → z ≤ℤ pos 24 → length (signed_decimal z) ≤ 4
+unfolding signed_decimal
 signed_long (pos n) l h = omega (arith, places 1 n (omega (arith, leb→le n 24 (h.le))))
 signed_long (negsuc n) l h = omega (arith, places 2 (suc n) (omega (arith, leb→le n 119 (l.le))))
 
 line_long : (s : LineSettings) → InRange s → length (settings_line s) ≤ 22
 unfolding settings_line joined
 line_long s r =
-    let a = length-append (rate_text (s.rate)) (blank ++ (cutoff_text (s.cutoff) ++ (blank ++ (decimal (s.channels) ++ (blank ++ (signed (s.db) ++ [])))))) in
-    let b = length-append (cutoff_text (s.cutoff)) (blank ++ (decimal (s.channels) ++ (blank ++ (signed (s.db) ++ [])))) in
-    let c = length-append (decimal (s.channels)) (blank ++ (signed (s.db) ++ [])) in
-    let d = length-append (signed (s.db)) [] in
+    let a = length-append (rate_text (s.rate)) (blank ++ (cutoff_text (s.cutoff) ++ (blank ++ (decimal (s.channels) ++ (blank ++ (signed_decimal (s.db) ++ [])))))) in
+    let b = length-append (cutoff_text (s.cutoff)) (blank ++ (decimal (s.channels) ++ (blank ++ (signed_decimal (s.db) ++ [])))) in
+    let c = length-append (decimal (s.channels)) (blank ++ (signed_decimal (s.db) ++ [])) in
+    let d = length-append (signed_decimal (s.db)) [] in
     omega (arith, a, b, c, d, rate_long (s.rate), cutoff_long (s.cutoff), places 0 (s.channels) (omega (arith, r.two)), signed_long (s.db) (r.lowest) (r.highest))
 
 -- ---- the first newline parts an input in one way

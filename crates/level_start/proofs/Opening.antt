@@ -14,7 +14,8 @@ use Rattle.reference.proofs.Opening.{held_as_opened}
 use Rattle.reference.proofs.Promises.{exit_accepted, exit_refused}
 use Rattle.reference.proofs.Refusals.{error_refuses}
 use Rattle.level_lines.specs.Lines.{refused_line}
-use Rattle.level_start.specs.Begun.{leads_to, said, read_settings}
+use Rattle.level_start.specs.Begun.{read_settings}
+use Rattle.level_start.specs.inner.Begun.{leads_to, said}
 use Rattle.level_input.proofs.Known.{appends_none}
 use Rattle.level_settings.specs.declared.LineSettings.{LineSettings}
 

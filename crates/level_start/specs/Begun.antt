@@ -1,17 +1,11 @@
--- What the first line leads to, and what is printed of it at once.
-use Rattle.std.specs.Prelude.{◌≡◌, List, [], ◌∷◌, ◌++◌, ℕ, Option, Some, None}
-use Rattle.std.specs.Io.KnownBytes.{Appends}
+-- What the first line stands for, and what is printed of another.
+use Rattle.std.specs.Prelude.{List, [], ◌∷◌, ◌++◌, ℕ, None}
 use Rattle.std.specs.Float.Ieee.{of_int}
 use Rattle.std.specs.Float.{binary64}
 use Rattle.reference.specs.Scaling.{db_to_linear}
-use Rattle.reference.specs.Settings.{converter_of}
-use Rattle.reference.specs.Refusals.{decide, refusal_number, opening_places}
-use Rattle.reference.specs.Promises.{by_decision}
-use Rattle.reference.specs.declared.Converter.{Converter}
 use Rattle.reference.specs.declared.Settings.{Settings}
 use Rattle.text.specs.Text.{text, printed}
-use Rattle.level_lines.specs.Lines.{refused_line}
-use Rattle.level_settings.specs.Settings.{settings_line, InRange, LineRead}
+use Rattle.level_settings.specs.Settings.{settings_line}
 use Rattle.level_settings.specs.declared.LineSettings.{LineSettings}
 
 -- ---- settings
@@ -24,42 +18,11 @@ read_settings s =
 
 -- ---- of settings, or of another first line, which sets nothing
 
--- the converter of the settings, where it opens
-unfoldable pub leads_to : Option LineSettings → Option Converter
-leads_to (Some s) = by_decision (decide (opening_places (read_settings s))) (Some (converter_of (read_settings s))) None
-leads_to None = None
-
 unfoldable pub refused_settings : List ℕ
 refused_settings = printed (text "refused settings" ∷ [])
 
--- before the lines of frames: a refusal, which stands alone, or nothing
-unfoldable pub said : Option LineSettings → List ℕ
-said (Some s) =
-    let opened = decide (opening_places (read_settings s)) in
-    by_decision opened [] (refused_line (refusal_number opened))
-said None = refused_settings
-
 -- ---- what a line sets, and what an input
-
--- a line without its newline: its settings lead to the answer, and what is said of them is appended
-pub record Begun (line : List ℕ) (answer : Option Converter) (held held' : Option (List ℕ)) : Type 0 where
-  pub first : Option LineSettings
-  pub read : LineRead line first
-  pub leads : answer ≡ leads_to first
-  pub wrote : Appends held held' (said first)
 
 -- a line of settings, a newline, and what follows
 abbrev pub after_line : LineSettings → List ℕ → List ℕ
 after_line s rest = settings_line s ++ (10 ∷ rest)
-
--- what an input sets, in both directions: the settings in range whose line it begins with, and any other input nothing
-pub record InputRead (input : List ℕ) (first : Option LineSettings) : Type 0 where
-  pub takes : (s : LineSettings) (rest : List ℕ) → InRange s → input ≡ after_line s rest → first ≡ Some s
-  pub takes_only : (s : LineSettings) → first ≡ Some s → InRange s × ((rest : List ℕ) × (input ≡ after_line s rest))
-
--- the same of all that a reader gives
-pub record Starts (input : List ℕ) (answer : Option Converter) (held held' : Option (List ℕ)) : Type 0 where
-  pub first : Option LineSettings
-  pub read : InputRead input first
-  pub leads : answer ≡ leads_to first
-  pub wrote : Appends held held' (said first)

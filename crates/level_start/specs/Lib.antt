@@ -1,2 +1,2 @@
-pub mod Usable
 pub mod Begun
+pub mod inner

@@ -5,8 +5,9 @@ ghost use Rattle.std.specs.Prelude.{◌≡◌, ◌≤◌, length, take, Some, No
 ghost use Rattle.std.specs.Io.KnownBytes.{Appends};
 ghost use Rattle.reference.specs.Promises.{OpeningPromise};
 ghost use Rattle.level_lines.specs.Lines.{refused_line};
-ghost use Rattle.level_start.specs.Usable.{Usable};
-ghost use Rattle.level_start.specs.Begun.{read_settings, leads_to, refused_settings, said, Begun, Starts};
+ghost use Rattle.level_start.specs.inner.Usable.{Usable};
+ghost use Rattle.level_start.specs.Begun.{read_settings, refused_settings};
+ghost use Rattle.level_start.specs.inner.Begun.{leads_to, said, Begun, Starts};
 
 use level_input::write_first;
 use level_settings::LineSettings;

@@ -16,9 +16,10 @@ use Rattle.level_lines.specs.Lines.{refused_line}
 use Rattle.level_settings.specs.Settings.{settings_line, InRange}
 use Rattle.level_settings.specs.declared.LineSettings.{LineSettings}
 use Rattle.text.proofs.Options.{no_some, some_is}
-use Rattle.level_start.specs.Begun.{read_settings, after_line, InputRead, refused_settings}
+use Rattle.level_start.specs.Begun.{read_settings, after_line, refused_settings}
+use Rattle.level_start.specs.inner.Begun.{InputRead}
 use Rattle.level_start.proofs.Line.{high_line, parted}
-use Rattle.level_stream.specs.Printed.{report_text, Prints, PrintsApart, OneInput, OneText, WideRefused}
+use Rattle.level_stream.specs.Printed.{report_text, PrintsReport, PrintsApart, OneInput, OneText, WideRefused}
 
 -- ---- a refusal of the table stands alone
 pub refused_alone : (s : LineSettings) (rest : List ℕ) {n : ℕ} {x : List Datum} → decide (opening_places (read_settings s)) ≡ refused n x → report_text s rest ≡ refused_line n
@@ -29,7 +30,7 @@ refused_alone s rest e = exit_refused _ _ _ (ap is_accepted e) ∙ ap (λ (d : D
 
 -- of settings that the first reader's line sets
 module _ (first : List ℕ) (s : LineSettings) (rest : List ℕ) (read : InputRead first (Some s)) where
-  own_text : Prints (after_line s rest) (report_text s rest)
+  own_text : PrintsReport (after_line s rest) (report_text s rest)
   own_text =
       let own = read.takes_only s refl in
       record {
@@ -44,7 +45,7 @@ module _ (first : List ℕ) (s : LineSettings) (rest : List ℕ) (read : InputRe
   text_of printed e = record {
     settings = λ s' more i q.
         let same : s ≡ s' = some_is (read.takes s' more i q) in
-        subst (λ x. Prints (after_line x rest) printed) same (subst (Prints (after_line s rest)) (sym e) own_text);
+        subst (λ x. PrintsReport (after_line x rest) printed) same (subst (PrintsReport (after_line s rest)) (sym e) own_text);
     other = λ never. let own = read.takes_only s refl in absurd (never s own.1.0 own.0 own.1.1);
   }
 

@@ -3,7 +3,7 @@
 
 ghost use Rattle.std.specs.Prelude.{◌*◌, ◌<◌, length, IfOk, IfSome};
 ghost use Rattle.reference.specs.Frames.{frame_length};
-ghost use Rattle.level_stream.specs.Printed.{Reported};
+ghost use Rattle.level_stream.specs.Printed.{ReportAppended};
 
 use std::io;
 use std::io::{Read, Write};
@@ -15,7 +15,9 @@ pub fn report<L: Read, F: Read, W: Write>(
     frames_from: &mut F,
     to: &mut W,
 ) -> io::Result<()>
-    ensures { IfOk result (λ _. IfSome (L.remaining line_from.old) (λ first. IfSome (F.remaining frames_from.old) (λ rest. length rest < 100000000000000 * frame_length 1 → Reported first rest (W.contents to.old) (W.contents to.new)))) }
+    ensures { IfOk result
+        (λ _. IfSome (L.remaining line_from.old)
+        (λ first. IfSome (F.remaining frames_from.old) (λ rest. length rest < 100000000000000 * frame_length 1 → ReportAppended first rest (W.contents to.old) (W.contents to.new)))) }
 {
     match level_start::start(line_from, to)? {
         Some(conv) => level_turns::report_frames(conv, frames_from, to),

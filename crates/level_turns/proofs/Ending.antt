@@ -10,7 +10,7 @@ use Rattle.reference.specs.Frames.{frame_length}
 use Rattle.reference.specs.declared.Converter.{Converter}
 use Rattle.level_input.proofs.Known.{appends_more}
 use Rattle.level_frames.specs.Report.{ending, lines_of, text_by}
-use Rattle.level_turns.specs.Turns.{AllTold}
+use Rattle.level_turns.specs.inner.Turns.{AllTold}
 
 module _ (conv : Converter) (frames clipped left : ℕ) (from from' held held' : Option (List ℕ)) (told : AllTold conv frames clipped left from from' held held') where
   pub all_printed : (held'' : Option (List ℕ)) → left < frame_length conv.channels → Appends held' held'' (ending left frames clipped)

@@ -21,12 +21,13 @@ use Rattle.reference.proofs.Refusals.{some_channel, few_channels}
 use Rattle.overs.specs.Overs.{none}
 use Rattle.overs_joins.proofs.Signal.{starts}
 use Rattle.text.specs.Text.{joined}
+use Rattle.text.specs.Lists.{part}
 use Rattle.level_input.proofs.Known.{consumes_more, appends_none, appends_more}
 use Rattle.levels.specs.Levels.{whole_input, FrameOf, InProgress, piece_lines}
 use Rattle.levels.proofs.Whole.{lines_same, states_same, clips_same}
 use Rattle.level_frames.specs.Report.{ending, left_over, all_clips, lines_of, text_by}
 use Rattle.level_frames.proofs.Printing.{joined_more}
-use Rattle.level_turns.specs.Turns.{part, Moment, here, told_frame, Turned, AllTold}
+use Rattle.level_turns.specs.inner.Turns.{Moment, here, told_frame, Turned, AllTold}
 
 -- the bytes that have come by a moment, where they lie in the buffer, the text that was passed on, and what is told of
 -- any input that begins with these bytes; where the frame at hand is not whole, that is the input

@@ -8,9 +8,9 @@ ghost use Rattle.reference.specs.Refusals.{accepted, decide, held_places};
 ghost use Rattle.overs.specs.Overs.{none};
 ghost use Rattle.levels.specs.Levels.{piece_lines};
 ghost use Rattle.level_frames.specs.Report.{lines_of, text_by};
-ghost use Rattle.level_frames.specs.Told.{OneLong};
-ghost use Rattle.level_turns.specs.Turns as hand;
-ghost use Rattle.level_turns.specs.Turns.{Told, Turned, AllTold, moment};
+ghost use Rattle.level_frames.specs.inner.Told.{OneLong};
+ghost use Rattle.level_turns.specs.inner.Turns as hand;
+ghost use Rattle.level_turns.specs.inner.Turns.{FrameTold, Turned, AllTold, moment};
 
 use level_frames::{FewChannels, Report};
 use level_input::{fill, move_on, write_first};
@@ -36,7 +36,7 @@ struct Window<'a> {
 
 // The frame in the middle of the three, under its number. Whether one comes after it shows only in what was read: the
 // buffer has its place all the same.
-#[tactic(auto, unfolding(crate::specs::Turns::at_hand))]
+#[tactic(auto, unfolding(crate::specs::inner::Turns::at_hand))]
 fn at_hand<'a>(number: u64, has_after: bool, size: usize, three: &'a [u8]) -> Run<'a>
     requires { length three.now ≡ 3 * size }
     ensures { run_of result ≡ hand.at_hand number has_after size three.now }
@@ -54,7 +54,7 @@ fn at_hand<'a>(number: u64, has_after: bool, size: usize, three: &'a [u8]) -> Ru
 fn tell<'a, W: Write>(report: &mut Report, number: u64, run: Run<'a>, to: &mut W) -> io::Result<()>
     requires one_long { OneLong (frame_length report.old.of.conv.channels) (run_of run) }
     requires few { (number < 100000000000000) × (report.old.clipped ≤ 28224 * number) }
-    ensures told { IfOk result (λ _. Told report.old.of.conv number (run_of run.entry) report.old.clipped report.old.states report.new.clipped report.new.states) }
+    ensures told { IfOk result (λ _. FrameTold report.old.of.conv number (run_of run.entry) report.old.clipped report.old.states report.new.clipped report.new.states) }
     ensures wrote { IfOk result (λ _. Appends (W.contents to.old) (W.contents to.new) (piece_lines report.old.of.conv number report.old.states (run_of run.entry))) }
     ensures few { IfOk result (λ _. (report.new.of ≡ report.old.of) × (report.new.clipped ≤ 28224 * (number + 1))) }
 {
@@ -73,7 +73,10 @@ impl<'a> Window<'a> {
     ) -> io::Result<()>
         requires whole { (self.old.size ≡ frame_length report.old.of.conv.channels) × (self.old.came.left ≡ self.old.size) }
         requires few { (self.old.came.frames < 100000000000000) × (report.old.clipped ≤ 28224 * self.old.came.frames) }
-        ensures turned { IfOk result (λ _. Turned report.old.of.conv self.old.size (moment self.old.came.frames report.old.clipped report.old.states self.old.came.left self.old.three.now) (moment self.new.came.frames report.new.clipped report.new.states self.new.came.left self.new.three.now) (R.remaining from.old) (R.remaining from.new) (W.contents to.old) (W.contents to.new)) }
+        ensures turned { IfOk result
+            (λ _. Turned report.old.of.conv self.old.size (moment self.old.came.frames report.old.clipped report.old.states self.old.came.left self.old.three.now)
+            (moment self.new.came.frames report.new.clipped report.new.states self.new.came.left self.new.three.now)
+            (R.remaining from.old) (R.remaining from.new) (W.contents to.old) (W.contents to.new)) }
         ensures same { IfOk result (λ _. (self.new.size ≡ self.old.size) × (report.new.of ≡ report.old.of) × (report.new.clipped ≤ 28224 * self.new.came.frames)) }
     {
         let size = self.size;
@@ -117,7 +120,9 @@ fn turns<R: Read, W: Write>(report: &mut Report, from: &mut R, to: &mut W) -> io
 // The report of the frames that a reader gives, one or two channels.
 pub fn report_frames<R: Read, W: Write>(conv: Converter, from: &mut R, to: &mut W) -> io::Result<()>
     requires { (decide (held_places conv) ≡ accepted) × (conv.channels ≤ 2) }
-    ensures { IfOk result (λ _. IfSome (R.remaining from.old) (λ input. length input < 100000000000000 * frame_length conv.channels → Appends (W.contents to.old) (W.contents to.new) (text_by conv input (lines_of conv input)))) }
+    ensures { IfOk result
+        (λ _. IfSome (R.remaining from.old) (λ input. length input < 100000000000000 * frame_length conv.channels
+        → Appends (W.contents to.old) (W.contents to.new) (text_by conv input (lines_of conv input)))) }
 {
     let of = FewChannels { conv };
     let mut report = Report {

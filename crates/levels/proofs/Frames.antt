@@ -13,7 +13,7 @@ use Rattle.reference.proofs.Statistics.{at_channel}
 use Rattle.reference.specs.declared.Converter.{Converter}
 use Rattle.reference.proofs.Frames.{some_samples, frame_samples}
 use Rattle.overs.specs.Overs.{Progress, overs_of}
-use Rattle.channel_levels.specs.Channels.{level_of}
+use Rattle.channel_levels.specs.inner.Channels.{level_of}
 use Rattle.levels.specs.Levels.{level}
 
 module _ (conv : Converter) (r : Run) (some : 0 < conv.channels) (few : conv.channels ≤ 6) (one : frame_count conv.channels r.frames ≡ 1) where

@@ -20,8 +20,9 @@ use Rattle.overs.specs.Overs.{Progress, none}
 use Rattle.text.specs.Text.{joined, Printed}
 use Rattle.text.proofs.Printing.{none_printed}
 use Rattle.level_lines.specs.Lines.{level_line}
-use Rattle.channel_levels.specs.Channels.{level_of}
-use Rattle.levels.specs.Levels.{lines_with, states_after, whole_input, InProgress, piece_lines, piece_states, told_length, told_clips, told_states, FrameReported}
+use Rattle.channel_levels.specs.inner.Channels.{level_of}
+use Rattle.levels.specs.Levels.{lines_with, states_after, whole_input, InProgress, piece_lines, piece_states}
+use Rattle.levels.specs.inner.Levels.{told_length, told_clips, told_states, FrameReported}
 use Rattle.levels.proofs.Frames.{in_all, level_is, clips_are, few_below}
 use Rattle.levels.proofs.Whole.{lines_same, states_same, clips_same}
 

@@ -1,5 +1,7 @@
 -- A frame with the frames read before and after it as neighbours tells what the whole input, as one run, tells of it.
-use Rattle.std.proofs.Common.{◌≡◌, ℕ, zero, suc, ◌+◌, ◌-◌, ◌*◌, ◌/◌, ◌<◌, ◌≤◌, List, ◌++◌, length, get_or, take, drop, replicate, ℤ, sym, refl, ap, ◌∙◌, ⊎_elim, one-mul, zero-add, zero-mul, div-mul-le_self, arith, length-drop, take-append-drop, length-take-le, le-ltb, lt-ltb}
+use Rattle.std.proofs.Common.{◌≡◌, ℕ, zero, suc, ◌+◌, ◌-◌, ◌*◌, ◌/◌, ◌<◌, ◌≤◌, List, ◌++◌, length, get_or, take}
+use Rattle.std.proofs.Common.{drop, replicate, ℤ, sym, refl, ap, ◌∙◌, ⊎_elim, one-mul, zero-add, zero-mul}
+use Rattle.std.proofs.Common.{div-mul-le_self, arith, length-drop, take-append-drop, length-take-le, le-ltb, lt-ltb}
 use native.Mathlib.Nat.{div_self}
 use lib.ListN.{length-replicate}
 use lib.Seq.{take-append-le, drop-append-le}
@@ -111,7 +113,8 @@ module _ (conv : Converter) (input : List ℕ) (f : ℕ) (piece : Run) (here : F
           let i : 4704 * suc (f + 1) + p ≡ 4704 * 1 + (4704 * N ch input + p) = omega (arith, here.inside) in
           rw (here.has_after, le-ltb (suc f) (N ch input) end)
           (sym (channel_frame ch c (sequence ch whole) (suc (f + 1)) p l h
-          ∙ rw i (channel_right ch c (absent ch input) (frames ch input ++ absent ch input) 1 (absent_long ch input) _ ∙ channel_right ch c (frames ch input) (absent ch input) (N ch input) (long ch input) p)))
+          ∙ rw i (channel_right ch c (absent ch input) (frames ch input ++ absent ch input) 1 (absent_long ch input) _
+          ∙ channel_right ch c (frames ch input) (absent ch input) (N ch input) (long ch input) p)))
 
   pub piece_of : PieceOf conv whole f 1 piece
   unfolding whole_input neighbour frame
@@ -168,7 +171,8 @@ module _ (conv : Converter) (input : List ℕ) (f : ℕ) (piece : Run) (here : F
   pub frame_channel : (c : ℕ) → c < ch → channel (samples conv piece) ch c ≡ tabulate (sample conv whole c) (f * per) per
   unfolding frame_count
   frame_channel c l =
-      let one : length piece.frames / frame_length ch * per ≡ per = rw (here.frames, frame_long ch input f here.inside, div_self {n = frame_length ch} (omega (arith, here.some_channel))) (one-mul per) in
+      let one : length piece.frames / frame_length ch * per ≡ per =
+      rw (here.frames, frame_long ch input f here.inside, div_self {n = frame_length ch} (omega (arith, here.some_channel))) (one-mul per) in
       run_channel conv piece c l
       ∙ ap (tabulate (sample conv piece c) 0) one
       ∙ tabulate_same (sample conv piece c) (sample conv whole c) 0 (f * per) per (λ k h. rw zero-add (sample_same c k l h))

@@ -8,8 +8,9 @@ ghost use Rattle.reference.specs.Statistics.{channel_of};
 ghost use Rattle.text.specs.Text.{joined, Printed};
 ghost use Rattle.level_lines.specs.Lines.{level_line};
 ghost use Rattle.overs.specs.Overs.{none};
-ghost use Rattle.channel_levels.specs.Channels.{level_of};
-ghost use Rattle.levels.specs.Levels.{Bounded, FrameReported, states_after};
+ghost use Rattle.channel_levels.specs.inner.Channels.{level_of};
+ghost use Rattle.levels.specs.Levels.{states_after};
+ghost use Rattle.levels.specs.inner.Levels.{Bounded, FrameReported};
 
 use channel_levels::level;
 use overs::Progress;

@@ -9,7 +9,8 @@ use borrow.Author.Tests.{ltb-true, ltb-false}
 use lib.Dec.{eqb, eqb-suc-zero}
 use lib.IntN.{ℤ, pos, negsuc}
 use lib.Signed.{lt_z}
-use Rattle.numbers.specs.Extremes.{lesser, greater, picked, extreme, extreme0, pick_unmarked}
+use Rattle.numbers.specs.Extremes.{lesser, greater, picked, extreme}
+use Rattle.numbers.specs.inner.Extremes.{extreme0, pick_unmarked}
 use Rattle.numbers.proofs.Integers.{pp, nn, zext}
 
 -- f from a on and g from b on agree at n places

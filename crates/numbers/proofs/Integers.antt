@@ -1,4 +1,5 @@
--- ℤ by its two parts in ℕ: z is pp z − nn z, and one of the two is 0. An equation or a bound in ℤ is one in ℕ, where `omega` reads it.
+-- ℤ by its two parts in ℕ: z is pp z − nn z, and one of the two is 0. An equation or a bound in ℤ is one in ℕ, where
+-- `omega` reads it.
 use mathlib.Core.Path.{◌≡◌, refl, sym, ◌∙◌, ap}
 use mathlib.Core.Bool.{Bool, true, false, cond, not}
 use Prim.Native.Nat.{ℕ, zero, suc, ◌+◌, ◌*◌, ◌-◌, ◌<◌, ◌≤◌, ◌^◌}
@@ -109,14 +110,30 @@ add_mul x y z = simp (*ℤ_comm (x +ℤ y) z, *ℤ_comm x z, *ℤ_comm y z, mul_
 pub *ℤ-assoc : (x y z : ℤ) → x *ℤ y *ℤ z ≡ x *ℤ (y *ℤ z)
 *ℤ-assoc x y z =
     zext _ _
-    (omega
-    (arith, mul_parts (x *ℤ y) z, mul_parts x (y *ℤ z), ap (λ (k : ℕ). k * pp z) (mul_parts x y), ap (λ (k : ℕ). k * nn z) (mul_parts x y), ap (λ (k : ℕ). pp x * k) (mul_parts y z), ap (λ (k : ℕ). nn x * k) (mul_parts y z)))
+    (omega (
+      arith,
+      mul_parts (x *ℤ y) z,
+      mul_parts x (y *ℤ z),
+      ap (λ (k : ℕ). k * pp z) (mul_parts x y),
+      ap (λ (k : ℕ). k * nn z) (mul_parts x y),
+      ap (λ (k : ℕ). pp x * k) (mul_parts y z),
+      ap (λ (k : ℕ). nn x * k) (mul_parts y z),
+    ))
 
 pub neg_mul : (x y : ℤ) → neg_ℤ x *ℤ y ≡ neg_ℤ (x *ℤ y)
 neg_mul x y =
     zext _ _
-    (omega
-    (arith, mul_parts (neg_ℤ x) y, mul_parts x y, pp_neg (x *ℤ y), nn_neg (x *ℤ y), ap (λ (k : ℕ). k * pp y) (pp_neg x), ap (λ (k : ℕ). k * pp y) (nn_neg x), ap (λ (k : ℕ). k * nn y) (pp_neg x), ap (λ (k : ℕ). k * nn y) (nn_neg x)))
+    (omega (
+      arith,
+      mul_parts (neg_ℤ x) y,
+      mul_parts x y,
+      pp_neg (x *ℤ y),
+      nn_neg (x *ℤ y),
+      ap (λ (k : ℕ). k * pp y) (pp_neg x),
+      ap (λ (k : ℕ). k * pp y) (nn_neg x),
+      ap (λ (k : ℕ). k * nn y) (pp_neg x),
+      ap (λ (k : ℕ). k * nn y) (nn_neg x),
+    ))
 
 -- sums sorted alike on both sides
 pub ruleset sums = (+ℤ_assoc, +ℤ_comm, +ℤ-left-comm, mul_add)

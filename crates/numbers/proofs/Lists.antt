@@ -1,4 +1,5 @@
--- Laws of `tabulate` and `total`: equal stretches, stretches joined, the element at a place; and of a list that is filled from a place on.
+-- Laws of `tabulate` and `total`: equal stretches, stretches joined, the element at a place; and of a list that is
+-- filled from a place on.
 use mathlib.Core.Path.{◌≡◌, refl, ap₂, sym, ◌∙◌}
 use mathlib.Core.List.{List, [], ◌∷◌, ◌++◌, append_assoc, append-nil}
 use mathlib.Core.Bool.{Bool, true, false, cond, not}
@@ -9,7 +10,8 @@ use native.Mathlib.Omega.{arith}
 use lib.Dec.{T, leb, leb→le, nleb→lt}
 use lib.ListN.{length, get_or, set, length-set, length-append, get_or-append, replicate, length-replicate, get_or-replicate}
 use lib.Seq.{get_or_at, ext_get_or, get_or-set_same, get_or-set_other}
-use Rattle.numbers.specs.Lists.{tabulate, total, count, Held, Wrote}
+use Rattle.numbers.specs.Lists.{tabulate, total, count}
+use Rattle.numbers.specs.inner.Lists.{Held, Wrote}
 
 -- the k-th stretch of so many is within n of them
 pub part_end : (k n size : ℕ) → k < n → k * size + size ≤ n * size

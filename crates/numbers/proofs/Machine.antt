@@ -1,4 +1,5 @@
--- One operation of an i64 on values that fit, over ℤ, by the sizes. `t z` is z, read back from its bits, as a local holds it.
+-- One operation of an i64 on values that fit, over ℤ, by the sizes. `t z` is z, read back from its bits, as a local
+-- holds it.
 use mathlib.Core.Path.{◌≡◌, ◌∙◌, ap₂}
 use Prim.Native.Nat.{ℕ, ◌+◌, ◌<◌, ◌^◌}
 use native.Mathlib.Omega.{arith}

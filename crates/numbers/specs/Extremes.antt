@@ -1,5 +1,5 @@
 -- The lesser and the greater of two whole numbers, and the least and the greatest of many.
-use Rattle.std.specs.Prelude.{Bool, true, false, cond, ℕ, zero, suc, ◌+◌, ℤ, pos}
+use Rattle.std.specs.Prelude.{cond, ℕ, zero, suc, ◌+◌, ℤ}
 use Rattle.std.specs.Int.Signed.{lt_z}
 
 unfoldable pub lesser : ℤ → ℤ → ℤ
@@ -8,7 +8,7 @@ lesser x y = cond (lt_z y x) y x
 unfoldable pub greater : ℤ → ℤ → ℤ
 greater x y = cond (lt_z x y) y x
 
--- what is picked of `start`, f a, …, f (a + n - 1), one after the other: the least by `lesser`, the greatest by `greater`
+-- what is picked of `start`, f a, …, f (a + n - 1) in turn: the least by `lesser`, the greatest by `greater`
 unfoldable pub picked : (ℤ → ℤ → ℤ) → ℤ → (ℕ → ℤ) → ℕ → ℕ → ℤ
 picked pick start f a zero = start
 picked pick start f a (suc n) = pick (picked pick start f a n) (f (a + n))
@@ -16,15 +16,3 @@ picked pick start f a (suc n) = pick (picked pick start f a n) (f (a + n))
 -- what is picked of f a, …, f (a + n - 1); of no numbers, f a
 abbrev pub extreme : (ℤ → ℤ → ℤ) → (ℕ → ℤ) → ℕ → ℕ → ℤ
 extreme pick f a n = picked pick (f a) f a n
-
--- and 0 of no numbers
-unfoldable pub extreme0 : (ℤ → ℤ → ℤ) → (ℕ → ℤ) → ℕ → ℕ → ℤ
-extreme0 pick f a zero = pos 0
-extreme0 pick f a (suc n) = extreme pick f a (suc n)
-
--- what is picked of two numbers, of which a marked one does not count; 0 where both are marked
-unfoldable pub pick_unmarked : (ℤ → ℤ → ℤ) → Bool → ℤ → Bool → ℤ → ℤ
-pick_unmarked pick true x true y = pos 0
-pick_unmarked pick true x false y = y
-pick_unmarked pick false x true y = x
-pick_unmarked pick false x false y = pick x y

@@ -1,5 +1,5 @@
 pub mod Sums
 pub mod Lists
-pub mod Parts
 pub mod Extremes
 pub mod Tests
+pub mod inner

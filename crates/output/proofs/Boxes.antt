@@ -13,11 +13,12 @@ use mir.Val.{SFits, to_z, of_z}
 use mir.Facts.{to_z-of_z}
 use lib.Seq.{get_or-set_same, get_or-set_other}
 use lib.ListN.{length, get_or, set, length-set}
-use Rattle.numbers.specs.Lists.{tabulate, Held}
+use Rattle.numbers.specs.Lists.{tabulate}
+use Rattle.numbers.specs.inner.Lists.{Held}
 use native.Mathlib.Nat.{mul_comm, mul-le-mul_left}
 use Rattle.numbers.proofs.Lists.{below_or, is_tabulate, get_d_tabulate, length_tabulate}
 use Rattle.reference.specs.Output.{low24, s24le}
-use Rattle.output.specs.Fills.{Fills, Layout, items, bytes, third, Put, place_of, Drawn, Room, written}
+use Rattle.output.specs.inner.Fills.{Fills, Layout, items, byte_layout, third, Put, place_of, Drawn, Room, written}
 
 same_or : (a b : ℕ) → (a ≡ b) ⊎ (a ≡ b → ⊥)
 same_or a b = ⊎_elim (λ l. inr (λ e. omega arith)) (λ m. ⊎_elim (λ e. inl (sym e)) (λ l. inr (λ e. omega arith)) (eq-or-lt_of_le m)) (below_or a b)
@@ -107,7 +108,7 @@ module _ (v : ℤ) (fits : SFits w32 v) where
   three_bits = (omega (arith, low), omega (arith, low), omega (arith, low))
 
 -- the three bytes of a sample, set one by one
-pub three_bytes : (x : List ℕ) (k : ℕ) (v : ℤ) → 3 * k + 3 ≤ length x → Put bytes k v x (set (set (set x (3 * k) (third v 0)) (3 * k + 1) (third v 1)) (3 * k + 2) (third v 2))
+pub three_bytes : (x : List ℕ) (k : ℕ) (v : ℤ) → 3 * k + 3 ≤ length x → Put byte_layout k v x (set (set (set x (3 * k) (third v 0)) (3 * k + 1) (third v 1)) (3 * k + 2) (third v 2))
 three_bytes x k v room =
     record {
       same = simp length-set;
@@ -124,7 +125,8 @@ three_bytes x k v room =
     at : (b : ℕ) → b < 3 → get_or (set z (3 * k + 2) (third v 2)) (3 * k + b) 0 ≡ third v b
     at zero l =
         let e : 3 * k + 0 ≡ 3 * k = omega arith in
-        rw e (get_or-set_other z (3 * k + 2) (3 * k) (third v 2) 0 (omega arith) ∙ get_or-set_other y (3 * k + 1) (3 * k) (third v 1) 0 (omega arith) ∙ get_or-set_same x (3 * k) (third v 0) 0 (omega arith))
+        rw e (get_or-set_other z (3 * k + 2) (3 * k) (third v 2) 0 (omega arith)
+        ∙ get_or-set_other y (3 * k + 1) (3 * k) (third v 1) 0 (omega arith) ∙ get_or-set_same x (3 * k) (third v 0) 0 (omega arith))
     at (suc zero) l = get_or-set_other z (3 * k + 2) (3 * k + 1) (third v 2) 0 (omega arith) ∙ get_or-set_same y (3 * k + 1) (third v 1) 0 (simp length-set (omega arith))
     at (suc (suc zero)) l = get_or-set_same z (3 * k + 2) (third v 2) 0 (simp length-set (omega arith))
     at (suc (suc (suc b))) l = absurd (omega arith)
@@ -143,20 +145,20 @@ written_items zs =
     let z : (0 + i) / 1 ≡ i = omega arith in
     rw z refl)))
 
-pub written_bytes : (zs : List ℤ) → written bytes zs ≡ s24le zs
+pub written_bytes : (zs : List ℤ) → written byte_layout zs ≡ s24le zs
 unfolding written s24le third
 written_bytes zs = refl
 
 -- one channel of bytes is the samples packed
 pub packed_is : (zs : List ℤ) (n : ℕ) {x y : List ℕ} → length zs ≡ n → length x ≡ 3 * n
-    → ((S : ℕ → ℕ → ℤ) → Held (pos 0) (S 0) 0 (length zs) zs → Drawn bytes S 1 0 (0 + length zs) 0 (0 + 1) x y) → y ≡ s24le zs
+    → ((S : ℕ → ℕ → ℤ) → Held (pos 0) (S 0) 0 (length zs) zs → Drawn byte_layout S 1 0 (0 + length zs) 0 (0 + 1) x y) → y ≡ s24le zs
 packed_is zs n {x} {y} e room h =
     let S = λ (c i : ℕ). get_or zs i (pos 0) in
     let drawn = h S (record { is = λ k l. let z : 0 + k ≡ k = omega arith in rw z refl }) in
     let size : length x ≡ 3 * ((0 + length zs) * 1) = omega arith in
     let whole : (0 + length zs) * 1 ≡ length zs = omega arith in
-    all_samples bytes (omega arith) S (omega arith) size drawn
-    ∙ ap (written bytes) (rw whole (sym (is_tabulate (λ i. S (i % 1) (i / 1)) 0 (length zs) (pos 0) zs refl (λ i l.
+    all_samples byte_layout (omega arith) S (omega arith) size drawn
+    ∙ ap (written byte_layout) (rw whole (sym (is_tabulate (λ i. S (i % 1) (i / 1)) 0 (length zs) (pos 0) zs refl (λ i l.
     let z : (0 + i) / 1 ≡ i = omega arith in
     rw z refl))))
     ∙ written_bytes zs

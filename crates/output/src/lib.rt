@@ -2,10 +2,10 @@
 #![tactic(auto)]
 
 ghost use Rattle.std.specs.Prelude.{◌≡◌, ℕ, ◌+◌, ◌*◌, ◌≤◌, ◌<◌, ℤ, pos, length};
-ghost use Rattle.numbers.specs.Lists.{Held};
+ghost use Rattle.numbers.specs.inner.Lists.{Held};
 ghost use Rattle.reference.specs.Output.{low24};
 ghost use Rattle.reference.specs.Promises.{PackPromise};
-ghost use Rattle.output.specs.Fills.{Layout, items, bytes, Put, Drawn};
+ghost use Rattle.output.specs.inner.Fills.{Layout, items, byte_layout, Put, Drawn};
 ghost use Rattle.std.proofs.Common.{rules};
 
 // What an output is a list of: 32-bit numbers, of which a sample takes one, or bytes, of which it takes three.
@@ -32,7 +32,7 @@ impl Place for i32 {
 
 // The low 24 bits, least first.
 impl Place for u8 {
-    ghost layout = { bytes };
+    ghost layout = { byte_layout };
 
     ghost some = { Prim.search rules };
 

@@ -133,7 +133,8 @@ module _ (conv : Converter) where
   all_length (call ∷ calls) = go (is_answered_accepted call) refl (all_length calls)
     where
       go : (b : Bool) → is_answered_accepted call ≡ b → length (flat_map samples_of (keep is_answered_accepted calls)) ≡ frames_in calls * per * ch
-          → length (flat_map samples_of (cond b (call ∷ keep is_answered_accepted calls) (keep is_answered_accepted calls))) ≡ (cond b (frame_count ch (run_of call).frames) 0 + frames_in calls) * per * ch
+          → length (flat_map samples_of (cond b (call ∷ keep is_answered_accepted calls) (keep is_answered_accepted calls)))
+          ≡ (cond b (frame_count ch (run_of call).frames) 0 + frames_in calls) * per * ch
       go true e h =
           length-append (samples_of call) (flat_map samples_of (keep is_answered_accepted calls)) ∙ omega (arith, gave_length call e)
       go false e h = h ∙ rw (zero-add (frames_in calls))
@@ -154,7 +155,8 @@ module _ (conv : Converter) where
     end_to_end (call ∷ calls) = go (is_answered_accepted call) refl (end_to_end calls)
       where
         go : (b : Bool) → is_answered_accepted call ≡ b → flat_map (call_samples c) calls ≡ channel (flat_map samples_of (keep is_answered_accepted calls)) ch c
-            → cond b (channel (samples_of call) ch c) [] ++ flat_map (call_samples c) calls ≡ channel (flat_map samples_of (cond b (call ∷ keep is_answered_accepted calls) (keep is_answered_accepted calls))) ch c
+            → cond b (channel (samples_of call) ch c) [] ++ flat_map (call_samples c) calls
+            ≡ channel (flat_map samples_of (cond b (call ∷ keep is_answered_accepted calls) (keep is_answered_accepted calls))) ch c
         go true e h =
             rw h (sym (channel_append ch c inside (samples_of call) _ (frame_count ch (run_of call).frames * per) (frames_in calls * per) (gave_length call e) (all_length calls)))
         go false e h = h
@@ -232,7 +234,8 @@ pub refused_call : {conv : Converter} (call : Call conv) → is_answered_accepte
 unfolding call_frames
 refused_call call e = rw e
 
--- a frame's items hold the frame's samples of the channel: what `overs` is given frame by frame is what `by_frames` counts
+-- a frame's items hold the frame's samples of the channel: what `overs` is given frame by frame is what `by_frames`
+-- counts
 pub frame_channel : (n c : ℕ) → c < n → (items : List ℤ) (per m f : ℕ) → length items ≡ m * per * n → f < m
     → channel (take (per * n) (drop (f * per * n) items)) n c ≡ take per (drop (f * per) (channel items n c))
 frame_channel n c l items per m f e h =

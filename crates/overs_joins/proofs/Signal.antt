@@ -1,4 +1,5 @@
--- A stretch counted from what is in progress before it gives the overs that the signal has there, and what is in progress after it.
+-- A stretch counted from what is in progress before it gives the overs that the signal has there, and what is in
+-- progress after it.
 use mathlib.Core.Path.{◌≡◌, refl, ap, sym, ◌∙◌}
 use mathlib.Core.List.{List}
 use mathlib.Core.Bool.{Bool, true, false, cond, not, ◌&&◌, or-false, and-false}

@@ -24,12 +24,14 @@ module _ {conv : Converter} where
   unfoldable pub call_frames : Call conv → ℕ
   call_frames call = cond (is_answered_accepted call) (frame_count conv.channels (run_of call).frames) 0
 
-  -- overs of channel c by frame, of all calls end to end: each starts with what is in progress at the end of the one before
+  -- overs of channel c by frame, of all calls end to end: each starts with what is in progress at the end of the one
+  -- before
   unfoldable pub calls_overs : ℕ → Progress → List (Call conv) → List ℕ
   calls_overs c p [] = []
   calls_overs c p (call ∷ calls) = by_frames (samples_per_frame conv.rate) p (call_samples c call) ++ calls_overs c (after p (call_samples c call)) calls
 
-  -- as the uncut run has them, the first call after a frames: what each call starts with and the last ends with, and each call's overs
+  -- as the uncut run has them, the first call after a frames: what each call starts with and the last ends with, and
+  -- each call's overs
   abbrev pub AsUncut : Run → ℕ → ℕ → Progress → List (Call conv) → Type 0
   AsUncut r c a p [] = p ≡ in_progress (sample conv r c) (a * samples_per_frame conv.rate)
   AsUncut r c a p (call ∷ calls) =

@@ -8,7 +8,7 @@ pub extern "C" fn puigneht_dsf_read_call(
     header: &mut [u64; 5],
     data: &mut [u64; 2],
 ) -> u8
-    ensures { dsf.ReadCall file.now header.old header.new «data».new result }
+    ensures { dsf.DsfReadCall file.now header.old header.new «data».new result }
 {
     c_dsf::read(file, header, data)
 }
@@ -84,7 +84,7 @@ pub extern "C" fn puigneht_dsf_write_call(
     out: &mut [u8],
     data: &mut [u64; 2],
 ) -> u8
-    ensures { dsf.WriteCall channels frames.now out.old out.new «data».new result }
+    ensures { dsf.DsfWriteCall channels frames.now out.old out.new «data».new result }
 {
     c_dsf::write(channels, frames, out, data)
 }

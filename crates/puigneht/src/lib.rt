@@ -3,13 +3,13 @@
 #![tactic(auto)]
 
 ghost use Rattle.reference.specs.Promises.{PackPromise};
-ghost use Rattle.c_converter.specs.Blocks.{block, input};
+ghost use Rattle.c_converter.specs.Blocks.{converter_lists, input};
 ghost use Rattle.c_stats.specs.Conversions.{results};
 ghost use Rattle.c_calls.specs.Calls.{c_wanted, GainCall, OpenCall, ChangeCall, SamplesCall, BytesCall};
-ghost use Rattle.c_calls.specs.declared.conversions.Samples.TheVariants as samples_of;
-ghost use Rattle.c_calls.specs.declared.conversions.Bytes.TheVariants as bytes_of;
+ghost use Rattle.c_calls.specs.declared.conversions.ToSamples.TheVariants as samples_of;
+ghost use Rattle.c_calls.specs.declared.conversions.ToBytes.TheVariants as bytes_of;
 
-use c_calls::{Bytes, Samples, convert_bytes, convert_samples};
+use c_calls::{ToBytes, ToSamples, convert_bytes, convert_samples};
 use c_converter::{Blocks, Input};
 
 mod dsf_files;
@@ -46,7 +46,7 @@ pub extern "C" fn puigneht_open_call(
     data: &mut [u64; 2],
     decibels: &mut [f64; 1],
 ) -> u8
-    ensures { OpenCall (block numbers.old gain.now taps.now) numbers.new «data».old «data».new decibels.old decibels.new result }
+    ensures { OpenCall (converter_lists numbers.old gain.now taps.now) numbers.new «data».old «data».new decibels.old decibels.new result }
 {
     c_calls::open(numbers, gain, taps, data, decibels)
 }
@@ -63,7 +63,7 @@ pub extern "C" fn puigneht_change_call(
     data: &mut [u64; 2],
     decibels: &mut [f64; 1],
 ) -> u8
-    ensures { ChangeCall (block numbers.old gain.old taps.now) (c_wanted rate cutoff wanted.now) numbers.new gain.new «data».old «data».new decibels.old decibels.new result }
+    ensures { ChangeCall (converter_lists numbers.old gain.old taps.now) (c_wanted rate cutoff wanted.now) numbers.new gain.new «data».old «data».new decibels.old decibels.new result }
 {
     c_calls::change(numbers, gain, taps, rate, cutoff, wanted, data, decibels)
 }
@@ -83,7 +83,8 @@ pub extern "C" fn puigneht_convert_run_call<'a>(
     data: &mut [u64; 2],
     decibels: &mut [f64; 1],
 ) -> u8
-    ensures { SamplesCall samples_of.Run (block numbers.now gain.now taps.now) (input presence before.now frames.now after.now) out.old out.new (results stats.old «data».old decibels.old) (results stats.new «data».new decibels.new) result }
+    ensures { SamplesCall samples_of.Run (converter_lists numbers.now gain.now taps.now) (input presence before.now frames.now after.now)
+        out.old out.new (results stats.old «data».old decibels.old) (results stats.new «data».new decibels.new) result }
 {
     let blocks = Blocks {
         numbers,
@@ -96,7 +97,7 @@ pub extern "C" fn puigneht_convert_run_call<'a>(
         frames,
         after,
     };
-    convert_samples(Samples::Run, blocks, input, out, stats, data, decibels)
+    convert_samples(ToSamples::Run, blocks, input, out, stats, data, decibels)
 }
 
 // 32-bit samples of exactly one frame.
@@ -114,7 +115,8 @@ pub extern "C" fn puigneht_convert_frame_call<'a>(
     data: &mut [u64; 2],
     decibels: &mut [f64; 1],
 ) -> u8
-    ensures { SamplesCall samples_of.Frame (block numbers.now gain.now taps.now) (input presence before.now frames.now after.now) out.old out.new (results stats.old «data».old decibels.old) (results stats.new «data».new decibels.new) result }
+    ensures { SamplesCall samples_of.Frame (converter_lists numbers.now gain.now taps.now) (input presence before.now frames.now after.now)
+        out.old out.new (results stats.old «data».old decibels.old) (results stats.new «data».new decibels.new) result }
 {
     let blocks = Blocks {
         numbers,
@@ -127,7 +129,7 @@ pub extern "C" fn puigneht_convert_frame_call<'a>(
         frames,
         after,
     };
-    convert_samples(Samples::Frame, blocks, input, out, stats, data, decibels)
+    convert_samples(ToSamples::Frame, blocks, input, out, stats, data, decibels)
 }
 
 // Samples of a run, three bytes each.
@@ -146,7 +148,8 @@ pub extern "C" fn puigneht_convert_call<'a>(
     data: &mut [u64; 2],
     decibels: &mut [f64; 1],
 ) -> u8
-    ensures { BytesCall bytes_of.Rack (block numbers.now gain.now taps.now) (input presence before.now frames.now after.now) out.old counts.old out.new counts.new (results stats.old «data».old decibels.old) (results stats.new «data».new decibels.new) result }
+    ensures { BytesCall bytes_of.Rack (converter_lists numbers.now gain.now taps.now) (input presence before.now frames.now after.now)
+        out.old counts.old out.new counts.new (results stats.old «data».old decibels.old) (results stats.new «data».new decibels.new) result }
 {
     let blocks = Blocks {
         numbers,
@@ -160,7 +163,7 @@ pub extern "C" fn puigneht_convert_call<'a>(
         after,
     };
     convert_bytes(
-        Bytes::Rack,
+        ToBytes::Rack,
         blocks,
         input,
         out,
@@ -187,7 +190,8 @@ pub extern "C" fn puigneht_convert_desk_call<'a>(
     data: &mut [u64; 2],
     decibels: &mut [f64; 1],
 ) -> u8
-    ensures { BytesCall bytes_of.Desk (block numbers.now gain.now taps.now) (input presence before.now frames.now after.now) out.old counts.old out.new counts.new (results stats.old «data».old decibels.old) (results stats.new «data».new decibels.new) result }
+    ensures { BytesCall bytes_of.Desk (converter_lists numbers.now gain.now taps.now) (input presence before.now frames.now after.now)
+        out.old counts.old out.new counts.new (results stats.old «data».old decibels.old) (results stats.new «data».new decibels.new) result }
 {
     let blocks = Blocks {
         numbers,
@@ -201,7 +205,7 @@ pub extern "C" fn puigneht_convert_desk_call<'a>(
         after,
     };
     convert_bytes(
-        Bytes::Desk,
+        ToBytes::Desk,
         blocks,
         input,
         out,
@@ -228,7 +232,8 @@ pub extern "C" fn puigneht_wav_convert_call<'a>(
     data: &mut [u64; 2],
     decibels: &mut [f64; 1],
 ) -> u8
-    ensures { BytesCall bytes_of.Wav (block numbers.now gain.now taps.now) (input presence before.now frames.now after.now) out.old counts.old out.new counts.new (results stats.old «data».old decibels.old) (results stats.new «data».new decibels.new) result }
+    ensures { BytesCall bytes_of.Wav (converter_lists numbers.now gain.now taps.now) (input presence before.now frames.now after.now)
+        out.old counts.old out.new counts.new (results stats.old «data».old decibels.old) (results stats.new «data».new decibels.new) result }
 {
     let blocks = Blocks {
         numbers,
@@ -242,7 +247,7 @@ pub extern "C" fn puigneht_wav_convert_call<'a>(
         after,
     };
     convert_bytes(
-        Bytes::Wav,
+        ToBytes::Wav,
         blocks,
         input,
         out,

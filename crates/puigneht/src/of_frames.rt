@@ -1,5 +1,5 @@
 // The level report's lines.
-ghost use Rattle.c_converter.specs.Blocks.{block, input};
+ghost use Rattle.c_converter.specs.Blocks.{converter_lists, input};
 ghost use Rattle.c_levels.specs.Calls.{lent, LevelsCall, LastLineCall};
 
 use c_converter::{Blocks, Input};
@@ -22,7 +22,8 @@ pub extern "C" fn puigneht_frame_levels_call<'a>(
     data: &mut [u64; 2],
     decibels: &mut [f64; 1],
 ) -> u8
-    ensures { LevelsCall (block numbers.now gain.now taps.now) (input presence before.now frames.now after.now) frame (lent standings.old samples.old lines.old told.old «data».old decibels.old) (lent standings.new samples.new lines.new told.new «data».new decibels.new) result }
+    ensures { LevelsCall (converter_lists numbers.now gain.now taps.now) (input presence before.now frames.now after.now) frame
+        (lent standings.old samples.old lines.old told.old «data».old decibels.old) (lent standings.new samples.new lines.new told.new «data».new decibels.new) result }
 {
     let blocks = Blocks {
         numbers,

@@ -4,7 +4,7 @@ ghost use Rattle.c_wav.specs.Calls as wav;
 // Rate, channels, and where the sample bytes of a file are and how many.
 #[unsafe(no_mangle)]
 pub extern "C" fn puigneht_wav_read_call(file: &[u8], told: &mut [u64; 4]) -> u8
-    ensures { wav.ReadCall file.now told.old told.new result }
+    ensures { wav.WavReadCall file.now told.old told.new result }
 {
     c_wav::read(file, told)
 }
@@ -18,7 +18,7 @@ pub extern "C" fn puigneht_wav_write_call(
     out: &mut [u8],
     data: &mut [u64; 2],
 ) -> u8
-    ensures { wav.WriteCall rate channels bytes.now out.old out.new «data».new result }
+    ensures { wav.WavWriteCall rate channels bytes.now out.old out.new «data».new result }
 {
     c_wav::write(rate, channels, bytes, out, data)
 }
@@ -31,7 +31,7 @@ pub extern "C" fn puigneht_wav_header_call(
     bytes: u64,
     out: &mut [u8; 44],
 ) -> u8
-    ensures { wav.HeaderCall rate channels bytes out.old out.new result }
+    ensures { wav.WavHeaderCall rate channels bytes out.old out.new result }
 {
     c_wav::header(rate, channels, bytes, out)
 }

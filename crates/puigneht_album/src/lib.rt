@@ -2,12 +2,12 @@
 // of its arguments. Numbers and lists come one by one, as C has them.
 #![tactic(auto)]
 
-ghost use Rattle.c_converter.specs.Blocks.{block};
+ghost use Rattle.c_converter.specs.Blocks.{converter_lists};
 ghost use Rattle.c_stats.specs.Conversions.{results};
 ghost use Rattle.c_tracks.specs.Asked.{asked};
-ghost use Rattle.c_tracks.specs.Calls.{outputs, OpenCall, PartCall, PieceCall, WritesCall};
+ghost use Rattle.c_tracks.specs.Calls.{outputs, OpenAlbumCall, PartCall, PieceCall, WritesCall};
 ghost use Rattle.c_tracks.specs.Steps.{lists, FramesCall, StepCall};
-ghost use Rattle.c_wave.specs.Calls.{HeaderCall};
+ghost use Rattle.c_wave.specs.Calls.{KindHeaderCall};
 
 use c_tracks::Asked;
 use tracks_open::Tracks;
@@ -26,7 +26,8 @@ pub extern "C" fn puigneht_album_open_call<'a>(
     data: &mut [u64; 2],
     decibels: &mut [f64; 1],
 ) -> u8
-    ensures { OpenCall (asked (block numbers.now gain.now taps.now) heads.now lengths.now) (outputs album.old marks.old track.old «data».old decibels.old) (outputs album.new marks.new track.new «data».new decibels.new) result }
+    ensures { OpenAlbumCall (asked (converter_lists numbers.now gain.now taps.now) heads.now lengths.now)
+        (outputs album.old marks.old track.old «data».old decibels.old) (outputs album.new marks.new track.new «data».new decibels.new) result }
 {
     let asked = Asked {
         numbers,
@@ -49,7 +50,7 @@ pub extern "C" fn puigneht_album_piece_call<'a>(
     plan: &mut [u64; 6],
     reads: &mut [u64],
 ) -> u8
-    ensures { PieceCall (asked (block numbers.now gain.now taps.now) heads.now lengths.now) piece plan.old plan.new reads.old reads.new result }
+    ensures { PieceCall (asked (converter_lists numbers.now gain.now taps.now) heads.now lengths.now) piece plan.old plan.new reads.old reads.new result }
 {
     let asked = Asked {
         numbers,
@@ -96,7 +97,8 @@ pub extern "C" fn puigneht_album_frames_call<'a>(
     data: &mut [u64; 2],
     decibels: &mut [f64; 1],
 ) -> u8
-    ensures { FramesCall (asked (block numbers.now gain.now taps.now) heads.now lengths.now) first count windows.now scratch.old scratch.new «data».old «data».new decibels.old decibels.new result }
+    ensures { FramesCall (asked (converter_lists numbers.now gain.now taps.now) heads.now lengths.now)
+        first count windows.now scratch.old scratch.new «data».old «data».new decibels.old decibels.new result }
 {
     let asked = Asked {
         numbers,
@@ -124,7 +126,8 @@ pub extern "C" fn puigneht_album_step_call<'a>(
     data: &mut [u64; 2],
     decibels: &mut [f64; 1],
 ) -> u8
-    ensures { StepCall (asked (block numbers.now gain.now taps.now) heads.now lengths.now) first count windows.now (lists scratch.old out.old) (lists scratch.new out.new) (results stats.old «data».old decibels.old) (results stats.new «data».new decibels.new) result }
+    ensures { StepCall (asked (converter_lists numbers.now gain.now taps.now) heads.now lengths.now) first count windows.now
+        (lists scratch.old out.old) (lists scratch.new out.new) (results stats.old «data».old decibels.old) (results stats.new «data».new decibels.new) result }
 {
     let asked = Asked {
         numbers,
@@ -148,7 +151,7 @@ pub extern "C" fn puigneht_wave_header_call(
     out: &mut [u8; 104],
     told: &mut [u64; 2],
 ) -> u8
-    ensures { HeaderCall format rate channels «channel_type» bytes out.old out.new told.old told.new result }
+    ensures { KindHeaderCall format rate channels «channel_type» bytes out.old out.new told.old told.new result }
 {
     c_wave::header(format, rate, channels, channel_type, bytes, out, told)
 }

@@ -1,4 +1,5 @@
--- The built-in filter: its taps are F40, and it passes its places; the places of a filter record past its number of taps are free.
+-- The built-in filter: its taps are F40, and it passes its places; the places of a filter record past its number of
+-- taps are free.
 use mathlib.Core.Path.{◌≡◌, refl, ap, ap₂, sym, ◌∙◌}
 use mathlib.Core.List.{List, [], ◌∷◌}
 use mathlib.Core.Bool.{not, ◌&&◌}

@@ -1,4 +1,5 @@
--- A limit of frames that a run keeps does not show: the calls under two limits decide alike, so up to 8 frames the desk's entry gives what the rack's does.
+-- A limit of frames that a run keeps does not show: the calls under two limits decide alike, so up to 8 frames the
+-- desk's entry gives what the rack's does.
 use mathlib.Core.Path.{◌≡◌, ap, sym, ◌∙◌}
 use mathlib.Core.List.{List, [], ◌∷◌, ◌++◌}
 use mathlib.Core.Bool.{Bool, false, cond}

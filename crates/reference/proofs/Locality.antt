@@ -1,4 +1,5 @@
--- A stage's values depend only on the bytes near them: where two signals agree on a stretch, so do their values, less the stage's margin.
+-- A stage's values depend only on the bytes near them: where two signals agree on a stretch, so do their values, less
+-- the stage's margin.
 use mathlib.Core.Path.{◌≡◌, refl, ap}
 use mathlib.Core.List.{List}
 use Prim.Native.Nat.{ℕ, ◌+◌, ◌-◌, ◌*◌, ◌/◌, ◌%◌, ◌≤◌, ◌<◌}

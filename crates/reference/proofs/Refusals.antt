@@ -12,7 +12,8 @@ use Rattle.reference.specs.Frames.{Run, idle, frame_length, frame_count, neighbo
 use Rattle.reference.specs.Scaling.{right_gain}
 use Rattle.reference.specs.Output.{samples_per_frame}
 use Rattle.reference.specs.Settings.{filter_of, held_settings, reach_of, true_numbers}
-use Rattle.reference.specs.Refusals.{Datum, accepted, refused, error_decision, is_accepted, Place, decide, unsupported, filter_places, opening_places, held_places, run_length, most, too_many, one_long, if_present, input_places}
+use Rattle.reference.specs.Refusals.{Datum, accepted, refused, error_decision, is_accepted, Place, decide, unsupported, filter_places}
+use Rattle.reference.specs.Refusals.{opening_places, held_places, run_length, most, too_many, one_long, if_present, input_places}
 use Rattle.reference.specs.declared.Converter.{Converter}
 use Rattle.reference.specs.declared.Limit.{Limit}
 use Rattle.reference.specs.declared.Limit.TheVariants as limit

@@ -11,7 +11,7 @@ use Rattle.numbers.specs.Sums.{apart}
 use Rattle.numbers.specs.Lists.{total}
 use Rattle.numbers.proofs.Integers.{abs_add}
 use Rattle.numbers.proofs.Sums.{sum_size}
-use Rattle.reference.specs.Sizes.{absolute_sum}
+use Rattle.reference.specs.inner.Sizes.{absolute_sum}
 use Rattle.reference.specs.Taps.{S1, S1_WIDE, HB, F40, F30, F80}
 use Rattle.reference.specs.Stages.{tap, M, fir, bit, sign, x, u, v, w, between, y_narrow, y_wide}
 use Rattle.reference.specs.declared.PcmRate.{PcmRate}

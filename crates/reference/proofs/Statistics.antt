@@ -10,7 +10,8 @@ use lib.Seq.{take-suc}
 use Rattle.std.specs.List.{sum_by}
 use Rattle.std.proofs.lemmas.List.Sums.{sum_by-append}
 use mathlib.Core.List.{List, [], ◌∷◌}
-use Rattle.numbers.specs.Extremes.{lesser, greater, extreme, extreme0, pick_unmarked}
+use Rattle.numbers.specs.Extremes.{lesser, greater, extreme}
+use Rattle.numbers.specs.inner.Extremes.{extreme0, pick_unmarked}
 use Rattle.numbers.specs.Lists.{tabulate, total}
 use Rattle.numbers.proofs.Extremes.{Best, least_best, greatest_best, extreme_same, extreme0_join}
 use Rattle.numbers.proofs.Lists.{get_d_tabulate}

@@ -27,7 +27,8 @@ with_wanted s w = record { rate = w.rate; cutoff = w.cutoff; channels = s.channe
 unfoldable pub change_places : Converter → Change → List Place
 change_places conv w = held_places conv ++ wanted_places w.rate w.cutoff w.gain
 
--- accepted, a change gives what opening gives for the wanted settings, the held channels and the held filter; refused, the record as held
+-- accepted, a change gives what opening gives for the wanted settings, the held channels and the held filter; refused,
+-- the record as held
 unfoldable pub changed : Converter → Change → Converter
 changed conv w = by_decision (decide (change_places conv w)) (converter_of (with_wanted (held_settings conv) w)) conv
 
@@ -48,8 +49,9 @@ unfoldable pub last_accepted : Settings → List Change → Settings
 last_accepted s [] = s
 last_accepted s (w ∷ ws) = last_accepted (cond (is_accepted (decide (change_places (converter_of s) w))) (with_wanted s w) s) ws
 
--- from an opened converter, after any changes, refused ones included, the record held is what opening gives for the last accepted settings, its
--- stored numbers are true, and it passes every place that a record is tried by, 15 among them. Proved in proofs/Changes
+-- from an opened converter, after any changes, refused ones included, the record held is what opening gives for the
+-- last accepted settings, its stored numbers are true, and it passes every place that a record is tried by, 15 among
+-- them. Proved in proofs/Changes
 abbrev pub ChangesKeep : Type 0
 ChangesKeep =
     (s : Settings) → decide (opening_places s) ≡ accepted → (ws : List Change)

@@ -1,5 +1,5 @@
 -- Module 3, channel bytes: frames, a run with its neighbours, and the bytes of one channel by position.
-use Rattle.std.specs.Prelude.{Option, Some, None, List, ◌++◌, Bool, true, false, ℕ, ◌*◌, ◌+◌, ◌/◌, length, get_or, take, drop, replicate}
+use Rattle.std.specs.Prelude.{List, ◌++◌, Bool, true, false, ℕ, ◌*◌, ◌+◌, ◌/◌, length, get_or, take, drop, replicate}
 use Rattle.reference.specs.declared.Run.{Run as Record}
 
 -- bytes of a frame: of one channel, and of all
@@ -36,11 +36,6 @@ run hb b f ha a = record { has_before = hb; before = b; frames = f; has_after = 
 abbrev pub run_of : Record → Run
 run_of d = run d.has_before d.before.now d.frames.now d.has_after d.after.now
 
--- bytes that need not be there
-unfoldable pub if_there : Bool → List ℕ → Option (List ℕ)
-if_there true bytes = Some bytes
-if_there false bytes = None
-
 -- a neighbour's frame: an absent one counts as one filled with the idle byte, and its slice is not read
 unfoldable pub neighbour : ℕ → Bool → List ℕ → List ℕ
 neighbour channels true bytes = bytes
@@ -56,7 +51,7 @@ after_frame channels r = neighbour channels r.has_after r.after
 unfoldable pub sequence : ℕ → Run → List ℕ
 sequence channels r = before_frame channels r ++ (r.frames ++ after_frame channels r)
 
--- the byte of channel c at position p. Positions count from the first byte of the frame before the run, so that they are natural
--- numbers: p here is p - 4,704 in document 01. No sample of a run reads a position before that frame (`no-earlier-byte`, proofs/Frames)
+-- the byte of channel c at position p, counted from the first byte of the frame before the run: p is p - 4,704 in
+-- document 01. No sample of a run reads an earlier one (`no_earlier_byte`, proofs/Frames)
 unfoldable pub channel_byte : ℕ → List ℕ → ℕ → ℕ → ℕ
 channel_byte channels bytes c p = get_or bytes (p * channels + c) idle

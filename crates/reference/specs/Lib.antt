@@ -11,4 +11,4 @@ pub mod Promises
 pub mod Changes
 pub mod Figures
 pub mod Codes
-pub mod Sizes
+pub mod inner

@@ -64,7 +64,7 @@ module _ (conv : Converter) (r : Run) where
 
   -- ---- request 6: how far over
 
-  -- the least and the greatest number of channel c before the clamp; none where it has no samples, as an unused channel, and each of a run of no frames
+  -- the least and the greatest number of channel c before the clamp; none where it has no samples
   unfoldable pub channel_extremes : ℕ → Option Extremes
   channel_extremes c = cond (ltb c conv.channels) (extremes_of (unclamped c) 0 channel_samples) None
 

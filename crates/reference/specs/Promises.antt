@@ -1,4 +1,4 @@
--- What each call promises: its answer, and what every lent list holds when it returns. The contracts cite these records.
+-- What each call promises, as contracts cite it: its answer, and what every lent list holds when it returns.
 use Rattle.std.specs.Prelude.{◌≡◌, Result, Ok, Err, List, ◌++◌, Bool, true, false, ℕ, ◌*◌, ◌/◌, ◌≤◌, min, ℤ, Float, length, take, drop}
 use Rattle.reference.specs.Frames.{Run, frame_count}
 use Rattle.reference.specs.Scaling.{db_to_linear}
@@ -6,7 +6,8 @@ use Rattle.reference.specs.Stages.{taps_of}
 use Rattle.reference.specs.Settings.{converter_of, with_filter, reach_of}
 use Rattle.reference.specs.Output.{unclamped, samples, stats, per_frame_clips, s24le}
 use Rattle.reference.specs.Statistics.{no_stats}
-use Rattle.reference.specs.Refusals.{rack, desk, most, Decision, accepted, refused, Place, decide, decision, gain_places, opening_places, held_places, convert_run_places, convert_places, convert_frame_places}
+use Rattle.reference.specs.Refusals.{rack, desk, most, Decision, accepted, refused, Place, decide, decision, gain_places}
+use Rattle.reference.specs.Refusals.{opening_places, held_places, convert_run_places, convert_places, convert_frame_places}
 use Rattle.reference.specs.declared.Filter.{Filter}
 use Rattle.reference.specs.declared.Settings.{Settings}
 use Rattle.reference.specs.declared.Converter.{Converter}
@@ -74,14 +75,16 @@ ConvertPromise = BytesPromise rack
 abbrev pub DeskPromise : Converter → Run → Bool → List ℕ → List ℕ → List ℕ → List ℕ → Converted → Type 0
 DeskPromise = BytesPromise desk
 
--- request 8: as far as the desk takes frames, both entries give the same on the same input, refused calls included. Proved in proofs/Limits
+-- request 8: as far as the desk takes frames, both entries give the same on the same input, refused calls included.
+-- Proved in proofs/Limits
 abbrev pub DeskAsRack : Type 0
 DeskAsRack =
     (conv : Converter) (r : Run) (lent : Bool) (out counts o o' c c' : List ℕ) (a b : Converted) → frame_count conv.channels r.frames ≤ most desk
     → ConvertPromise conv r lent out counts o c a → DeskPromise conv r lent out counts o' c' b → (a ≡ b) × (o ≡ o') × (c ≡ c')
 
--- request 10: the places of a filter record past its number of taps are free. With another record of the same taps a converter is accepted or refused
--- alike, has the same reach, and gives the same before the clamp, on which samples, bytes and statistics stand. Proved in proofs/Filters
+-- request 10: the places of a filter record past its number of taps are free. With another record of the same taps a
+-- converter is accepted or refused alike, has the same reach, and gives the same before the clamp, on which samples,
+-- bytes and statistics stand. Proved in proofs/Filters
 abbrev pub FilterPlacesFree : Type 0
 FilterPlacesFree =
     (conv : Converter) (f : Filter) → f.count ≡ conv.filter.count → taps_of f ≡ taps_of conv.filter → (r : Run)

@@ -118,8 +118,7 @@ right_sums h = le_z (whole_sum h) (pos 16777216) && le_z (pos 16777216) (whole_s
 unfoldable pub filter_places : Filter → List Place
 filter_places f =
     place (not (leb 1 f.count && leb f.count 117)) 17 []
-    ∷ place (not (right_sums (taps_of f))) 18 []
-    ∷ []
+    ∷ place (not (right_sums (taps_of f))) 18 [] ∷ []
 
 -- rate with cutoff, and gain: what opening and a change are asked for
 abbrev pub wanted_places : PcmRate → Cutoff → Gain → List Place
@@ -128,14 +127,13 @@ wanted_places r c g = place (unsupported r c) 2 (rate r ∷ cutoff c ∷ []) ∷
 -- opening: what settings are tried by
 unfoldable pub opening_places : Settings → List Place
 opening_places s =
-    place (not (leb 1 s.channels && leb s.channels 6)) 1 (number s.channels ∷ [])
-    ∷ (wanted_places s.rate s.cutoff s.gain ++ filter_places (filter_of s))
+    place (not (leb 1 s.channels && leb s.channels 6)) 1 (number s.channels ∷ []) ∷ (wanted_places s.rate s.cutoff s.gain ++ filter_places (filter_of s))
 
 -- the stored numbers
 abbrev pub numbers_place : Converter → Place
 numbers_place conv = place (not (true_numbers conv)) 15 []
 
--- each conversion, and a change: what a converter is tried by as it is held. Its settings again, then its stored numbers
+-- each conversion, and a change: a converter as it is held, its settings first, then its stored numbers
 unfoldable pub held_places : Converter → List Place
 held_places conv = opening_places (held_settings conv) ++ (numbers_place conv ∷ [])
 
@@ -168,8 +166,7 @@ too_many limit.Desk frames = place (ltb (most limit.Desk) frames) 16 []
 unfoldable pub run_length : Limit → ℕ → List ℕ → List Place
 run_length whose channels frames =
     place (not (eqb (length frames % frame_length channels) 0)) 4 (number (length frames) ∷ number 0 ∷ [])
-    ∷ too_many whose (frame_count channels frames)
-    ∷ []
+    ∷ too_many whose (frame_count channels frames) ∷ []
 
 -- run length, before, after
 unfoldable pub input_places : Limit → Converter → Run → List Place

@@ -19,7 +19,8 @@ R v q = nearer (shr_z v (2 ^ q)) (rest v (2 ^ q)) (2 ^ q - rest v (2 ^ q))
 unfoldable pub lowest_kept : ℤ → ℕ → ℕ
 lowest_kept v d = nat_abs (shr_z v d) % 2
 
--- request 3: the floor of v / 2^q plus that of (r + 2^(q - 1) - 1 + k) / 2^q. For every v, and every q from 1 up, R(v, q) is this sum: proofs/Rounding
+-- request 3: the floor of v / 2^q plus that of (r + 2^(q - 1) - 1 + k) / 2^q. For every v and every q from 1 up this
+-- sum is R(v, q): proofs/Rounding
 unfoldable pub one_sum : ℤ → ℕ → ℤ
 one_sum v q = shr_z v (2 ^ q) +ℤ pos ((rest v (2 ^ q) + 2 ^ (q - 1) - 1 + lowest_kept v (2 ^ q)) / 2 ^ q)
 
@@ -27,7 +28,7 @@ one_sum v q = shr_z v (2 ^ q) +ℤ pos ((rest v (2 ^ q) + 2 ^ (q - 1) - 1 + lowe
 abbrev pub distance : ℤ → ℕ → ℤ → ℕ
 distance v q z = nat_abs (v -ℤ z *ℤ pos (2 ^ q))
 
--- z is nearest v / 2^q, and even where another number is as near. R(v, q) is so, and no other number is: proofs/Rounding
+-- z is nearest v / 2^q, and even where another is as near. R(v, q) is so, and no other number: proofs/Rounding
 pub record NearestEven (v : ℤ) (q : ℕ) (z : ℤ) : Type 0 where
   pub nearest : (other : ℤ) → distance v q z ≤ distance v q other
   pub even : (other : ℤ) → distance v q other ≡ distance v q z → (other ≡ z → ⊥) → nat_abs z % 2 ≡ 0

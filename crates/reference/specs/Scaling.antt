@@ -53,7 +53,7 @@ right_gain g = allowed g.db && eqb (to_bits binary64 g.linear) (to_bits binary64
 
 -- ---- scaling
 
--- the whole number nearest an eighth of a finite float, ties to even: `closest a b` is a / b so rounded, and 2^e is up e / down e
+-- the whole number nearest an eighth of a finite float, ties to even. `closest a b` is that of a / b, 2^e up e / down e
 unfoldable pub eighth : Float → ℤ
 eighth nan = pos 0
 eighth (inf s) = pos 0

@@ -1,5 +1,5 @@
--- Modules 2, 4 and 5: byte tables, first stage and later stages, from the bytes β of one channel to y. The reach.
--- A stage counts its values from the frame before the run, as positions do; a frame is a whole number of values at every stage.
+-- Modules 2, 4 and 5: byte tables, first stage and later stages, from the bytes β of one channel to y; the reach. A
+-- stage counts its values as positions are counted, and a frame is a whole number of values at every stage.
 use Rattle.std.specs.Prelude.{List, cond, ℕ, zero, suc, ◌+◌, ◌-◌, ◌*◌, ◌/◌, ◌%◌, ◌^◌, eqb, ℤ, pos, negsuc, nat_abs, ◌+ℤ◌, ◌*ℤ◌, length, get_or, take}
 use Rattle.numbers.specs.Lists.{total}
 use Rattle.numbers.specs.Sums.{sum_to, apart}
@@ -48,7 +48,7 @@ unfoldable pub sign : ℕ → ℤ
 sign zero = negsuc 0
 sign (suc n) = pos 1
 
--- entry b of byte table j, of B tables: the sum over p = 0..7 of tap(8(j - B/2) + p), plus if bit 7 - p of b is 1, else minus
+-- entry b of byte table j of B: the sum over p = 0..7 of tap(8(j - B/2) + p), plus if bit 7 - p of b is 1, else minus
 unfoldable pub entry : List ℤ → ℕ → ℕ → ℕ → ℤ
 entry h B j b = sum_to 8 (λ p. tap h (apart (8 * j + p) (4 * B)) *ℤ sign (bit b p))
 

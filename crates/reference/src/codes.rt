@@ -1,6 +1,7 @@
 // Rates and cutoffs as numbers: a rate as its hertz, a cutoff as its place in the table.
 ghost use Rattle.std.specs.Prelude.{◌≡◌};
 ghost use Rattle.reference.specs.Codes as codes;
+ghost use Rattle.reference.specs.inner.Codes as inner_codes;
 
 use crate::{Cutoff, PcmRate};
 
@@ -27,9 +28,9 @@ impl From<PcmRate> for u64 {
 impl TryFrom<u32> for PcmRate {
     type Error = UnknownRate;
 
-    ghost try_from_gives = { λ n r. r ≡ codes.rate_from n };
+    ghost try_from_gives = { λ n r. r ≡ inner_codes.rate_from n };
 
-    #[tactic(auto, unfolding(crate::specs::Codes::rate_from))]
+    #[tactic(auto, unfolding(crate::specs::inner::Codes::rate_from))]
     fn try_from(n: u32) -> Result<Self, UnknownRate> {
         match n {
             88200 => Ok(PcmRate::Hz88200),
@@ -55,9 +56,9 @@ impl From<Cutoff> for u64 {
 impl TryFrom<u8> for Cutoff {
     type Error = UnknownCutoff;
 
-    ghost try_from_gives = { λ n r. r ≡ codes.cutoff_from n };
+    ghost try_from_gives = { λ n r. r ≡ inner_codes.cutoff_from n };
 
-    #[tactic(auto, unfolding(crate::specs::Codes::cutoff_from))]
+    #[tactic(auto, unfolding(crate::specs::inner::Codes::cutoff_from))]
     fn try_from(n: u8) -> Result<Self, UnknownCutoff> {
         match n {
             0 => Ok(Cutoff::Standard),

@@ -2,7 +2,8 @@
 #![tactic(auto)]
 
 ghost use Rattle.std.specs.Prelude.{◌≡◌, sum_by, ◌^◌, ◌<◌, ◌≤◌, length, option_copied};
-ghost use Rattle.reference.specs.Frames.{frame_length, run_of, if_there};
+ghost use Rattle.reference.specs.Frames.{frame_length, run_of};
+ghost use Rattle.reference.specs.inner.Frames.{if_there};
 ghost use Rattle.reference.specs.Stages as stages;
 ghost use Rattle.reference.specs.Stages.{taps_of, M};
 ghost use Rattle.reference.specs.Output.{samples_per_frame};
@@ -191,7 +192,7 @@ pub struct Run<'a> {
 
 impl<'a> Run<'a> {
     // The frame before, where there is one.
-    #[tactic(auto, unfolding(crate::specs::Frames::if_there))]
+    #[tactic(auto, unfolding(crate::specs::inner::Frames::if_there))]
     pub fn frame_before(self) -> Option<&'a [u8]>
         ensures { option_copied result ≡ if_there (run_of self.entry).has_before (run_of self.entry).before }
     {
@@ -199,7 +200,7 @@ impl<'a> Run<'a> {
     }
 
     // The frame after, where there is one.
-    #[tactic(auto, unfolding(crate::specs::Frames::if_there))]
+    #[tactic(auto, unfolding(crate::specs::inner::Frames::if_there))]
     pub fn frame_after(self) -> Option<&'a [u8]>
         ensures { option_copied result ≡ if_there (run_of self.entry).has_after (run_of self.entry).after }
     {
@@ -214,7 +215,8 @@ pub struct Extremes {
     pub highest: i64,
 }
 
-// What a stretch of a channel's samples tells beside them: how many the clamp changed, and the extremes before it, where there are samples.
+// What a stretch of a channel's samples tells beside them: how many the clamp changed, and the extremes before it,
+// where there are samples.
 #[derive(Clone, Copy)]
 pub struct ChannelStats {
     pub clipped: u64,

@@ -1,5 +1,6 @@
-// F40, from the centre outwards: place 0 is the centre tap, place k the taps at -k and +k. Sharp filter at 176.4 kHz: passband 40 kHz, stopband from
-// 48 kHz (also 80/96 kHz at 352.8 kHz). Length 121, taps scaled by 2^24. The places past its 61 taps are those of a filter record.
+// F40, from the centre outwards: place 0 is the centre tap, place k the taps at -k and +k. Sharp filter at 176.4 kHz:
+// passband 40 kHz, stopband from 48 kHz (also 80/96 kHz at 352.8 kHz). Length 121, taps scaled by 2^24. The places past
+// its 61 taps are those of a filter record.
 pub const F40: [i32; 117] = [
     8258102, 5332212, 128306, -1758594, -126680, 1032890, 124008, -714457, -120352, 532268, 115790,
     -412507, -110424, 326864, 104364, -262173, -97738, 211492, 90676, -170811, -83318, 137646,

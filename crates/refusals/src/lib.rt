@@ -1,5 +1,5 @@
-// Where a conversion is turned down: document 01's places, tried from top to bottom. Converter, run and output are three
-// callers' own: no record has them.
+// Where a conversion is turned down: document 01's places, tried from top to bottom. Converter, run and output are
+// three callers' own: no record has them.
 #![tactic(auto)]
 
 ghost use Rattle.std.specs.Prelude.{◌≡◌, [], length, is_some, unwrap_or, option_copied};

@@ -1,4 +1,5 @@
--- A sum lifted by an even number b + b of steps D, rounded by the one sum and the lift taken away: R of the sum. D is 2^q, half its half.
+-- A sum lifted by an even number b + b of steps D, rounded by the one sum and the lift taken away: R of the sum. D is
+-- 2^q, half its half.
 use mathlib.Core.Path.{◌≡◌, sym, ◌∙◌, ap, ap₂}
 use mathlib.Core.Logic.{⊎_elim}
 use Prim.Native.Nat.{ℕ, suc, ◌+◌, ◌*◌, ◌-◌, ◌/◌, ◌%◌, ◌<◌, ◌≤◌, ◌^◌}
@@ -25,8 +26,16 @@ minus_neg a b l = zext _ _ (omega (arith, add_parts (pos a) (neg_ℤ (pos b)), p
 minus_minus : (w m n r : ℕ) → w ≡ m + r → (pos w -ℤ pos n) -ℤ (pos m -ℤ pos n) ≡ pos r
 minus_minus w m n r e =
     zext _ _
-    (omega
-    (arith, add_parts (pos w) (neg_ℤ (pos n)), add_parts (pos m) (neg_ℤ (pos n)), add_parts (pos w -ℤ pos n) (neg_ℤ (pos m -ℤ pos n)), pp_neg (pos n), nn_neg (pos n), pp_neg (pos m -ℤ pos n), nn_neg (pos m -ℤ pos n)))
+    (omega (
+      arith,
+      add_parts (pos w) (neg_ℤ (pos n)),
+      add_parts (pos m) (neg_ℤ (pos n)),
+      add_parts (pos w -ℤ pos n) (neg_ℤ (pos m -ℤ pos n)),
+      pp_neg (pos n),
+      nn_neg (pos n),
+      pp_neg (pos m -ℤ pos n),
+      nn_neg (pos m -ℤ pos n),
+    ))
 
 minus_mul : (k B D : ℕ) → (pos k -ℤ pos B) *ℤ pos D ≡ pos (k * D) -ℤ pos (B * D)
 minus_mul k B D = add_mul (pos k) (neg_ℤ (pos B)) (pos D) ∙ ap (λ (z : ℤ). pos (k * D) +ℤ z) (neg_mul (pos B) (pos D))

@@ -7,7 +7,7 @@ use native.Mathlib.Omega.{arith}
 use lib.IntN.{ℤ, pos}
 use lib.ListN.{length, get_or, take, drop, length-drop, get_or-append}
 use lib.Seq.{length-take-le, get_or-take, get_or-append-add}
-use Rattle.numbers.specs.Lists.{Held}
+use Rattle.numbers.specs.inner.Lists.{Held}
 use Rattle.numbers.proofs.Lists.{below_or}
 
 pub part_length : {A : Type 0} (a e : ℕ) (l : List A) → e ≤ length l → length (take (e - a) (drop a l)) ≡ e - a

@@ -1,4 +1,5 @@
--- What the filters of `filters` give over the first e places of an array that holds a signal; the taps of a filter in halves; and the values between those of w.
+-- What the filters of `filters` give over the first e places of an array that holds a signal; the taps of a filter in
+-- halves; and the values between those of w.
 use mathlib.Core.Path.{◌≡◌, refl, ◌∙◌, ap}
 use mathlib.Core.List.{List}
 use Prim.Native.Nat.{ℕ, ◌+◌, ◌-◌, ◌*◌, ◌/◌, ◌%◌, ◌^◌, ◌≤◌, ◌<◌}
@@ -7,8 +8,9 @@ use lib.IntN.{ℤ, pos, nat_abs, ◌+ℤ◌}
 use lib.ListN.{length, take, drop, length-append}
 use lib.Seq.{get_or-take, take_at, drop_at, take_all}
 use Rattle.numbers.specs.Sums.{at0}
-use Rattle.numbers.specs.Lists.{Held, total, tabulate}
-use Rattle.numbers.specs.Parts.{woven}
+use Rattle.numbers.specs.Lists.{total, tabulate}
+use Rattle.numbers.specs.inner.Lists.{Held}
+use Rattle.numbers.specs.inner.Parts.{woven}
 use Rattle.numbers.proofs.Integers.{abs_add}
 use Rattle.numbers.proofs.Sums.{sum_size}
 use Rattle.reference.specs.Rounding.{R}
@@ -17,11 +19,11 @@ use Rattle.reference.specs.Stages.{tap, M, fir, between, w, y_narrow}
 use Rattle.reference.specs.declared.PcmRate.TheVariants.{Hz352800}
 use Rattle.reference.proofs.Locality.{F40_last, F80_last}
 use Rattle.reference.proofs.Sizes.{F40_sum}
-use Rattle.lanes.specs.Lanes.{Small, Filled}
-use Rattle.filters.specs.Filters.{even_taps, odd_taps, between_by, same_rate, middle, Fit}
+use Rattle.lanes.specs.inner.Lanes.{Small, Filled}
+use Rattle.filters.specs.inner.Filters.{even_taps, odd_taps, between_by, same_rate, middle, Fit}
 use Rattle.filters.proofs.Signals.{filled_held, same_signal, same_held, middle_held, length_even, length_odd}
 use Rattle.filters.proofs.Tables.{between_is_HB, filter_F40, filter_F80, absolute_F80}
-use Rattle.routes.specs.Routes.{LowPass, HalvedFilter, halves_of}
+use Rattle.routes.specs.inner.Routes.{LowPass, HalvedFilter, halves_of}
 use Rattle.routes.proofs.Arrays.{part_held, held_at}
 
 module _ {S : ℕ → ℤ} {a n : ℕ} {x : List ℤ} (held : Held (pos 0) S a n x) (e : ℕ) (inside : e ≤ n) (h : List ℤ) where

@@ -6,7 +6,7 @@ use Rattle.reference.specs.declared.PcmRate.{PcmRate}
 use Rattle.reference.specs.declared.PcmRate.TheVariants.{Hz88200, Hz176400, Hz352800}
 use Rattle.reference.specs.declared.Cutoff.{Cutoff}
 use Rattle.reference.specs.declared.Cutoff.TheVariants.{Standard, Low, Wide}
-use Rattle.routes.specs.Routes.{LastFilter, FirstTables, Taps}
+use Rattle.routes.specs.inner.Routes.{LastFilter, FirstTables, RouteTaps}
 
 pub first_prop : (cutoff : Cutoff) (tables : List ℤ) → IsProp (FirstTables cutoff tables)
 unfolding FirstTables
@@ -22,5 +22,5 @@ last_prop Hz88200 Wide F = hlevel props
 last_prop Hz176400 Wide F = hlevel props
 last_prop Hz352800 Wide F = hlevel props
 
-pub taps_prop : (rate : PcmRate) (cutoff : Cutoff) (F h : List ℤ) → IsProp (Taps rate cutoff F h)
+pub taps_prop : (rate : PcmRate) (cutoff : Cutoff) (F h : List ℤ) → IsProp (RouteTaps rate cutoff F h)
 taps_prop rate cutoff F h = hlevel (props, last_prop)

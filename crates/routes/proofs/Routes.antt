@@ -20,12 +20,12 @@ use Rattle.reference.specs.declared.PcmRate.TheVariants.{Hz88200, Hz176400, Hz35
 use Rattle.reference.specs.declared.Cutoff.{Cutoff}
 use Rattle.reference.specs.declared.Cutoff.TheVariants.{Standard, Low, Wide}
 use Rattle.reference.proofs.Refusals.{pass, and_left, and_right}
-use Rattle.reference.specs.Sizes.{absolute_sum}
+use Rattle.reference.specs.inner.Sizes.{absolute_sum}
 use Rattle.reference.proofs.Sizes.{F30_sum, y_narrow_size, y_wide_size}
-use Rattle.filters.specs.Filters.{Filter}
+use Rattle.filters.specs.inner.Filters.{UnityGain}
 use Rattle.filters.proofs.Totals.{absolute_sum_is, taps_sum, filter_by_sums}
 use Rattle.filters.proofs.Tables.{filter_F30}
-use Rattle.routes.specs.Routes.{LowPass, LastFilter, y_of, last_taps}
+use Rattle.routes.specs.inner.Routes.{LowPass, LastFilter, y_of, last_taps}
 
 pub a_frame : (rate : PcmRate) → 1000 ≤ samples_per_frame rate
 unfolding samples_per_frame
@@ -41,7 +41,7 @@ antisym (pos m) (negsuc n) p q = let z : ◌≡◌ {A = ℕ} 0 1 = cc in absurd 
 antisym (negsuc m) (pos n) p q = let z : ◌≡◌ {A = ℕ} 0 1 = cc in absurd (omega arith)
 antisym (negsuc m) (negsuc n) p q = ap negsuc (le_antisymm (leb-true m n q) (leb-true n m p))
 
-right_taps : (F : List ℤ) → right_sums F ≡ true → Filter F × (absolute_sum F ≤ 40000000)
+right_taps : (F : List ℤ) → right_sums F ≡ true → UnityGain F × (absolute_sum F ≤ 40000000)
 unfolding right_sums whole_sum whole_size
 right_taps F e =
     let a = le_z (whole_sum F) (pos 16777216) in

@@ -1,1 +1,1 @@
-pub mod Routes
+pub mod inner

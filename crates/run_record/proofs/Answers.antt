@@ -9,7 +9,8 @@ use lib.IntN.{ℤ}
 use lib.ListN.{length}
 use Rattle.reference.specs.Frames.{Run, frame_count}
 use Rattle.reference.specs.Output.{all_samples, samples, stats, s24le, frame_clips, per_frame_clips}
-use Rattle.reference.specs.Refusals.{rack, accepted, error_decision, is_accepted, Place, decide, if_present, lent_length, held_places, input_places, run_lengths, byte_lengths, convert_run_places, convert_frame_places, convert_places}
+use Rattle.reference.specs.Refusals.{rack, accepted, error_decision, is_accepted, Place, decide, if_present, lent_length, held_places}
+use Rattle.reference.specs.Refusals.{input_places, run_lengths, byte_lengths, convert_run_places, convert_frame_places, convert_places}
 use Rattle.reference.specs.Promises.{stats_told, Answered, SamplesPromise, BytesPromise, if_lent}
 use Rattle.reference.specs.Statistics.{no_stats}
 use Rattle.reference.specs.declared.Converter.{Converter}
@@ -20,9 +21,9 @@ use Rattle.reference.proofs.Refusals.{pass, decide_first, decide_skip, error_ref
 use Rattle.reference.proofs.Promises.{exit_accepted, exit_refused}
 use Rattle.reference.proofs.Limits.{rack_fits}
 use Rattle.numbers.specs.Lists.{tabulate}
-use Rattle.output.specs.Fills.{items, bytes, written}
+use Rattle.output.specs.inner.Fills.{items, byte_layout, written}
 use Rattle.output.proofs.Boxes.{written_items, written_bytes}
-use Rattle.run_record.specs.Calls.{AcceptedCall}
+use Rattle.run_record.specs.inner.Calls.{AcceptedCall}
 
 both : (ps qs : List Place) → decide (ps ++ qs) ≡ accepted → (decide ps ≡ accepted) × (decide qs ≡ accepted)
 both ps qs e = let h = decide_first ps qs e in (h, sym (decide_skip ps qs h) ∙ e)
@@ -95,7 +96,8 @@ module _ (whose : Limit) (conv : Converter) (r : Run) (out counts : List ℕ) wh
           per_frame = k ∙ sym (exit_accepted (decide places) (if_lent lent (per_frame_clips conv r) counts) counts (sym ok));
         }
 
-  pub lent_promise : (told : ConvertStats) → told ≡ stats conv r → accepted ≡ decide (convert_places whose conv r out true counts) → (out' counts' : List ℕ) → out' ≡ written bytes (samples conv r)
+  pub lent_promise : (told : ConvertStats) → told ≡ stats conv r → accepted
+      ≡ decide (convert_places whose conv r out true counts) → (out' counts' : List ℕ) → out' ≡ written byte_layout (samples conv r)
       → length counts ≡ frame_count conv.channels r.frames → counts' ≡ tabulate (frame_clips conv r) 0 (length counts) → BytesPromise whose conv r true out counts out' counts' (Ok told)
   unfolding if_lent per_frame_clips
   lent_promise told is_stats ok out' counts' w l k = bytes_promise true told is_stats ok out' counts' (w ∙ written_bytes (samples conv r)) (k ∙ ap (λ n. tabulate (frame_clips conv r) 0 n) l)
@@ -114,7 +116,7 @@ module _ (whose : Limit) (conv : Converter) (r : Run) (out counts : List ℕ) wh
 
 -- where no list is lent there are no counts
 module _ (whose : Limit) (conv : Converter) (r : Run) (out : List ℕ) where
-  pub unlent_promise : (told : ConvertStats) → told ≡ stats conv r → accepted ≡ decide (convert_places whose conv r out false []) → (out' : List ℕ) → out' ≡ written bytes (samples conv r)
+  pub unlent_promise : (told : ConvertStats) → told ≡ stats conv r → accepted ≡ decide (convert_places whose conv r out false []) → (out' : List ℕ) → out' ≡ written byte_layout (samples conv r)
       → BytesPromise whose conv r false out [] out' [] (Ok told)
   unfolding if_lent
   unlent_promise told is_stats ok out' w = bytes_promise whose conv r out [] false told is_stats ok out' [] (w ∙ written_bytes (samples conv r)) refl

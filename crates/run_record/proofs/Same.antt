@@ -16,16 +16,16 @@ use Rattle.reference.specs.Scaling.{scaled, clamp, clips}
 use Rattle.reference.specs.Output.{samples_per_frame, unclamped, sample, clipped, item, channel_samples, all_samples, samples, channel_clips, channel_extremes, channel_stats, stats, frame_clips}
 use Rattle.reference.specs.Statistics.{extremes_of}
 use Rattle.std.specs.Prelude.{None}
-use Rattle.output.specs.Fills.{Layout, written}
+use Rattle.output.specs.inner.Fills.{Layout, written}
 use Rattle.reference.specs.Refusals.{rack, accepted, decide, Datum, Place, if_present, one_long, run_length, input_places}
 use Rattle.reference.specs.declared.Converter.{Converter}
 use Rattle.reference.specs.declared.ConvertStats.{ConvertStats}
 use Rattle.reference.proofs.Refusals.{pass, some_channel, few_channels, supported, right, filtered, whole_frames, few_frames}
-use Rattle.channel_bytes.specs.Lent.{Lent, lent_run}
+use Rattle.channel_bytes.specs.inner.Lent.{Lent, lent_run}
 use Rattle.gain.proofs.Records.{right_bounded}
-use Rattle.runs.specs.Loops.{Ran}
-use Rattle.workspace.specs.Accepted.{Accepted}
-use Rattle.run_record.specs.Calls.{AcceptedCall, present}
+use Rattle.runs.specs.inner.Loops.{Ran}
+use Rattle.workspace.specs.inner.Accepted.{Accepted}
+use Rattle.run_record.specs.inner.Calls.{AcceptedCall, present}
 use Rattle.routes.proofs.Routes.{few_taps, low_pass, last_filter}
 
 -- ---- what depends on the sequence and the frames alone
@@ -33,7 +33,8 @@ use Rattle.routes.proofs.Routes.{few_taps, low_pass, last_filter}
 module _ (conv : Converter) (r q : Run) (e : sequence conv.channels r ≡ sequence conv.channels q) (g : r.frames ≡ q.frames) where
   unclamped_same : unclamped conv r ≡ unclamped conv q
   unfolding unclamped
-  unclamped_same = ap {B = ℕ → ℕ → ℤ} (λ (l : List ℕ). λ c n. scaled conv.gain.linear (y conv.rate conv.cutoff (taps_of conv.filter) (channel_byte conv.channels l c) (samples_per_frame conv.rate + n))) e
+  unclamped_same = ap {B = ℕ → ℕ → ℤ}
+      (λ (l : List ℕ). λ c n. scaled conv.gain.linear (y conv.rate conv.cutoff (taps_of conv.filter) (channel_byte conv.channels l c) (samples_per_frame conv.rate + n))) e
 
   pub samples_same : samples conv r ≡ samples conv q
   unfolding samples item sample all_samples channel_samples
@@ -46,7 +47,10 @@ module _ (conv : Converter) (r q : Run) (e : sequence conv.channels r ≡ sequen
   stats_same =
       ap₂ {C = ConvertStats} (λ (u : ℕ → ℕ → ℤ) (f : List ℕ).
       let n = frame_count conv.channels f * samples_per_frame conv.rate in
-      record { channels = tabulate (λ c. record { clipped = cond (ltb c conv.channels) (count (λ k. clips (u c k)) 0 n) 0; extremes = cond (ltb c conv.channels) (extremes_of (u c) 0 n) None }) 0 6 }) unclamped_same g
+      record {
+        channels = tabulate
+            (λ c. record { clipped = cond (ltb c conv.channels) (count (λ k. clips (u c k)) 0 n) 0; extremes = cond (ltb c conv.channels) (extremes_of (u c) 0 n) None }) 0 6;
+      }) unclamped_same g
 
   pub frame_clips_same : frame_clips conv r ≡ frame_clips conv q
   unfolding frame_clips clipped

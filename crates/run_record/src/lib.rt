@@ -1,5 +1,5 @@
-// The conversions of a run record, of samples and of bytes. None asks anything: a call that document 01's table turns down
-// is refused, and all lent memory keeps its contents.
+// The conversions of a run record, of samples and of bytes. None asks anything: a call that document 01's table turns
+// down is refused, and all lent memory keeps its contents.
 #![tactic(auto)]
 
 ghost use Rattle.std.specs.Prelude.{true, false, [], is_some};

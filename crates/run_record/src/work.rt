@@ -3,8 +3,8 @@ ghost use Rattle.std.specs.Prelude.{◌≡◌, ◌≤◌, length};
 ghost use Rattle.numbers.specs.Lists.{tabulate};
 ghost use Rattle.reference.specs.Frames.{run_of, frame_count};
 ghost use Rattle.reference.specs.Output.{all_samples, samples, stats, frame_clips};
-ghost use Rattle.output.specs.Fills.{Room, written};
-ghost use Rattle.run_record.specs.Calls.{AcceptedCall};
+ghost use Rattle.output.specs.inner.Fills.{Room, written};
+ghost use Rattle.run_record.specs.inner.Calls.{AcceptedCall};
 
 use channel_bytes::Slices;
 use output::Place;

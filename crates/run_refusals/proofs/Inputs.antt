@@ -8,13 +8,14 @@ use borrow.Author.Tests.{ne_eqb, eq-eqb}
 use lib.Dec.{eqb}
 use lib.ListN.{length}
 use Rattle.std.specs.Prelude.{Option, Some, None}
-use Rattle.reference.specs.Frames.{run, if_there, frame_length, frame_count}
+use Rattle.reference.specs.Frames.{run, frame_length, frame_count}
+use Rattle.reference.specs.inner.Frames.{if_there}
 use Rattle.reference.specs.Refusals.{Decision, accepted, refused, number, error_decision, Place, decide, held_places, input_places, run_length, too_many, one_long, if_present}
 use Rattle.reference.specs.declared.Converter.{Converter}
 use Rattle.reference.specs.declared.Limit.{Limit}
 use Rattle.reference.specs.declared.PcmError.{PcmError}
 use Rattle.reference.proofs.Refusals.{at_first, at_next, at_end, some_channel, stored_frame}
-use Rattle.run_refusals.specs.Lengths.{wrong_length}
+use Rattle.run_refusals.specs.inner.Lengths.{wrong_length}
 use Rattle.converters.proofs.Steps.{stops, goes_on}
 
 -- the stored length is a frame's, and not 0

@@ -1,13 +1,13 @@
-// What a run is turned down for: its length, its neighbours'. Each function that asks for an accepted converter reads its
-// stored numbers. It asks by one clause: a record with that fact would be made by each caller from `held`'s answer and
-// opened here for its fields.
+// What a run is turned down for: its length, its neighbours'. Each function that asks for an accepted converter reads
+// its stored numbers. It asks by one clause: a record with that fact would be made by each caller from `held`'s answer
+// and opened here for its fields.
 #![tactic(auto)]
 
 ghost use Rattle.std.specs.Prelude.{◌≡◌, [], ◌∷◌, ◌*◌, ◌≤◌, option_copied};
 ghost use Rattle.reference.specs.Frames.{run_of, frame_count};
 ghost use Rattle.reference.specs.Output.{samples_per_frame};
 ghost use Rattle.reference.specs.Refusals as table;
-ghost use Rattle.run_refusals.specs.Lengths as lengths;
+ghost use Rattle.run_refusals.specs.inner.Lengths as lengths;
 ghost use Rattle.reference.specs.Refusals.{decision, decide, held_places, one_frame, too_many, input_places};
 
 use reference::{Converter, Length, Limit, MOST_FRAMES, PcmError, Run};
@@ -41,7 +41,7 @@ fn few(whose: Limit, count: usize) -> Result<(), PcmError>
 }
 
 // The length of a neighbour that is there, and is not as long as a frame.
-#[tactic(auto, unfolding(crate::specs::Lengths::wrong_length))]
+#[tactic(auto, unfolding(crate::specs::inner::Lengths::wrong_length))]
 fn wrong_length(neighbour: Option<&[u8]>, size: usize) -> Option<usize>
     ensures { result ≡ lengths.wrong_length size (option_copied neighbour.entry) }
 {
@@ -50,7 +50,7 @@ fn wrong_length(neighbour: Option<&[u8]>, size: usize) -> Option<usize>
 }
 
 // Run length, before, after.
-#[tactic(auto, using(crate::proofs::Inputs::some_size, crate::proofs::Inputs::part_frame, crate::proofs::Inputs::too_long, crate::proofs::Inputs::long_before, crate::proofs::Inputs::long_after, crate::proofs::Inputs::right_input))]
+#[tactic(auto, using(crate::proofs::Inputs::some_size, crate::proofs::Inputs::part_frame, crate::proofs::Inputs::too_long, crate::proofs::Inputs::right_input))]
 pub fn input<'a>(whose: Limit, conv: Converter, run: Run<'a>) -> Result<(), PcmError>
     requires { decide (held_places conv) ≡ table.accepted }
     ensures { decision result ≡ decide (input_places whose conv (run_of run.entry)) }

@@ -17,20 +17,21 @@ use Rattle.numbers.specs.Lists.{total, count, tabulate}
 use Rattle.numbers.proofs.Lists.{get_d_any, below_or, is_tabulate}
 use Rattle.reference.specs.Frames.{Run}
 use Rattle.reference.specs.Statistics.{extremes_of, no_samples, joined_channel}
-use Rattle.reference.specs.Output.{samples_per_frame, unclamped, sample, clipped, item, channel_samples, all_samples as run_all, samples, channel_clips, channel_extremes, channel_stats, stats, frame_clips}
+use Rattle.reference.specs.Output.{samples_per_frame, unclamped, sample, clipped, item, channel_samples, all_samples as run_all}
+use Rattle.reference.specs.Output.{samples, channel_clips, channel_extremes, channel_stats, stats, frame_clips}
 use Rattle.reference.specs.declared.Converter.{Converter}
 use Rattle.reference.specs.declared.ConvertStats.{ConvertStats}
 use Rattle.reference.specs.declared.ChannelStats.{ChannelStats}
 use Rattle.reference.proofs.Frames.{frame_samples}
 use Rattle.gain.specs.Tallies.{tally}
 use Rattle.gain.proofs.Tallies.{tally_none, tally_join, tally_clipped, tally_few}
-use Rattle.output.specs.Fills.{Layout, Drawn, Room, written}
+use Rattle.output.specs.inner.Fills.{Layout, Drawn, Room, written}
 use Rattle.output.proofs.Boxes.{no_rows, no_cols, rows, cols, all_samples}
-use Rattle.blocks.specs.Blocks.{Made}
-use Rattle.blocks.specs.Jobs.{run_of, in_run}
+use Rattle.blocks.specs.inner.Blocks.{Made}
+use Rattle.blocks.specs.inner.Jobs.{job_run, in_run}
 use Rattle.blocks.specs.declared.job.Job.{Job}
 use Rattle.blocks.proofs.Sums.{made_drawn, run_samples, ready_of}
-use Rattle.runs.specs.Loops.{channel_tally, Tallied, clips_below, Ran}
+use Rattle.runs.specs.inner.Loops.{channel_tally, Tallied, clips_below, Ran}
 
 -- ---- the channels' tallies
 
@@ -50,7 +51,8 @@ module _ (conv : Converter) (r : Run) where
   unfolding channel_tally channel_stats channel_clips channel_extremes clipped tally no_samples
   tally_is n c e = go (ltb c conv.channels)
     where
-      go : (b : Bool) → cond b (tally (unclamped conv r c) 0 n) no_samples ≡ record { clipped = cond b (count (clipped conv r c) 0 (channel_samples conv r)) 0; extremes = cond b (extremes_of (unclamped conv r c) 0 (channel_samples conv r)) None }
+      go : (b : Bool) → cond b (tally (unclamped conv r c) 0 n) no_samples
+          ≡ record { clipped = cond b (count (clipped conv r c) 0 (channel_samples conv r)) 0; extremes = cond b (extremes_of (unclamped conv r c) 0 (channel_samples conv r)) None }
       go true = rw e refl
       go false = refl
 
@@ -97,7 +99,8 @@ module _ {conv : Converter} {r : Run} where
         whole : both ≡ channel_tally conv r (n + m) c
         whole =
             let z : 0 + n ≡ n = omega arith in
-            j ∙ rw (get_d_any l c d no_samples (omega (arith, f.six)), sum_so_far, g) (ap (λ (k : ℕ). joined_channel (tally (unclamped conv r c) 0 n) (tally (unclamped conv r c) k m)) (sym z) ∙ tally_join (unclamped conv r c) 0 n m s)
+            j ∙ rw (get_d_any l c d no_samples (omega (arith, f.six)), sum_so_far, g)
+            (ap (λ (k : ℕ). joined_channel (tally (unclamped conv r c) 0 n) (tally (unclamped conv r c) k m)) (sym z) ∙ tally_join (unclamped conv r c) 0 n m s)
             ∙ sym (tally_in conv r (n + m) c h)
 
   -- all the channels: the tallies of n + m samples
@@ -177,20 +180,20 @@ module _ {A : Type 0} {o : Layout A} {conv : Converter} {r : Run} {x : List A} {
 
 -- ---- the whole run
 
-module _ {A : Type 0} {o : Layout A} (some : 0 < o.width) (j : Job) {x y : List A} {l : List ChannelStats} {s t : List ℕ} (a : Frames o j.conv (run_of j) j.slices.count x y l s t) where
-  pub run_done : {told : ConvertStats} → Room o (in_run j * j.conv.channels) x → length s ≤ j.slices.count → length t ≡ length s → told.channels ≡ l → Ran o j.conv (run_of j) told y s t
+module _ {A : Type 0} {o : Layout A} (some : 0 < o.width) (j : Job) {x y : List A} {l : List ChannelStats} {s t : List ℕ} (a : Frames o j.conv (job_run j) j.slices.count x y l s t) where
+  pub run_done : {told : ConvertStats} → Room o (in_run j * j.conv.channels) x → length s ≤ j.slices.count → length t ≡ length s → told.channels ≡ l → Ran o j.conv (job_run j) told y s t
   unfolding samples item run_all stats
   run_done room few same e =
       let slices = (ready_of j).slices in
       let n = run_samples j.conv slices in
       record {
-        places = rw n (whole some (sample j.conv (run_of j)) slices.some room a.box);
-        counted = is_tabulate (frame_clips j.conv (run_of j)) 0 (length s) 0 t same (λ i m.
+        places = rw n (whole some (sample j.conv (job_run j)) slices.some room a.box);
+        counted = is_tabulate (frame_clips j.conv (job_run j)) 0 (length s) 0 t same (λ i m.
             let z : 0 + i ≡ i = omega arith in
             rw z (a.counted i (omega arith) (omega arith)));
-        is_stats = rw (e ∙ is_tabulate (channel_stats j.conv (run_of j)) 0 6 no_samples l a.tallied.six (λ i m.
+        is_stats = rw (e ∙ is_tabulate (channel_stats j.conv (job_run j)) 0 6 no_samples l a.tallied.six (λ i m.
             let z : 0 + i ≡ i = omega arith in
-            rw z (a.tallied.rest i (omega arith) ∙ tally_is j.conv (run_of j) (in_run j) i n))) refl;
+            rw z (a.tallied.rest i (omega arith) ∙ tally_is j.conv (job_run j) (in_run j) i n))) refl;
       }
     where
       whole : 0 < o.width → (S : ℕ → ℕ → ℤ) → 0 < j.conv.channels → Room o (in_run j * j.conv.channels) x → Drawn o S j.conv.channels 0 (in_run j) 0 j.conv.channels x y

@@ -1,4 +1,5 @@
--- Demand 3 speaks of these functions: what `ensures` says of a call is, word for word, the promise that the join theorem (crate joins) goes by.
+-- Demand 3 speaks of these functions: what `ensures` says of a call is, word for word, the promise that the join
+-- theorem (crate joins) goes by.
 use mathlib.Core.Path.{◌≡◌, refl}
 use mathlib.Core.List.{List, map}
 use mathlib.Core.Bool.{Bool}
@@ -143,11 +144,14 @@ module _ {M : Type 1} {𝓤 : Ura M} (𝓛 : Logic 𝓤) (mem : Memory → SProp
 -- a call of one of the six functions, and what its contract ensures of it
 pub data FunctionCall : Converter → Type 0 where
   by_convert : (κs : Lfts 3) (a : Args record'.signature κs) (r : Res record'.signature κs) (s : AtExit record'.ended κs) → SaidOfBytes rack a.0 (of_convert κs a r s) → FunctionCall a.0
-  by_convert_desk : (κs : Lfts 3) (a : Args desk-record.signature κs) (r : Res desk-record.signature κs) (s : AtExit desk-record.ended κs) → SaidOfBytes desk a.0 (of_convert_desk κs a r s) → FunctionCall a.0
+  by_convert_desk : (κs : Lfts 3) (a : Args desk-record.signature κs) (r : Res desk-record.signature κs) (s : AtExit desk-record.ended κs)
+      → SaidOfBytes desk a.0 (of_convert_desk κs a r s) → FunctionCall a.0
   by_convert_run : (κs : Lfts 2) (a : Args run-record.signature κs) (r : Res run-record.signature κs) (s : AtExit run-record.ended κs) → SaidOfSamples a.0 (of_convert_run κs a r s) → FunctionCall a.0
   by_convert_parts : (κs : Lfts 3) (a : Args parts.signature κs) (r : Res parts.signature κs) (s : AtExit parts.ended κs) → SaidOfBytes rack a.0 (of_convert_parts κs a r s) → FunctionCall a.0
-  by_convert_desk_parts : (κs : Lfts 3) (a : Args desk-parts.signature κs) (r : Res desk-parts.signature κs) (s : AtExit desk-parts.ended κs) → SaidOfBytes desk a.0 (of_convert_desk_parts κs a r s) → FunctionCall a.0
-  by_convert_run_parts : (κs : Lfts 2) (a : Args run-parts.signature κs) (r : Res run-parts.signature κs) (s : AtExit run-parts.ended κs) → SaidOfSamples a.0 (of_convert_run_parts κs a r s) → FunctionCall a.0
+  by_convert_desk_parts : (κs : Lfts 3) (a : Args desk-parts.signature κs) (r : Res desk-parts.signature κs) (s : AtExit desk-parts.ended κs)
+      → SaidOfBytes desk a.0 (of_convert_desk_parts κs a r s) → FunctionCall a.0
+  by_convert_run_parts : (κs : Lfts 2) (a : Args run-parts.signature κs) (r : Res run-parts.signature κs) (s : AtExit run-parts.ended κs)
+      → SaidOfSamples a.0 (of_convert_run_parts κs a r s) → FunctionCall a.0
 
 -- the join theorem's calls
 abbrev pub bytes_call : (whose : Limit) (conv : Converter) (c : ForBytes) → SaidOfBytes whose conv c → Call conv
@@ -165,6 +169,7 @@ call_of (by_convert_parts κs a r s p) = bytes_call rack a.0 (of_convert_parts �
 call_of (by_convert_desk_parts κs a r s p) = bytes_call desk a.0 (of_convert_desk_parts κs a r s) p
 call_of (by_convert_run_parts κs a r s p) = samples_call a.0 (of_convert_run_parts κs a r s) p
 
--- calls of the functions, in any mixture, whose pieces join to a run give together what the definition gives for the whole run
+-- calls of the functions, in any mixture, whose pieces join to a run give together what the definition gives for the
+-- whole run
 pub functions_join : (conv : Converter) (r : Run) (calls : List (FunctionCall conv)) → AcceptedConverter conv → AcceptedRun conv r → JoinTo r (map call_of calls) → GiveWholeRun r (map call_of calls)
 functions_join conv r calls opens fits joins = cut_runs_join conv r (map call_of calls) opens fits joins

@@ -1,4 +1,5 @@
-// The converter's calls. None asks anything: a call that document 01's table turns down is refused, and all lent memory keeps its contents.
+// The converter's calls. None asks anything: a call that document 01's table turns down is refused, and all lent memory
+// keeps its contents.
 #![tactic(auto)]
 
 ghost use Rattle.std.specs.Prelude.{◌≡◌, is_some};
@@ -21,14 +22,16 @@ pub fn samples_per_frame(rate: PcmRate) -> usize
     rate.samples_per_frame()
 }
 
-// Bytes of each channel before and after a stretch of frames that its samples may depend on: the number that the converter stores.
+// Bytes of each channel before and after a stretch of frames that its samples may depend on: the number that the
+// converter stores.
 pub fn context_bytes(conv: Converter) -> usize
     ensures { result ≡ conv.reach }
 {
     conv.reach
 }
 
-// The four calls of the customer, each with its fields one by one, a flag beside each neighbour, as they were asked for.
+// The four calls of the customer, each with its fields one by one, a flag beside each neighbour, as they were asked
+// for.
 
 // The record of these fields.
 fn record<'a>(
@@ -122,7 +125,8 @@ pub fn convert_desk_parts<'a>(
     }
 }
 
-// 32-bit samples as three bytes each, their low 24 bits, least first: as many as there are bytes for. Later bytes are kept.
+// 32-bit samples as three bytes each, their low 24 bits, least first: as many as there are bytes for. Later bytes are
+// kept.
 pub fn pack_s24le(samples: &[i32], bytes: &mut [u8])
     ensures { PackPromise samples.now bytes.old bytes.new }
 {

@@ -14,10 +14,13 @@ simulate_places frames dues turn finishes late = place (not (fitting frames dues
 -- the lent lists at entry and at exit. Where the call is refused, they keep what they held
 pub record SimulatePromise (frames dues : List ℕ) (turn : ℕ) (finishes : List ℕ) (late : List ℤ) (finishes' : List ℕ) (late' : List ℤ) (answer : Result (Unit {0}) PcmError) : Type 0 where
   pub decided : decision answer ≡ decide (simulate_places frames dues turn (length finishes) (length late))
-  pub finished : finishes' ≡ by_decision (decide (simulate_places frames dues turn (length finishes) (length late))) (tabulate (finish_in (board frames dues turn) (simulated (board frames dues turn))) 0 (length frames)) finishes
-  pub measured : late' ≡ by_decision (decide (simulate_places frames dues turn (length finishes) (length late))) (tabulate (lateness_in (board frames dues turn) (simulated (board frames dues turn))) 0 (length frames)) late
+  pub finished : finishes' ≡ by_decision (decide (simulate_places frames dues turn (length finishes) (length late)))
+      (tabulate (finish_in (board frames dues turn) (simulated (board frames dues turn))) 0 (length frames)) finishes
+  pub measured : late' ≡ by_decision (decide (simulate_places frames dues turn (length finishes) (length late)))
+      (tabulate (lateness_in (board frames dues turn) (simulated (board frames dues turn))) 0 (length frames)) late
 
--- no order that gives each album its turns has a smaller greatest lateness than an accepted call returns; proved in proofs/Calls
+-- no order that gives each album its turns has a smaller greatest lateness than an accepted call returns; proved in
+-- proofs/Calls
 abbrev pub ReturnsTheBest : Type 0
 ReturnsTheBest =
     (frames dues : List ℕ) (turn : ℕ) (finishes : List ℕ) (late : List ℤ) (finishes' : List ℕ) (late' : List ℤ) (answer : Result (Unit {0}) PcmError)

@@ -4,12 +4,12 @@ use mathlib.Core.List.{List, [], ◌∷◌, ◌++◌, append-nil}
 use Prim.Native.Nat.{ℕ, ◌+◌, ◌-◌}
 use native.Mathlib.Omega.{arith}
 use lib.ListN.{replicate}
-use Rattle.columns.specs.Columns.{column, entry}
+use Rattle.columns.specs.Columns.{column, cell}
 use native.Mathlib.Nat.{zero-add, add-zero}
 use native.Mathlib.Numerals.{add-one}
 use Rattle.numbers.specs.Lists.{tabulate}
 use Rattle.text.specs.Text.{joined, with_text, printed}
-use Rattle.text.specs.Writing.{Prints}
+use Rattle.text.specs.inner.Writing.{Prints}
 use Rattle.text.specs.declared.putting.Text.{Text}
 use Rattle.text.proofs.Printing as printing
 use Rattle.text.proofs.Printing.{joined_last}
@@ -24,7 +24,7 @@ pub line : (ts : List (List ℕ)) {a b : Text} → Prints (joined (ts ++ ((10 �
 line ts p = record { same_reference = p.same_reference; same_length = p.same_length; printed = printing.line ts p.printed }
 
 -- blanks alone in a column
-pub blank : (w : ℕ) {a b : Text} → Prints (replicate w 32) a b → Prints (column (entry w [])) a b
+pub blank : (w : ℕ) {a b : Text} → Prints (replicate w 32) a b → Prints (column (cell w [])) a b
 unfolding column
 blank w p = let e : w - 0 ≡ w = omega arith in rw (append-nil, e) p
 

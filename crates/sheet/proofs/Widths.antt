@@ -18,30 +18,30 @@ use Rattle.text.specs.Text.{decimal}
 use Rattle.text.proofs.Numerals.{one_digit, bounded}
 use Rattle.columns.specs.Columns.{level_text, too_wide}
 use Rattle.columns.proofs.Widths.{or_left, entry_fits}
-use Rattle.sheet.specs.Sheet.{lowest, highest, figures, channel_line, sum_line, some_below, sheet_too_wide}
+use Rattle.sheet.specs.Sheet.{lowest, highest, channel_cells, channel_line, sum_line, some_below, sheet_too_wide}
 
 -- a channel's figures
 module _ (channel : ChannelStats) where
-  pub figures_wide : too_wide (figures channel)
+  pub figures_wide : too_wide (channel_cells channel)
       ≡ (ltb 14 (length (decimal channel.clipped)) || (ltb 12 (length (level_text (lowest channel.extremes))) || ltb 12 (length (level_text (highest channel.extremes)))))
-  unfolding too_wide figures
+  unfolding too_wide channel_cells
   figures_wide = rw or-false
 
-  module _ (fits : too_wide (figures channel) ≡ false) where
+  module _ (fits : too_wide (channel_cells channel) ≡ false) where
     pub clips_fit : length (decimal channel.clipped) ≤ 14
-    unfolding figures
+    unfolding channel_cells
     clips_fit = (entry_fits _ _ fits).0
 
     pub lowest_fits : length (level_text (lowest channel.extremes)) ≤ 12
-    unfolding figures
+    unfolding channel_cells
     lowest_fits = (entry_fits _ _ (entry_fits _ _ fits).1).0
 
     pub highest_fits : length (level_text (highest channel.extremes)) ≤ 12
-    unfolding figures
+    unfolding channel_cells
     highest_fits = (entry_fits _ _ (entry_fits _ _ (entry_fits _ _ fits).1).1).0
 
 -- its number has one digit
-pub channel_wide : (stats : ConvertStats) (c : ℕ) → c < 6 → too_wide (channel_line stats c) ≡ too_wide (figures (channel_of stats c))
+pub channel_wide : (stats : ConvertStats) (c : ℕ) → c < 6 → too_wide (channel_line stats c) ≡ too_wide (channel_cells (channel_of stats c))
 unfolding too_wide channel_line
 channel_wide stats c l = rw (one_digit c (omega arith))
 

@@ -6,7 +6,7 @@ use Rattle.reference.specs.declared.ConvertStats.{ConvertStats}
 use Rattle.reference.specs.declared.ChannelStats.{ChannelStats}
 use Rattle.reference.specs.declared.Extremes.{Extremes}
 use Rattle.text.specs.Text.{joined, decimal}
-use Rattle.columns.specs.Columns.{Entry, entry, line, too_wide, level_text}
+use Rattle.columns.specs.Columns.{Cell, cell, line, too_wide, level_text}
 
 -- ---- the lines
 
@@ -20,20 +20,20 @@ highest None = None
 highest (Some e) = Some e.highest
 
 -- a channel's clips, lowest and highest before the clamp
-unfoldable pub figures : ChannelStats → List Entry
-figures channel =
-    entry 14 (decimal channel.clipped) ∷ entry 12 (level_text (lowest channel.extremes)) ∷ entry 12 (level_text (highest channel.extremes)) ∷ []
+unfoldable pub channel_cells : ChannelStats → List Cell
+channel_cells channel =
+    cell 14 (decimal channel.clipped) ∷ cell 12 (level_text (lowest channel.extremes)) ∷ cell 12 (level_text (highest channel.extremes)) ∷ []
 
 -- and its number before them
-abbrev pub numbered : ℕ → ChannelStats → List Entry
-numbered c channel = entry 4 (decimal c) ∷ figures channel
+abbrev pub numbered : ℕ → ChannelStats → List Cell
+numbered c channel = cell 4 (decimal c) ∷ channel_cells channel
 
-unfoldable pub channel_line : ConvertStats → ℕ → List Entry
+unfoldable pub channel_line : ConvertStats → ℕ → List Cell
 channel_line stats c = numbered c (channel_of stats c)
 
 -- the last line: four blanks, the sum, 24 blanks
-unfoldable pub sum_line : ℕ → List Entry
-sum_line sum = entry 4 [] ∷ entry 14 (decimal sum) ∷ entry 24 [] ∷ []
+unfoldable pub sum_line : ℕ → List Cell
+sum_line sum = cell 4 [] ∷ cell 14 (decimal sum) ∷ cell 24 [] ∷ []
 
 -- ---- the sheet
 

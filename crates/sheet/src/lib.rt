@@ -6,10 +6,10 @@ ghost use Rattle.numbers.specs.Lists.{tabulate};
 ghost use Rattle.reference.specs.Refusals.{decide, decision};
 ghost use Rattle.reference.specs.Statistics.{clip_sum, channel_of};
 ghost use Rattle.text.specs.Text.{joined, decimal};
-ghost use Rattle.text.specs.Writing.{Prints};
+ghost use Rattle.text.specs.inner.Writing.{Prints};
 ghost use Rattle.columns.specs.Columns.{line, too_wide};
 ghost use Rattle.sheet.specs.Sheet as sheets;
-ghost use Rattle.sheet.specs.Sheet.{figures, numbered, channel_line, sum_line, sheet, some_below, sheet_too_wide};
+ghost use Rattle.sheet.specs.Sheet.{channel_cells, numbered, channel_line, sum_line, sheet, some_below, sheet_too_wide};
 ghost use Rattle.sheet.specs.Promises.{sheet_length, sheet_places, SheetPromise};
 
 use reference::{ChannelStats, ConvertStats, PcmError};
@@ -38,7 +38,7 @@ fn highest(channel: ChannelStats) -> Option<i64>
 // Whether a number of a channel is too wide for its column.
 #[tactic(auto, using(crate::proofs::Widths::figures_wide))]
 fn wide_channel(channel: ChannelStats) -> bool
-    ensures { result ≡ too_wide (figures channel) }
+    ensures { result ≡ too_wide (channel_cells channel) }
 {
     columns::digits(channel.clipped) > 14
         || columns::width_of(lowest(channel)) > 12
@@ -67,7 +67,7 @@ fn wide(stats: ConvertStats, channels: usize) -> bool
 
 // The line of channel c.
 fn put_channel(text: &mut Text, c: usize, channel: ChannelStats)
-    requires { (c < 6) × (too_wide (figures channel) ≡ false) × (text.old.at + 43 ≤ length text.old.out.now) }
+    requires { (c < 6) × (too_wide (channel_cells channel) ≡ false) × (text.old.at + 43 ≤ length text.old.out.now) }
     ensures printed { Prints (line (numbered c channel)) text.old text.new }
     ensures value { text.new.at ≡ text.old.at + 43 }
 {

@@ -12,14 +12,14 @@ use Rattle.std.specs.Prelude.{Option, Some, None}
 use Rattle.reference.specs.Statistics.{channel_of, clip_sum}
 use Rattle.reference.specs.declared.ConvertStats.{ConvertStats}
 use Rattle.reference.specs.declared.Extremes.{Extremes}
-use Rattle.text.specs.Text.{text, decimal, signed}
+use Rattle.text.specs.Text.{text, decimal, signed_decimal}
 use Rattle.text.proofs.Numerals.{places}
 use Rattle.columns.specs.Columns.{level_text, too_wide}
 use Rattle.sheet.specs.Sheet.{lowest, highest, channel_line, some_below, sheet_too_wide}
 use Rattle.sheet.proofs.Widths.{figures_wide, channel_wide, sum_wide}
 
-signed_fits : (z : ℤ) → nat_abs z < 10 ^ 11 → length (signed z) ≤ 12
-unfolding signed
+signed_fits : (z : ℤ) → nat_abs z < 10 ^ 11 → length (signed_decimal z) ≤ 12
+unfolding signed_decimal
 signed_fits (pos n) h = omega (arith, places 10 n h)
 signed_fits (negsuc n) h = omega (arith, places 10 (suc n) h)
 

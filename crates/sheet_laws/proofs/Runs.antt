@@ -31,10 +31,10 @@ use Rattle.joins.proofs.Joins.{cut_runs_join}
 use Rattle.stretches.proofs.Ends.{either_end}
 use Rattle.sheet.specs.Sheet.{sheet, sheet_too_wide}
 use Rattle.sheet.specs.Promises.{sheet_length, sheet_places}
-use Rattle.sheet_laws.specs.Runs.{Held, NumbersFit, NeverTooWide, CutSheetsJoin}
+use Rattle.sheet_laws.specs.Runs.{ConverterHeld, NumbersFit, NeverTooWide, CutSheetsJoin}
 use Rattle.sheet_laws.proofs.Fitting.{SmallExtremes, Small, sheet_fits}
 
-module _ (conv : Converter) (r : Run) (held : Held conv) (ok : AcceptedConverter conv) (fits : AcceptedRun conv r) where
+module _ (conv : Converter) (r : Run) (held : ConverterHeld conv) (ok : AcceptedConverter conv) (fits : AcceptedRun conv r) where
   y_small : (β : ℕ → ℕ) (n : ℕ) → nat_abs (y conv.rate conv.cutoff (taps_of conv.filter) β n) < 2 ^ 30
   y_small β n =
       rw (← y_of_is conv.rate conv.cutoff (taps_of conv.filter) β n)

@@ -7,19 +7,19 @@ use lib.Dec.{lit<, lit≤}
 use lib.IntN.{ℤ, pos, nat_abs}
 use lib.ListN.{length, get_or}
 use Rattle.numbers.specs.Sums.{at0}
-use Rattle.numbers.specs.Lists.{Held}
-use Rattle.numbers.specs.Parts.{evens, odds, woven}
+use Rattle.numbers.specs.inner.Lists.{Held}
+use Rattle.numbers.specs.inner.Parts.{evens, odds, woven}
 use Rattle.reference.specs.Rounding.{R}
 use Rattle.reference.specs.Taps.{S1, S1_WIDE, HB}
 use Rattle.reference.specs.Stages.{M, fir, u, v}
 use Rattle.reference.proofs.Locality.{S1_length, S1_WIDE_length}
 use Rattle.reference.proofs.Sizes.{fir_size, u_S1_size, u_WIDE_size, v_size}
-use Rattle.lanes.specs.Lanes.{Small, Filled}
-use Rattle.filters.specs.Filters.{alone, odd_taps, half_rate, Fit}
+use Rattle.lanes.specs.inner.Lanes.{Small, Filled}
+use Rattle.filters.specs.inner.Filters.{alone, odd_taps, half_rate, Fit}
 use Rattle.filters.proofs.Signals.{held_small, half_fit, half_held, length_odd}
 use Rattle.filters.proofs.Tables.{halves_HB, absolute_HB}
 use Rattle.tables.specs.Tables.{ByteTables}
-use Rattle.first_stage.specs.Windows.{window_sum}
+use Rattle.first_stage.specs.inner.Windows.{window_sum}
 use Rattle.stages.proofs.First.{first_held}
 
 -- the same values of another signal, or by another count of places
@@ -95,7 +95,8 @@ around {n = n} rule byte long e o at_even at_odd β i l held =
     }
 
 -- the bytes are of some signal
-pub some_signal : {even odd : List ℤ} {bytes : List ℕ} {n : ℕ} → ((β : ℕ → ℕ) (i : ℕ) → 10 ≤ i → Held 0 β (2 * i - 19) (length bytes) bytes → Around β i n even odd) → Around (λ k. get_or bytes (k - 1) 0) 10 n even odd
+pub some_signal : {even odd : List ℤ} {bytes : List ℕ} {n : ℕ}
+    → ((β : ℕ → ℕ) (i : ℕ) → 10 ≤ i → Held 0 β (2 * i - 19) (length bytes) bytes → Around β i n even odd) → Around (λ k. get_or bytes (k - 1) 0) 10 n even odd
 some_signal {bytes = bytes} at = at (λ k. get_or bytes (k - 1) 0) 10 (lit≤ tt) (any_bytes bytes 1 (length bytes))
 
 -- values of v are below 2^27
@@ -103,7 +104,8 @@ pub v_small : (β : ℕ → ℕ) (i : ℕ) {n : ℕ} {l : List ℤ} → length l
 v_small β i e h = held_small h e (λ k. omega (arith, v_size β k))
 
 -- ---- Wide: the sums of every window are u
-module _ {tables new : List ℤ} {n : ℕ} (bytes : List ℕ) (rule : ByteTables S1_WIDE 12 tables) (byte : (i : ℕ) → get_or bytes i 0 < 256) (room : n + 11 ≤ length bytes) (sums : Held (pos 0) (λ k. window_sum tables 6 bytes (0 + 1 * k)) 0 n new) where
+module _ {tables new : List ℤ} {n : ℕ} (bytes : List ℕ) (rule : ByteTables S1_WIDE 12 tables) (byte : (i : ℕ) → get_or bytes i 0 < 256)
+    (room : n + 11 ≤ length bytes) (sums : Held (pos 0) (λ k. window_sum tables 6 bytes (0 + 1 * k)) 0 n new) where
   pub wide_held : (β : ℕ → ℕ) (base i : ℕ) → base + 6 ≡ i → Held 0 β base (length bytes) bytes → Held (pos 0) (u S1_WIDE β) i n new
   wide_held β base i e held = held_moved (first_held 6 S1_WIDE_length (lit< tt) rule byte held 0 1 n new (omega arith) sums) (λ k m. ap (u S1_WIDE β) (omega arith))
 

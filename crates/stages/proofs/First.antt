@@ -6,11 +6,11 @@ use native.Mathlib.Omega.{arith}
 use lib.IntN.{ℤ, pos, ◌+ℤ◌, ◌*ℤ◌, +ℤ_idl, zero-*ℤ}
 use lib.ListN.{length, get_or, get_or-eq_default}
 use Rattle.numbers.specs.Sums.{sum_to, apart}
-use Rattle.numbers.specs.Lists.{Held}
+use Rattle.numbers.specs.inner.Lists.{Held}
 use Rattle.numbers.proofs.Sums.{sum_same, sum_head, sum_blocks}
 use Rattle.reference.specs.Stages.{tap, M, fir, bit, sign, entry, x, u}
 use Rattle.tables.specs.Tables.{ByteTables}
-use Rattle.first_stage.specs.Windows.{window_sum}
+use Rattle.first_stage.specs.inner.Windows.{window_sum}
 use Rattle.first_stage.proofs.Windows.{not_later}
 
 module _ (h : List ℤ) (half : ℕ) (long : length h ≡ 8 * half) (some : 0 < half) (β : ℕ → ℕ) (m : ℕ) (room : half ≤ m) where
@@ -35,11 +35,13 @@ module _ (h : List ℤ) (half : ℕ) (long : length h ≡ 8 * half) (some : 0 < 
   u_is =
       let n : 2 * half * 8 ≡ suc (M h + M h + 1) = omega arith in
       sym (sym (sum_same (2 * half) _ _ byte_part) ∙ sym (sum_blocks 8 (2 * half) term) ∙ rw n (sum_head (M h + M h + 1) term
-      ∙ ap₂ (λ a b. a +ℤ b) first (sum_same (M h + M h + 1) (λ k. term (suc k)) (λ k. tap h (apart k (M h)) *ℤ x β (8 * m - M h + k)) (λ k l. ap₂ (λ a b. tap h a *ℤ x β b) (omega arith) (omega arith)))
+      ∙ ap₂ (λ a b. a +ℤ b) first
+      (sum_same (M h + M h + 1) (λ k. term (suc k)) (λ k. tap h (apart k (M h)) *ℤ x β (8 * m - M h + k)) (λ k l. ap₂ (λ a b. tap h a *ℤ x β b) (omega arith) (omega arith)))
       ∙ +ℤ_idl _))
 
 -- bytes that hold β from position `base` on, and the tables of the taps h
-module _ {h tables : List ℤ} {bytes : List ℕ} {β : ℕ → ℕ} {base : ℕ} (half : ℕ) (long : length h ≡ 8 * half) (some : 0 < half) (rule : ByteTables h (2 * half) tables) (small : (i : ℕ) → get_or bytes i 0 < 256) (held : Held 0 β base (length bytes) bytes) where
+module _ {h tables : List ℤ} {bytes : List ℕ} {β : ℕ → ℕ} {base : ℕ} (half : ℕ) (long : length h ≡ 8 * half) (some : 0 < half)
+    (rule : ByteTables h (2 * half) tables) (small : (i : ℕ) → get_or bytes i 0 < 256) (held : Held 0 β base (length bytes) bytes) where
   -- u at the place that a sum stands for
   u_held : (at : ℕ) → at + 2 * half ≤ length bytes → window_sum tables half bytes at ≡ u h β (base + at + half)
   unfolding window_sum

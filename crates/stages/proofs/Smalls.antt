@@ -10,22 +10,23 @@ use lib.ListN.{length, get_or, take, drop, replicate, length-take, length-replic
 use lib.Seq.{get_or-take, get_or-drop, get_or-append-add}
 use borrow.Rule.Slice.PartMut.{put_mid}
 use Rattle.numbers.specs.Sums.{at0}
-use Rattle.numbers.specs.Lists.{Held}
+use Rattle.numbers.specs.inner.Lists.{Held}
 use Rattle.numbers.proofs.Lists.{below_or, held_some}
 use Rattle.reference.specs.Rounding.{R}
 use Rattle.reference.specs.Stages.{M, fir}
 use Rattle.reference.proofs.Rounding.{R_size}
-use Rattle.reference.specs.Sizes.{absolute_sum}
+use Rattle.reference.specs.inner.Sizes.{absolute_sum}
 use Rattle.reference.proofs.Sizes.{fir_size}
-use Rattle.lanes.specs.Lanes.{Small, Filled}
-use Rattle.filters.specs.Filters.{same_rate, Fit}
+use Rattle.lanes.specs.inner.Lanes.{Small, Filled}
+use Rattle.filters.specs.inner.Filters.{same_rate, Fit}
 use Rattle.filters.proofs.Signals.{past}
-use Rattle.routes.specs.Routes.{LowPass}
+use Rattle.routes.specs.inner.Routes.{LowPass}
 use Rattle.routes.proofs.Arrays.{part_length, put_held}
 
 module _ {B : ℕ} where
   pub small_front : (n : ℕ) {l : List ℤ} → Small B l → Small B (take n l)
-  small_front n {l} s = record { size = λ j. ⊎_elim (λ (m : j < n). rw (get_or-take n l j (pos 0) m) (s.size j)) (λ (m : n ≤ j). rw (past (take n l) j (omega (arith, length-take n l))) (omega arith)) (below_or j n) }
+  small_front n {l} s =
+      record { size = λ j. ⊎_elim (λ (m : j < n). rw (get_or-take n l j (pos 0) m) (s.size j)) (λ (m : n ≤ j). rw (past (take n l) j (omega (arith, length-take n l))) (omega arith)) (below_or j n) }
 
   small_drop : (n : ℕ) {l : List ℤ} → Small B l → Small B (drop n l)
   small_drop n {l} s = record { size = λ j. rw (get_or-drop n l j (pos 0)) (s.size (n + j)) }
@@ -51,13 +52,15 @@ module _ {B : ℕ} where
   small_put m k s r = small_append (small_front m s) (small_append r (small_drop k (small_drop m s)))
 
   -- moved to the front
-  pub small_shift : {x x' : List ℤ} (by n : ℕ) → Small B x → ((k : ℕ) → k < n → get_or x' k (pos 0) ≡ get_or x (k + by) (pos 0)) → ((k : ℕ) → n ≤ k → get_or x' k (pos 0) ≡ get_or x k (pos 0)) → Small B x'
+  pub small_shift : {x x' : List ℤ} (by n : ℕ) → Small B x → ((k : ℕ) → k < n → get_or x' k (pos 0) ≡ get_or x (k + by) (pos 0))
+      → ((k : ℕ) → n ≤ k → get_or x' k (pos 0) ≡ get_or x k (pos 0)) → Small B x'
   small_shift by n s e f = record { size = λ j. ⊎_elim (λ (m : j < n). rw (e j m) (s.size (j + by))) (λ (m : n ≤ j). rw (f j m) (s.size j)) (below_or j n) }
 
 pub zeros_small : (n : ℕ) {B : ℕ} → Small B (replicate n (pos 0))
 zeros_small n {B} =
     record {
-      size = λ i. ⊎_elim (λ (l : i < n). rw (get_or-replicate n i (pos 0) (pos 0) l) (omega arith)) (λ (l : n ≤ i). rw (past (replicate n (pos 0)) i (omega (arith, length-replicate n (pos 0)))) (omega arith)) (below_or i n);
+      size = λ i. ⊎_elim (λ (l : i < n). rw (get_or-replicate n i (pos 0) (pos 0) l) (omega arith))
+          (λ (l : n ≤ i). rw (past (replicate n (pos 0)) i (omega (arith, length-replicate n (pos 0)))) (omega arith)) (below_or i n);
     }
 
 pub wider : {A B : ℕ} {l : List ℤ} → Small A l → A ≤ B → Small B l

@@ -1,25 +1,30 @@
 // The arrays of a channel's filters, kept from block to block.
 ghost use Rattle.std.specs.Prelude.{◌≡◌, ℕ, ◌+◌, ◌*◌, ◌-◌, ◌^◌, ◌≤◌, ℤ, pos, length, get_or, replicate};
-ghost use Rattle.numbers.specs.Lists.{Held};
+ghost use Rattle.numbers.specs.inner.Lists.{Held};
 ghost use Rattle.reference.specs.Taps.{S1, S1_WIDE};
 ghost use Rattle.reference.specs.Stages.{u, v};
 ghost use Rattle.tables.specs.Tables.{ByteTables};
-ghost use Rattle.lanes.specs.Lanes.{Small};
-ghost use Rattle.band.specs.Bands.{odd_sizes};
+ghost use Rattle.lanes.specs.inner.Lanes.{Small, Low};
+ghost use Rattle.band.specs.inner.Bands.{odd_sizes};
 
 // x has what the last filter reads, v of Standard and Low, u of Wide; `kept` has the values of w that are woven at
-// 352,800. In front both keep their margin, the values before a block that its filters read. `odd` is scratch. The half
-// band's sizes stand here, where the compiler does not see their values: of taps that it sees it makes products that
-// take longer.
+// 352,800. In front both keep their margin, the values before a block that its filters read. `odd` is scratch, and
+// `lifted` and `second` are lent to the filters for their copies: arrays made for each block would be zeroed each time.
+// The half band's sizes stand here, where the compiler does not see their values: of taps that it sees it makes
+// products that take longer.
 #[derive(Drop)]
 pub struct Buffers {
     pub odd: [i64; 247],
     pub x: [i64; 512],
     pub kept: [i64; 184],
+    pub lifted: [u64; 456],
+    pub second: [u64; 200],
     pub sizes: [u32; 8],
     ghost lent: { sizes ≡ odd_sizes },
     ghost x_small: { Small (2 ^ 27) x },
     ghost kept_small: { Small (2 ^ 29) kept },
+    ghost lifted_low: { Low lifted },
+    ghost second_low: { Low second },
 }
 
 // n values of v to x, after its first m. A part of an array is lent here and not in the methods below: proofs have no
@@ -30,19 +35,29 @@ fn put_v(
     sizes: &[u32],
     bytes: &[u8],
     odd: &mut [i64],
+    lifted: &mut [u64],
     x: &mut [i64],
     m: usize,
     n: usize,
 )
     requires lent { sizes.now ≡ odd_sizes }
     requires byte_tables { ByteTables S1 8 tables.now }
-    requires room { (n ≤ 232) × (m + n ≤ length x.old) × (length odd.old ≡ 247) × (length bytes.now ≡ 2 * n + 36) }
+    requires room { (n ≤ 232) × (m + n ≤ length x.old) × (length odd.old ≡ 247) × (length lifted.old ≡ 456) × (length bytes.now ≡ 2 * n + 36) }
+    requires low { Low lifted.old }
     requires small { Small (2 ^ 27) x.old }
+    ensures still_low { Low lifted.new }
     ensures small_2 { Small (2 ^ 27) x.new }
     ensures held { (β : ℕ → ℕ) (i : ℕ) → 10 ≤ i + m → Held 0 β (2 * (i + m) - 19) (2 * n + 36) bytes.now → Held (pos 0) (v β) i m x.old → Held (pos 0) (v β) i (m + n) x.new }
     ensures rest { (k : ℕ) → m + n ≤ k → get_or x.new k (pos 0) ≡ get_or x.old k (pos 0) }
 {
-    crate::half_band(tables, sizes, bytes, &mut odd[..n + 15], &mut x[m..m + n]);
+    crate::half_band(
+        tables,
+        sizes,
+        bytes,
+        &mut odd[..n + 15],
+        lifted,
+        &mut x[m..m + n],
+    );
 }
 
 // n values of u of Wide to x, after its first m.
@@ -67,6 +82,8 @@ impl Buffers {
             odd: [0; 247],
             x: [0; 512],
             kept: [0; 184],
+            lifted: [0; 456],
+            second: [0; 200],
             sizes: band::half_sizes(),
         }
     }
@@ -80,7 +97,16 @@ impl Buffers {
         ensures held { (β : ℕ → ℕ) (i : ℕ) → 10 ≤ i + m → Held 0 β (2 * (i + m) - 19) (2 * n + 36) bytes.now → Held (pos 0) (v β) i m self.old.x → Held (pos 0) (v β) i (m + n) self.new.x }
         ensures rest { (k : ℕ) → m + n ≤ k → get_or self.new.x k (pos 0) ≡ get_or self.old.x k (pos 0) }
     {
-        put_v(tables, &self.sizes, bytes, &mut self.odd, &mut self.x, m, n);
+        put_v(
+            tables,
+            &self.sizes,
+            bytes,
+            &mut self.odd,
+            &mut self.lifted,
+            &mut self.x,
+            m,
+            n,
+        );
     }
 
     // n values of u of Wide, after a margin of m.

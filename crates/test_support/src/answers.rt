@@ -33,7 +33,7 @@ pub fn refusal(number: u64, first: u64, second: u64) -> Told {
 
 // A refusal's number and data; of a gain the bits of its decibels.
 fn error(e: PcmError) -> Told {
-    let report = codes::Report::from(e);
+    let report = codes::Answer::from(e);
     let number = u64::from(report.number);
     match e {
         PcmError::Gain(db) => refusal(number, bits(db), 0),

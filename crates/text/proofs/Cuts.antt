@@ -15,7 +15,7 @@ use Rattle.std.specs.Prelude.{Some, None, position}
 use Rattle.std.specs.List.{position_or_len}
 use Rattle.std.proofs.lemmas.List.Sums.{fails_before_first}
 use Rattle.std.proofs.lemmas.Option.{none-some}
-use Rattle.text.specs.Lists.{Without}
+use Rattle.text.specs.inner.Lists.{Without}
 
 is_false : {X : Type 0} (b : Bool) (x : X) → cond b (Some x) None ≡ None → b ≡ false
 is_false true x e = absurd (none-some x (sym e))

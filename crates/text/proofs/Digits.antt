@@ -8,7 +8,7 @@ use lib.ListN.{length, take, drop, get_or, length-append, take-append-drop}
 use lib.Seq.{take-suc}
 use Rattle.std.specs.Prelude.{Option, Some, None}
 use Rattle.text.specs.Text.{decimal}
-use Rattle.text.specs.Reading.{NumberRead}
+use Rattle.text.specs.inner.Reading.{NumberRead}
 use Rattle.text.proofs.Numerals.{one_digit, last_digit, some_digit, single, split}
 use Rattle.text.proofs.Options.{no_some, some_is}
 

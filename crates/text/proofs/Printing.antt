@@ -47,7 +47,8 @@ module _ (l : List ℕ) (at : ℕ) (s t : List ℕ) where
       let rest = drop (at + length s) l in
       let size : length lead ≡ at + length s = length-append (take at l) s ∙ omega (arith, length-take-le at l h) in
       let all : at + length (s ++ t) ≡ at + length s + length t = omega (arith, length-append s t) in
-      let back : drop (at + length s + length t) (lead ++ rest) ≡ drop (at + length s + length t) l = rw (← drop-drop (length t) (at + length s) (lead ++ rest), drop_at lead rest (at + length s) size, drop-drop) in
+      let back : drop (at + length s + length t) (lead ++ rest) ≡ drop (at + length s + length t) l =
+      rw (← drop-drop (length t) (at + length s) (lead ++ rest), drop_at lead rest (at + length s) size, drop-drop) in
       rw (← append_assoc (take at l) s rest, take_at lead rest (at + length s) size, back, all) (simp append_assoc)
 
 -- two texts, one after the other

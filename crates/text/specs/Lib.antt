@@ -1,5 +1,4 @@
 pub mod Text
-pub mod Writing
-pub mod Reading
 pub mod Lists
 pub mod Bytes
+pub mod inner

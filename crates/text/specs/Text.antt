@@ -27,15 +27,16 @@ unfoldable pub decimal : ℕ → List ℕ
 decimal n = numeral (suc n) n
 
 -- a minus sign below 0; so there is no -0
-unfoldable pub signed : ℤ → List ℕ
-signed (pos n) = decimal n
-signed (negsuc n) = 45 ∷ decimal (suc n)
+unfoldable pub signed_decimal : ℤ → List ℕ
+signed_decimal (pos n) = decimal n
+signed_decimal (negsuc n) = 45 ∷ decimal (suc n)
 
 -- a list with a text put into it from a place on
 unfoldable pub with_text : List ℕ → ℕ → List ℕ → List ℕ
 with_text l at t = take at l ++ (t ++ drop (at + length t) l)
 
--- what a function that prints promises: it puts the text from a place on, keeps all else, and answers the place after it
+-- what a function that prints promises: it puts the text from a place on, keeps all else, and answers the place after
+-- it
 pub record Printed (t old : List ℕ) (at : ℕ) (new : List ℕ) (next : ℕ) : Type 0 where
   pub written : new ≡ with_text old at t
   pub after : next ≡ at + length t

@@ -1,5 +1,5 @@
 // Lists of bytes: cut at the first of a byte.
-ghost use Rattle.text.specs.Lists.{SplitOnce};
+ghost use Rattle.text.specs.inner.Lists.{SplitOnce};
 
 // What is in front of the first of a byte, and what is after it.
 pub fn split_once(text: &[u8], byte: u8) -> Option<(&[u8], &[u8])>

@@ -1,8 +1,8 @@
-// Text put into a lent slice. Printing here cannot fail, so it is not by `write!`: that one answers a Result, and what it
-// promises is said for its Ok alone.
+// Text put into a lent slice. Printing here cannot fail, so it is not by `write!`: that one answers a Result, and what
+// it promises is said for its Ok alone.
 ghost use Rattle.std.specs.Prelude.{◌≡◌, [], ◌∷◌, ◌++◌, ◌+◌, ◌≤◌, ◌<◌, length};
 ghost use Rattle.text.specs.Text as texts;
-ghost use Rattle.text.specs.Writing.{Prints};
+ghost use Rattle.text.specs.inner.Writing.{Prints};
 
 // A lent slice, and the place from which the next text is put.
 #[derive(Drop)]
@@ -35,8 +35,8 @@ impl<'a> Text<'a> {
 
     // z in decimal, with a minus sign if it is below 0.
     pub fn signed(&mut self, z: i64)
-        requires { self.old.at + length (texts.signed z) ≤ length self.old.out.now }
-        ensures { Prints (texts.signed z) self.old self.new }
+        requires { self.old.at + length (texts.signed_decimal z) ≤ length self.old.out.now }
+        ensures { Prints (texts.signed_decimal z) self.old self.new }
     {
         if z < 0 {
             self.put(b"-");
@@ -56,7 +56,7 @@ impl<'a> Text<'a> {
 
     pub fn labelled_signed(&mut self, word: &[u8], z: i32)
         requires { self.old.at + (length word.now + 11) ≤ length self.old.out.now }
-        ensures printed { Prints (word.now ++ texts.signed z) self.old self.new }
+        ensures printed { Prints (word.now ++ texts.signed_decimal z) self.old self.new }
         ensures upper_bound { self.new.at ≤ self.old.at + (length word.now + 11) }
     {
         self.put(word);

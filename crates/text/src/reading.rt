@@ -1,6 +1,6 @@
 // Numbers read, digit by digit.
 ghost use Rattle.std.specs.Prelude.{◌↔◌, List, [], ◌∷◌, ◌++◌, ℕ, ◌<◌, Some, IsTrue, length};
-ghost use Rattle.text.specs.Reading.{NumberRead};
+ghost use Rattle.text.specs.inner.Reading.{NumberRead};
 
 // A number's first digit.
 fn digit(byte: u8) -> Option<u32>

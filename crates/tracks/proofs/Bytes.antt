@@ -15,7 +15,8 @@ use Rattle.numbers.proofs.Lists.{length_tabulate, get_d_tabulate, below_or}
 use Rattle.reference.specs.Frames.{idle}
 use Rattle.dsf.specs.Dsf.{channels, bits_per_sample, samples, turn_byte}
 use Rattle.dsf_columns.proofs.Blocks.{quotient, remainder}
-use Rattle.tracks.specs.Tracks.{Track, heads, head_length, all_length, track_bytes, tracks_bytes, track_byte, tracks_byte, tracks_frame}
+use Rattle.tracks.specs.Tracks.{Track, heads, head_length, all_length, track_bytes, tracks_bytes, tracks_frame}
+use Rattle.tracks.specs.inner.Tracks.{track_byte, tracks_byte}
 
 -- tracks of n channels
 abbrev pub Alike : ℕ → List Track → Type 0

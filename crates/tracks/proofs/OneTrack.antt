@@ -11,7 +11,8 @@ use Rattle.numbers.proofs.Lists.{tabulate_same, get_d_tabulate, below_or}
 use Rattle.reference.specs.Frames.{frame_length, idle}
 use Rattle.reference.specs.Refusals.{decide}
 use Rattle.dsf.specs.Dsf.{channels, bits_per_sample, samples, frames, frames_in, sample_byte, turn_byte, data_frame, file_data, file_frame}
-use Rattle.tracks.specs.Tracks.{track_of, head_length, all_length, frames_of_bytes, tracks_frames, track_bytes, tracks_bytes, tracks_frame, tracks_run, first_places, rest_places, tracks_places, open_places}
+use Rattle.tracks.specs.Tracks.{track_of, head_length, all_length, frames_of_bytes, tracks_frames, track_bytes, tracks_bytes}
+use Rattle.tracks.specs.Tracks.{tracks_frame, tracks_run, first_places, rest_places, tracks_places, open_places}
 use Rattle.tracks.specs.OneTrack.{file_run, OneTrack, OneTrackFrames, OneOpened}
 use Rattle.tracks.proofs.Sequences.{from_same}
 use Rattle.tracks.proofs.Bytes.{length_track}

@@ -21,7 +21,8 @@ use Rattle.dsf.specs.Dsf.{pair, pairs, layout, alike, fits, channel_type, channe
 use Rattle.dsf.specs.Reading.{header_places}
 use Rattle.dsf.proofs.Alike.{T_of, alike_nil, both, left, right, alike_after, alike_take, any_elim, all_each}
 use Rattle.dsf.proofs.Accepted.{head_sound}
-use Rattle.tracks.specs.Tracks.{Head, head_length, all_length, frames_of_bytes, tracks_frames, tracks_channels, tracks_type, settings_for, tracks_converter, too_long, first_places, next_places, rest_places, tracks_places, open_places}
+use Rattle.tracks.specs.Tracks.{Head, head_length, all_length, frames_of_bytes, tracks_frames, tracks_channels, tracks_type, settings_for}
+use Rattle.tracks.specs.Tracks.{tracks_converter, too_long, first_places, next_places, rest_places, tracks_places, open_places}
 
 -- ---- a channel type has its channels
 
@@ -55,7 +56,8 @@ module _ (h : Head) (taken : decide (header_places h.bytes h.long) ≡ accepted)
     pub with_pair : P 1 1 → P 2 2 → P 3 3 → P 4 4 → P 5 4 → P 6 5 → P 7 6 → P (channel_type h.bytes) (channels h.bytes)
     unfolding layout pairs fits
     with_pair one two three four five six seven =
-        any_elim (alike (drop 48 h.bytes)) (pair 1 1 ∷ pair 2 2 ∷ pair 3 3 ∷ pair 4 4 ∷ pair 5 4 ∷ pair 6 5 ∷ pair 7 6 ∷ []) (all_each (fits h.bytes) layout (head_sound h.bytes h.long taken).as_laid_out).1.1.1.1.1.1.0 (
+        any_elim (alike (drop 48 h.bytes)) (pair 1 1 ∷ pair 2 2 ∷ pair 3 3 ∷ pair 4 4 ∷ pair 5 4 ∷ pair 6 5
+        ∷ pair 7 6 ∷ []) (all_each (fits h.bytes) layout (head_sound h.bytes h.long taken).as_laid_out).1.1.1.1.1.1.0 (
           by_pair 1 1 (omega arith) (omega arith) one,
           (
             by_pair 2 2 (omega arith) (omega arith) two,

@@ -12,12 +12,12 @@ use Rattle.numbers.specs.Lists.{tabulate}
 use Rattle.numbers.proofs.Lists.{below_or}
 use Rattle.text.specs.Text.{joined}
 use Rattle.text.proofs.Printing.{joined_last}
-use Rattle.tracks.specs.Tracks.{part}
-use Rattle.tracks.specs.TracksToFiles.{Holds, clip}
+use Rattle.text.specs.Lists.{part}
+use Rattle.tracks.specs.TracksToFiles.{HoldsAt, clip}
 
 -- parts of which each begins where the one before it ends
 pub parts_join : (m : ℕ → ℕ) (l : List ℕ) → m 0 ≡ 0 → ((k : ℕ) → m k ≤ m (k + 1)) → (n : ℕ) → joined (tabulate (λ k. part (m k) (m (k + 1)) l) 0 n) ≡ take (m n) l
-unfolding tabulate joined part
+unfolding tabulate joined
 parts_join m l z up zero = rw z refl
 parts_join m l z up (suc n) =
     let here : m n + (m (n + 1) - m n) ≡ m (n + 1) = omega (arith, up n) in
@@ -53,7 +53,7 @@ drop_take (suc i) (suc j) (x ∷ l) =
     rw e (drop_take i j l)
 
 pub clip_all : (low high : ℕ) (l : List ℕ) → clip low high 0 l ≡ part low high l
-unfolding clip part
+unfolding clip
 clip_all low high l = rw (sub-zero low, sub-zero high) (drop_take low high l)
 
 pub length_clip : (low high a : ℕ) (l : List ℕ) → length (clip low high a l) ≡ min (high - a) (length l) - (low - a)
@@ -61,7 +61,6 @@ unfolding clip
 length_clip low high a l = length-drop (low - a) (take (high - a) l) ∙ rw (length-take (high - a) l) refl
 
 pub length_part : (low high : ℕ) (l : List ℕ) → high ≤ length l → length (part low high l) ≡ high - low
-unfolding part
 length_part low high l h = length-take (high - low) (drop low l) ∙ rw (length-drop low l) (omega arith)
 
 least_second : (m n : ℕ) → n ≤ m → min m n ≡ n
@@ -137,8 +136,8 @@ fits_between : (low high a k : ℕ) → min (high - a) k - (low - a) ≤ high - 
 fits_between low high a k = omega arith
 
 -- a clipped list that a file holds at its place is at that place of the part that it belongs to
-pub held_between : (out : List ℕ) (front low high a : ℕ) (x : List ℕ) → Holds out (front + (a - low)) (clip low high a x)
-    → Holds (take (high - low) (drop front out)) (a - low) (clip low high a x)
+pub held_between : (out : List ℕ) (front low high a : ℕ) (x : List ℕ) → HoldsAt out (front + (a - low)) (clip low high a x)
+    → HoldsAt (take (high - low) (drop front out)) (a - low) (clip low high a x)
 held_between out front low high a x h =
     let y = clip low high a x in
     let short : length y ≤ high - low - (a - low) = rw (length_clip low high a x) (fits_between low high a (length x)) in
@@ -149,8 +148,8 @@ held_between out front low high a x h =
     }
 
 -- a file in three parts
-pub three_parts : (out front middle behind : List ℕ) → length out ≡ length front + length middle + length behind → Holds out 0 front
-    → take (length middle) (drop (length front) out) ≡ middle → Holds out (length front + length middle) behind → out ≡ front ++ (middle ++ behind)
+pub three_parts : (out front middle behind : List ℕ) → length out ≡ length front + length middle + length behind → HoldsAt out 0 front
+    → take (length middle) (drop (length front) out) ≡ middle → HoldsAt out (length front + length middle) behind → out ≡ front ++ (middle ++ behind)
 three_parts out front middle behind long begins between ends =
     let last : drop (length front + length middle) out ≡ behind =
     sym (take_all (length behind) (drop (length front + length middle) out) (omega (arith, length-drop (length front + length middle) out, long))) ∙ ends.is in

@@ -54,7 +54,10 @@ module _ (size : ℕ) (F : ℕ → List ℕ) (long : (k : ℕ) → length (F k) 
       inside : k < n → take size (drop (k * size) (frames_from F 0 n)) ≡ F k → take size (drop (k * size) (frames_from F 0 n ++ F n)) ≡ F k
       inside l before =
           let e : k * size + size ≤ length (frames_from F 0 n) = rw (from_length 0 n) (part_end k n size l) in
-          rw (drop-append-le (k * size) (frames_from F 0 n) (F n) (omega arith), take-append-le size (drop (k * size) (frames_from F 0 n)) (F n) (omega (arith, length-drop (k * size) (frames_from F 0 n)))) before
+          rw (
+            drop-append-le (k * size) (frames_from F 0 n) (F n) (omega arith),
+            take-append-le size (drop (k * size) (frames_from F 0 n)) (F n) (omega (arith, length-drop (k * size) (frames_from F 0 n))),
+          ) before
 
       last : n ≤ k → take size (drop (k * size) (frames_from F 0 n ++ F n)) ≡ F k
       last l =
@@ -97,7 +100,17 @@ module _ (n : ℕ) (F : ℕ → List ℕ) (f : ℕ) (long : (k : ℕ) → length
   sequence_is : sequence n whole ≡ frames_from G 0 (1 + f + 1)
   unfolding sequence neighbour G
   sequence_is =
-      sym (rw (from_join G 0 (1 + f) 1, from_join G 0 1 f, from_one G 0, zero-add (1 + f), zero-add 1, from_one G (1 + f), G_last, from_same G F 1 0 f G_in, append_assoc quiet (frames_from F 0 f) quiet) refl)
+      sym (rw (
+        from_join G 0 (1 + f) 1,
+        from_join G 0 1 f,
+        from_one G 0,
+        zero-add (1 + f),
+        zero-add 1,
+        from_one G (1 + f),
+        G_last,
+        from_same G F 1 0 f G_in,
+        append_assoc quiet (frames_from F 0 f) quiet,
+      ) refl)
 
   frame_is : (k : ℕ) → k < 1 + f + 1 → frame n (sequence n whole) k ≡ G k
   unfolding frame

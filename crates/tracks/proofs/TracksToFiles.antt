@@ -23,12 +23,13 @@ use Rattle.reference.specs.declared.Converter.{Converter}
 use Rattle.reference.specs.declared.ConvertStats.{ConvertStats}
 use Rattle.reference.proofs.Refusals.{decide_skip}
 use Rattle.reference.proofs.Promises.{exit_accepted}
+use Rattle.text.specs.Lists.{part}
 use Rattle.joins.specs.Joins.{Call, convert, run_of, answer_of, samples_of, read_s24le, right_lengths, is_answered_accepted, keep, pieces, SameBytes, Agree, AllAgree, JoinTo, GiveWholeRun}
 use Rattle.joins.proofs.Bytes.{samples_back, bytes_join, no_bytes}
 use Rattle.joins.proofs.Joins.{cut_runs_join}
 use Rattle.tracks.specs.Runs.{frames_from, run_from, there}
-use Rattle.tracks.specs.Tracks.{Track, heads, tracks_channels, tracks_frames, tracks_frame, tracks_run, tracks_piece, tracks_converter, open_places, data_start, album_data, track_data, fill_data, part}
-use Rattle.tracks.specs.TracksToFiles.{album_frame, Step, Cut, Holds, clip, Holding, HoldingTrack, HoldingAll, TracksToFiles, PieceAccepted}
+use Rattle.tracks.specs.Tracks.{Track, heads, tracks_channels, tracks_frames, tracks_frame, tracks_run, tracks_piece, tracks_converter, open_places, data_start, album_data, track_data, fill_data}
+use Rattle.tracks.specs.TracksToFiles.{album_frame, Step, Cut, HoldsAt, clip, Holding, HoldingTrack, HoldingAll, TracksToFiles, PieceAccepted}
 use Rattle.tracks.proofs.Sequences.{none_from, from_join, before_is, after_is}
 use Rattle.tracks.proofs.StepCalls.{frames_are, fits_run, samples_are, accepted_call}
 use Rattle.tracks.proofs.Opened as Opened
@@ -192,7 +193,11 @@ module _ (ts : List Track) (s : Settings) (taken : decide (open_places (heads ts
       let h = within from p ps e in
       let first = step_agree p h in
       let rest = all_agree (from + p.count) ps e.1 in
-      rw (step_count p h) (subst (λ (k : ℕ). Agree conv (frame n (sequence n (tracks_run n ts)) k) (run_of (step_call p h)) (frame n (sequence n (tracks_run n ts)) (suc (k + p.count)))) e.0 first, rest)
+      rw (step_count p h) (
+        subst (λ (k : ℕ). Agree conv (frame n (sequence n (tracks_run n ts)) k)
+            (run_of (step_call p h)) (frame n (sequence n (tracks_run n ts)) (suc (k + p.count)))) e.0 first,
+        rest,
+      )
 
   whole_run : run_from F f 0 f ≡ tracks_run n ts
   unfolding run_from tracks_run there
@@ -248,7 +253,7 @@ module _ (ts : List Track) (s : Settings) (taken : decide (open_places (heads ts
 
     -- the part of a file between the two others
     data_is : (m : List ℕ) → length m ≡ high - low → (from : ℕ) (ps : List (Step ts s)) → Cut from f ps
-        → Each (λ p. Holds m (p.first * size - low) (clip low high (p.first * size) p.out)) ps
+        → Each (λ p. HoldsAt m (p.first * size - low) (clip low high (p.first * size) p.out)) ps
         → drop (from * size - low) m ≡ clip low high (from * size) (flat_map (λ (p : Step ts s). p.out) ps)
     unfolding flat_map
     data_is m l from [] e h = drop_of_length-le m {i = from * size - low} (rw e (omega arith)) ∙ sym (clip_none low high (from * size))
@@ -263,8 +268,8 @@ module _ (ts : List Track) (s : Settings) (taken : decide (open_places (heads ts
         sym (take-append-drop (length x) (drop (from * size - low) m))
         ∙ ap₂ (λ (p q : List ℕ). p ++ q) here behind ∙ sym (clip_join low high (from * size) p.out others)
 
-    between : (front : ℕ) (out : List ℕ) (ps : List (Step ts s)) → Each (λ p. Holds out (front + (p.first * size - low)) (clip low high (p.first * size) p.out)) ps
-        → Each (λ p. Holds (take (high - low) (drop front out)) (p.first * size - low) (clip low high (p.first * size) p.out)) ps
+    between : (front : ℕ) (out : List ℕ) (ps : List (Step ts s)) → Each (λ p. HoldsAt out (front + (p.first * size - low)) (clip low high (p.first * size) p.out)) ps
+        → Each (λ p. HoldsAt (take (high - low) (drop front out)) (p.first * size - low) (clip low high (p.first * size) p.out)) ps
     between front out [] e = tt
     between front out (p ∷ ps) e = (held_between out front low high (p.first * size) p.out e.0, between front out ps e.1)
 
@@ -294,7 +299,6 @@ module _ (ts : List Track) (s : Settings) (taken : decide (open_places (heads ts
       file_is (data_start s.rate n (heads ts) k) (data_start s.rate n (heads ts) (k + 1)) (data_order s.rate n (heads ts) k) (track_within k h) ps e
 
   all_of_it : part 0 (f * size) (album_data ts s) ≡ album_data ts s
-  unfolding part
   all_of_it = rw (sub-zero (f * size), ← album_long) (take-length (album_data ts s))
 
   all : (ps : List (Step ts s)) → Cut 0 f ps → (front behind out : List ℕ) → HoldingAll ps front behind out → out ≡ front ++ (album_data ts s ++ behind)

@@ -17,7 +17,8 @@ use Rattle.dsf.specs.Reading.{HeadOf, file_header}
 use Rattle.dsf.specs.declared.DsfHeader.{DsfHeader}
 use Rattle.dsf.proofs.Head.{header_right}
 use Rattle.dsf_columns.proofs.Blocks.{group, place_below}
-use Rattle.tracks.specs.Tracks.{Head, Track, head_of, track_of, heads, head_length, all_length, tracks_frames, tracks_bytes, track_byte, tracks_byte, tracks_frame}
+use Rattle.tracks.specs.Tracks.{Head, Track, head_of, track_of, heads, head_length, all_length, tracks_frames, tracks_bytes, tracks_frame}
+use Rattle.tracks.specs.inner.Tracks.{track_byte, tracks_byte}
 use Rattle.tracks.specs.Windows.{low, high, own_from, own_to, read_start, read_end, read_bytes, windowed_data, windowed, HeadsOf, WindowAt, WindowsFrom, WindowedPiece}
 use Rattle.tracks.proofs.Bytes.{Alike, bytes_by_position}
 use Rattle.tracks.proofs.Sequences.{run_same}
@@ -115,11 +116,13 @@ module _ (n a b c : ℕ) (w : List ℕ) (l : c < n) where
       mine = sample_byte (windowed_data (read_start n h o a b) p w) (channels h.bytes) (bits_per_sample h.bytes) (samples h.bytes) c q
 
       inside : q < head_length h
-          → cond (ltb q (head_length h)) mine (tracks_byte tail c (q - head_length h)) ≡ cond (ltb q (head_length (head_of f))) (track_byte (track_of f) c q) (tracks_byte (map track_of fs) c (q - head_length (head_of f)))
+          → cond (ltb q (head_length h)) mine (tracks_byte tail c (q - head_length h))
+          ≡ cond (ltb q (head_length (head_of f))) (track_byte (track_of f) c q) (tracks_byte (map track_of fs) c (q - head_length (head_of f)))
       inside m = rw (← same_length f h g.0, lt-ltb q (head_length h) m) (byte_same f h g.0 e.0 o p d.0 q from to m)
 
       behind : head_length h ≤ q → tracks_byte tail c (q - head_length h) ≡ tracks_byte (map track_of fs) c (q - head_length h)
-          → cond (ltb q (head_length h)) mine (tracks_byte tail c (q - head_length h)) ≡ cond (ltb q (head_length (head_of f))) (track_byte (track_of f) c q) (tracks_byte (map track_of fs) c (q - head_length (head_of f)))
+          → cond (ltb q (head_length h)) mine (tracks_byte tail c (q - head_length h))
+          ≡ cond (ltb q (head_length (head_of f))) (track_byte (track_of f) c q) (tracks_byte (map track_of fs) c (q - head_length (head_of f)))
       behind m later = rw (← same_length f h g.0, le-ltb q (head_length h) m) later
 
 -- ---- a frame

@@ -3,3 +3,4 @@ pub mod Tracks
 pub mod TracksToFiles
 pub mod Windows
 pub mod OneTrack
+pub mod inner

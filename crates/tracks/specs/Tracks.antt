@@ -1,6 +1,6 @@
 -- An album that comes as tracks: DSF files of the same channel type, whose samples end to end are one album, converted
 -- as one run.
-use Rattle.std.specs.Prelude.{List, [], ◌∷◌, ◌++◌, map, flat_map, false, not, cond, ℕ, ◌+◌, ◌-◌, ◌*◌, ◌/◌, ◌≤◌, ◌<◌, eqb, ltb, length, get_or, take, drop}
+use Rattle.std.specs.Prelude.{List, [], ◌∷◌, ◌++◌, map, flat_map, false, not, cond, ℕ, ◌+◌, ◌-◌, ◌*◌, ◌/◌, ◌≤◌, ◌<◌, eqb, length, get_or, take, drop}
 use Rattle.numbers.specs.Lists.{tabulate}
 use Rattle.reference.specs.Frames.{Run, run, frame_bytes, frame_length, idle}
 use Rattle.reference.specs.Output.{samples as samples_of, s24le}
@@ -10,7 +10,8 @@ use Rattle.reference.specs.declared.Settings.{Settings}
 use Rattle.reference.specs.declared.Converter.{Converter}
 use Rattle.reference.specs.declared.PcmRate.{PcmRate}
 use Rattle.reference.specs.declared.PcmRate.TheVariants.{Hz88200, Hz176400, Hz352800}
-use Rattle.dsf.specs.Dsf.{channel_type, channels, bits_per_sample, samples, sample_byte, turn_byte, file_data}
+use Rattle.text.specs.Lists.{part}
+use Rattle.dsf.specs.Dsf.{channel_type, channels, bits_per_sample, samples, turn_byte, file_data}
 use Rattle.dsf.specs.Reading.{header_places}
 use Rattle.wav_header.specs.Header.{sample_bytes}
 use Rattle.tracks.specs.Runs.{frames_from, run_from}
@@ -86,15 +87,6 @@ track_bytes t =
 -- the tracks end to end: one may end inside a frame, or be shorter than one
 unfoldable pub tracks_bytes : List Track → List ℕ
 tracks_bytes ts = flat_map track_bytes ts
-
--- byte p of channel c of a track, and of all of them with idle behind the last: the same by position. Proved in
--- proofs/Bytes, `bytes_by_position`
-abbrev pub track_byte : Track → ℕ → ℕ → ℕ
-track_byte t = sample_byte t.read (channels t.head.bytes) (bits_per_sample t.head.bytes) (samples t.head.bytes)
-
-unfoldable pub tracks_byte : List Track → ℕ → ℕ → ℕ
-tracks_byte [] c p = idle
-tracks_byte (t ∷ ts) c p = cond (ltb p (head_length t.head)) (track_byte t c p) (tracks_byte ts c (p - head_length t.head))
 
 -- frame k of n channels, cut from the joined bytes: the last one is filled with 0x69
 unfoldable pub tracks_frame : ℕ → List Track → ℕ → List ℕ
@@ -174,10 +166,6 @@ pub record Has (rate : PcmRate) (hs : List Head) (k i : ℕ) : Type 0 where
 -- where track k's bytes begin in the data of an album of n channels
 unfoldable pub data_start : PcmRate → ℕ → List Head → ℕ → ℕ
 data_start rate n hs k = first_sample rate (offset hs k) * (sample_bytes * n)
-
--- the bytes of a list from place a on to place b
-unfoldable pub part : ℕ → ℕ → List ℕ → List ℕ
-part a b l = take (b - a) (drop a l)
 
 -- the album's data
 abbrev pub album_data : List Track → Settings → List ℕ

@@ -40,7 +40,7 @@ Cut from f (p ∷ ps) = (p.first ≡ from) × Cut (from + p.count) f ps
 -- ---- files
 
 -- a file has these bytes from a place on
-pub record Holds (out : List ℕ) (place : ℕ) (bytes : List ℕ) : Type 0 where
+pub record HoldsAt (out : List ℕ) (place : ℕ) (bytes : List ℕ) : Type 0 where
   pub is : take (length bytes) (drop place out) ≡ bytes
 
 -- of bytes that stand from place a on, those from `low` on to `high`
@@ -51,9 +51,9 @@ clip low high a l = drop (low - a) (take (high - a) l)
 -- step's bytes those at their place, whoever put them there, and in whatever order
 pub record Holding {ts : List Track} {s : Settings} (steps : List (Step ts s)) (low high : ℕ) (front behind out : List ℕ) : Type 0 where
   pub long : length out ≡ length front + (high - low) + length behind
-  pub begins : Holds out 0 front
-  pub each : Each (λ p. Holds out (length front + (p.first * album_frame ts s - low)) (clip low high (p.first * album_frame ts s) p.out)) steps
-  pub ends : Holds out (length front + (high - low)) behind
+  pub begins : HoldsAt out 0 front
+  pub each : Each (λ p. HoldsAt out (length front + (p.first * album_frame ts s - low)) (clip low high (p.first * album_frame ts s) p.out)) steps
+  pub ends : HoldsAt out (length front + (high - low)) behind
 
 -- track k's
 abbrev pub HoldingTrack : {ts : List Track} {s : Settings} → List (Step ts s) → ℕ → List ℕ → List ℕ → List ℕ → Type 0

@@ -1,10 +1,9 @@
 -- What is read of each track for some frames, and the tracks out of it.
-use Rattle.std.specs.Prelude.{◌≡◌, List, [], ◌∷◌, map, cond, ℕ, ◌+◌, ◌-◌, ◌*◌, ◌/◌, ◌≤◌, ◌<◌, ltb, get_or}
+use Rattle.std.specs.Prelude.{◌≡◌, List, [], ◌∷◌, map, cond, ℕ, ◌+◌, ◌-◌, ◌*◌, ◌/◌, ◌≤◌, ◌<◌, ltb, get_or, min}
 use Rattle.numbers.specs.Lists.{Each}
 use Rattle.reference.specs.Frames.{frame_bytes}
 use Rattle.dsf.specs.Dsf.{block, blocks, channels, file_data}
 use Rattle.dsf.specs.Reading.{HeadOf}
-use Rattle.dsf_frames.specs.Reading.{lesser}
 use Rattle.tracks.specs.Tracks.{Head, Track, track_of, head_length, tracks_frames, tracks_piece}
 
 -- ---- the frames
@@ -15,7 +14,7 @@ abbrev pub low : ℕ → ℕ
 low first = first - 1
 
 abbrev pub high : List Head → ℕ → ℕ → ℕ
-high hs first count = lesser (first + count + 1) (tracks_frames hs)
+high hs first count = min (first + count + 1) (tracks_frames hs)
 
 -- ---- a track's bytes
 
@@ -25,7 +24,7 @@ abbrev pub own_from : ℕ → ℕ → ℕ
 own_from o a = a - o
 
 abbrev pub own_to : Head → ℕ → ℕ → ℕ
-own_to h o b = lesser (head_length h) (b - o)
+own_to h o b = min (head_length h) (b - o)
 
 -- the groups of blocks of n channels around them: the stretch of the track's data to read. 0 and 0 where it has none
 unfoldable pub read_start : ℕ → Head → ℕ → ℕ → ℕ → ℕ

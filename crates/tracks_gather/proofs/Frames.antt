@@ -1,3 +1,4 @@
+use Rattle.std.proofs.Common.{min}
 -- Frames gathered from tracks.
 use mathlib.Core.Path.{◌≡◌, refl, sym, ap, subst, ◌∙◌}
 use mathlib.Core.Logic.{⊎_elim}
@@ -14,31 +15,30 @@ use Rattle.text.specs.Text.{with_text, Printed}
 use Rattle.text.proofs.Printing.{then, filled}
 use Rattle.reference.specs.Frames.{frame_length, idle}
 use Rattle.dsf.specs.Dsf.{channels, bits_per_sample, samples, turn_byte}
-use Rattle.dsf_frames.specs.Reading.{lesser}
 use Rattle.tracks.specs.Runs.{frames_from}
 use Rattle.tracks.specs.Tracks.{Track, heads, head_length, all_length, track_bytes, tracks_bytes, tracks_frame}
 use Rattle.tracks.specs.TracksToFiles.{clip}
 use Rattle.tracks.proofs.Bytes.{Alike, length_track, length_tracks}
 use Rattle.tracks.proofs.Parts.{clip_none, clip_join, length_clip}
 use Rattle.tracks.proofs.Sequences.{none_from, from_one, from_join}
-use Rattle.tracks_put.specs.Putting.{stretch}
-use Rattle.tracks_put.specs.Placing.{with_track, with_fill}
+use Rattle.tracks_put.specs.inner.Putting.{stretch}
+use Rattle.tracks_put.specs.inner.Placing.{with_track, with_fill}
 use Rattle.tracks_put.proofs.Pieces.{with_none}
-use Rattle.tracks_gather.specs.Gathering.{with_tracks, fill_at}
+use Rattle.tracks_gather.specs.inner.Gathering.{with_tracks, fill_at}
 
 -- the first of a tabulated list, and those behind a place
-take_tabulate : (f : ℕ → ℕ) (m n : ℕ) → take m (tabulate f 0 n) ≡ tabulate f 0 (lesser n m)
+take_tabulate : (f : ℕ → ℕ) (m n : ℕ) → take m (tabulate f 0 n) ≡ tabulate f 0 (min n m)
 take_tabulate f m n = ⊎_elim less more (below_or m n)
   where
-    less : m < n → take m (tabulate f 0 n) ≡ tabulate f 0 (lesser n m)
+    less : m < n → take m (tabulate f 0 n) ≡ tabulate f 0 (min n m)
     less h =
         let e : m + (n - m) ≡ n = omega arith in
-        let g : lesser n m ≡ m = omega arith in
+        let g : min n m ≡ m = omega arith in
         rw (g, ← e, tabulate_join f 0 m (n - m)) (take_at (tabulate f 0 m) (tabulate f (0 + m) (n - m)) m (length_tabulate f 0 m))
 
-    more : n ≤ m → take m (tabulate f 0 n) ≡ tabulate f 0 (lesser n m)
+    more : n ≤ m → take m (tabulate f 0 n) ≡ tabulate f 0 (min n m)
     more h =
-        let g : lesser n m ≡ n = omega arith in
+        let g : min n m ≡ n = omega arith in
         rw g (take_all m (tabulate f 0 n) (omega (arith, length_tabulate f 0 n)))
 
 drop_tabulate : (f : ℕ → ℕ) (m n : ℕ) → drop m (tabulate f 0 n) ≡ tabulate f m (n - m)
@@ -73,22 +73,29 @@ min_times l k n = ⊎_elim less more (below_or l k)
         let g : min l k ≡ k = omega arith in
         rw g (omega (arith, mul-le-mul_right n h))
 
-lesser_times : (l k m n : ℕ) → lesser (l * n) (k * n) - m * n ≡ (lesser l k - m) * n
-lesser_times l k m n = rw (min_times l k n) (sub_times (lesser l k) m n)
+lesser_times : (l k m n : ℕ) → min (l * n) (k * n) - m * n ≡ (min l k - m) * n
+lesser_times l k m n = rw (min_times l k n) (sub_times (min l k) m n)
 
 own_clip : (t : Track) (o a b : ℕ)
-    → let n = channels t.head.bytes in stretch t.read n (bits_per_sample t.head.bytes) (samples t.head.bytes) (a - o) (lesser (head_length t.head) (b - o)) ≡ clip (a * n) (b * n) (o * n) (track_bytes t)
+    → let n = channels t.head.bytes in stretch t.read n (bits_per_sample t.head.bytes) (samples t.head.bytes) (a - o) (min (head_length t.head) (b - o)) ≡ clip (a * n) (b * n) (o * n) (track_bytes t)
 unfolding stretch clip track_bytes
 own_clip t o a b =
     let n = channels t.head.bytes in
     let byte = turn_byte t.read n (bits_per_sample t.head.bytes) (samples t.head.bytes) in
     sym
-    (rw (sub_times a o n, sub_times b o n, take_tabulate byte ((b - o) * n) (head_length t.head * n), drop_tabulate byte ((a - o) * n) (lesser (head_length t.head * n) ((b - o) * n)), lesser_times (head_length t.head) (b - o) (a - o) n) refl)
+    (rw (
+      sub_times a o n,
+      sub_times b o n,
+      take_tabulate byte ((b - o) * n) (head_length t.head * n),
+      drop_tabulate byte ((a - o) * n) (min (head_length t.head * n) ((b - o) * n)),
+      lesser_times (head_length t.head) (b - o) (a - o) n,
+    ) refl)
 
 stretch_clip : (t : Track) (n o a b : ℕ) → channels t.head.bytes ≡ n
-    → stretch t.read n (bits_per_sample t.head.bytes) (samples t.head.bytes) (a - o) (lesser (head_length t.head) (b - o)) ≡ clip (a * n) (b * n) (o * n) (track_bytes t)
+    → stretch t.read n (bits_per_sample t.head.bytes) (samples t.head.bytes) (a - o) (min (head_length t.head) (b - o)) ≡ clip (a * n) (b * n) (o * n) (track_bytes t)
 stretch_clip t n o a b e =
-    subst (λ (n : ℕ). stretch t.read n (bits_per_sample t.head.bytes) (samples t.head.bytes) (a - o) (lesser (head_length t.head) (b - o)) ≡ clip (a * n) (b * n) (o * n) (track_bytes t)) e (own_clip t o a b)
+    subst (λ (n : ℕ). stretch t.read n (bits_per_sample t.head.bytes) (samples t.head.bytes) (a - o) (min (head_length t.head) (b - o))
+    ≡ clip (a * n) (b * n) (o * n) (track_bytes t)) e (own_clip t o a b)
 
 -- ---- texts one after the other
 two_texts : (old s t : List ℕ) (at : ℕ) → at ≡ length s → with_text (with_text old 0 s) at t ≡ with_text old 0 (s ++ t)
@@ -148,12 +155,12 @@ module _ (n a b : ℕ) (old : List ℕ) where
     s_long =
         sym (length_clip A B 0 l ∙ rw (sub-zero (b * n), sub-zero (a * n), long) (ap (λ (x : ℕ). x - a * n) least ∙ lesser_times total b a n))
       where
-        least : min (b * n) (total * n) ≡ lesser (total * n) (b * n)
+        least : min (b * n) (total * n) ≡ min (total * n) (b * n)
         least = omega arith
 
     s_fits : length s ≤ length old
     s_fits =
-        let m : lesser total b - a ≤ b - a = omega arith in
+        let m : min total b - a ≤ b - a = omega arith in
         omega (arith, s_long, lent, mul-le-mul_right n m)
 
     same_length : length (with_text old 0 s) ≡ length old

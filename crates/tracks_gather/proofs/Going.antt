@@ -11,12 +11,12 @@ use Rattle.tracks.specs.Runs.{frames_from}
 use Rattle.tracks.specs.Tracks.{Head, Track, heads, head_length, all_length, head_at, heads_of, tracks_frame}
 use Rattle.tracks.specs.Windows.{read_start, read_bytes, windowed, windowed_data, windows_length}
 use Rattle.tracks.proofs.Bytes.{Alike}
-use Rattle.tracks_open.specs.Trying.{heads_from}
+use Rattle.tracks_open.specs.inner.Trying.{heads_from}
 use Rattle.tracks_open.proofs.Heads.{front, none_left}
 use Rattle.tracks_put.specs.declared.Span.{Span}
-use Rattle.tracks_put.specs.Placing.{with_fill}
+use Rattle.tracks_put.specs.inner.Placing.{with_fill}
 use Rattle.tracks_gather.specs.declared.Start.{Start}
-use Rattle.tracks_gather.specs.Gathering.{with_one, with_tracks, TakeArgs, Taken, GatherArgs}
+use Rattle.tracks_gather.specs.inner.Gathering.{with_one, with_tracks, TakeArgs, TrackTaken, GatherArgs}
 use Rattle.tracks_gather.proofs.Frames.{gathered_frames}
 
 pub all_heads : (bytes lengths : List ℕ) → heads_from bytes lengths 0 ≡ heads_of bytes lengths
@@ -53,7 +53,7 @@ module _ {n : ℕ} {span : Span} {total room : ℕ} {w whole : List ℕ} {h : He
   unfolding all_length
   bytes_there = omega (arith, g.bytes)
 
-  pub go_on : {new : List ℕ} {next : Start} → Taken h start span w out new next → length new ≡ length out → Going n span total room w whole rest next new
+  pub go_on : {new : List ℕ} {next : Start} → TrackTaken h start span w out new next → length new ≡ length out → Going n span total room w whole rest next new
   unfolding windows_length all_length with_tracks windowed
   go_on {new} {next} t e =
       let f : channels h.bytes ≡ n = g.alike.0 in
@@ -119,7 +119,8 @@ module _ {heads' lengths : List ℕ} {n : ℕ} {frames : Span} {size room : ℕ}
           short = omega (arith, bytes_there y, g.short);
         }
 
-    pub goes_on : (k : ℕ) (start next : Start) (out new : List ℕ) → k < length lengths → Goes k start out → Taken (head_at heads' lengths k) start span w out new next → length new ≡ length out → Goes (k + 1) next new
+    pub goes_on : (k : ℕ) (start next : Start) (out new : List ℕ) → k < length lengths → Goes k start out
+        → TrackTaken (head_at heads' lengths k) start span w out new next → length new ≡ length out → Goes (k + 1) next new
     goes_on k start next out new h x t e = go_on (rw (front heads' lengths k h) at x) t e
 
     -- when no track is left

@@ -13,11 +13,11 @@ use Rattle.dsf_frames.specs.declared.FrameWindow.{FrameWindow}
 use Rattle.tracks.specs.Tracks.{Head, head_length, head_at}
 use Rattle.tracks.specs.Windows.{read_start, read_end, read_bytes, windowed_data}
 use Rattle.tracks_put.specs.declared.Span.{Span}
-use Rattle.tracks_put.specs.Placing.{track_from, track_to, with_track, TrackArgs}
-use Rattle.tracks_reads.specs.Reading.{ReadArgs, read_from, read_to}
+use Rattle.tracks_put.specs.inner.Placing.{track_from, track_to, with_track, TrackArgs}
+use Rattle.tracks_reads.specs.inner.Reading.{ReadArgs, read_from, read_to}
 use Rattle.tracks_reads.proofs.Stretches.{some_start, some_end, start_is, end_is}
 use Rattle.tracks_gather.specs.declared.Start.{Start}
-use Rattle.tracks_gather.specs.Gathering.{TakeArgs, Taken}
+use Rattle.tracks_gather.specs.inner.Gathering.{TakeArgs, TrackTaken}
 
 -- ---- a window's data, out of the list of windows
 pub window_is : (start p : ℕ) (w : List ℕ) → window_data (drop p w) start ≡ windowed_data start p w
@@ -85,7 +85,7 @@ module _ (heads lengths : List ℕ) (k : ℕ) (start : Start) (span : Span) (w :
 
   pub taken : {old new : List ℕ} {next : Start}
       → new ≡ with_track (window_data (drop start.window w) r.start) header.channels header.bits_per_sample header.samples start.byte span.from span.to old
-      → next.byte ≡ start.byte + header.samples / 8 → next.window ≡ start.window + (r.end - r.start) → Taken h start span w old new next
+      → next.byte ≡ start.byte + header.samples / 8 → next.window ≡ start.window + (r.end - r.start) → TrackTaken h start span w old new next
   taken e byte window =
       record {
         put = e ∙ rw (channels_are, samples_are, bits_are, start_read, window_is (read_start n h start.byte span.from span.to) start.window w) refl;

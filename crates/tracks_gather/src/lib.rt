@@ -6,10 +6,11 @@ ghost use Rattle.reference.specs.Frames.{frame_bytes};
 ghost use Rattle.tracks.specs.Runs.{frames_from};
 ghost use Rattle.tracks.specs.Tracks.{head_at, heads_of, tracks_frame};
 ghost use Rattle.tracks.specs.Windows.{windowed};
-ghost use Rattle.tracks_gather.specs.Gathering.{TakeArgs, Taken, GatherArgs};
+ghost use Rattle.tracks_gather.specs.inner.Gathering.{TakeArgs, TrackTaken, GatherArgs};
 
 use dsf::header_numbers;
 use dsf_columns::Stretch;
+use reference::FRAME_BYTES;
 use tracks_open::Tracks;
 use tracks_put::{Span, fill, put_track};
 use tracks_reads::read;
@@ -31,7 +32,7 @@ fn take(
     out: &mut [u8],
 ) -> Start
     requires { TakeArgs tracks.heads.now tracks.lengths.now k start span (length windows.now) (length out.old) }
-    ensures { Taken (head_at tracks.entry.heads.now tracks.entry.lengths.now k) start span windows.now out.old out.new result }
+    ensures { TrackTaken (head_at tracks.entry.heads.now tracks.entry.lengths.now k) start span windows.now out.old out.new result }
 {
     let header = header_numbers(tracks.head(k));
     let length = header.samples / 8;
@@ -50,11 +51,13 @@ fn take(
 // The frames `frames.from` to `frames.to` of an album of tracks, out of their windows, which stand end to end.
 pub fn gather(tracks: Tracks<'_>, channels: u64, frames: Span, windows: &[u8], out: &mut [u8])
     requires { GatherArgs tracks.heads.now tracks.lengths.now channels frames (length windows.now) (length out.old) }
-    ensures { out.new ≡ frames_from (tracks_frame channels (windowed channels (frames.from * frame_bytes) (frames.to * frame_bytes) 0 0 windows.now (heads_of tracks.entry.heads.now tracks.entry.lengths.now))) frames.from (frames.to - frames.from) }
+    ensures { out.new ≡ frames_from
+        (tracks_frame channels (windowed channels (frames.from * frame_bytes) (frames.to * frame_bytes) 0 0
+        windows.now (heads_of tracks.entry.heads.now tracks.entry.lengths.now))) frames.from (frames.to - frames.from) }
 {
     let span = Span {
-        from: frames.from * 4704,
-        to: frames.to * 4704,
+        from: frames.from * FRAME_BYTES as u64,
+        to: frames.to * FRAME_BYTES as u64,
     };
     let mut next = Start { byte: 0, window: 0 };
     for k in 0..tracks.lengths.len() {

@@ -9,15 +9,15 @@ use Rattle.refusals.proofs.Steps.{stops}
 use Rattle.dsf.specs.Reading.{header_places}
 use Rattle.tracks.specs.Tracks.{Head, head_at, head_length, all_length, frames_of_bytes, next_places, rest_places, refused_from}
 use Rattle.tracks_open.proofs.Heads.{front}
-use Rattle.tracks_open.specs.Trying.{NextTried, heads_from, rest, RestTried}
+use Rattle.tracks_open.specs.inner.Trying.{NextTried, heads_from, later_places, RestTried}
 
 abbrev pub flat : List (List Place) → List Place
 flat ps = flat_map (λ p. p) ps
 
 -- before track k all is taken, which ends at so many bytes of each channel: the tracks from it on decide
 pub record SoFar (heads lengths : List ℕ) (type before k end : ℕ) : Type 0 where
-  pub decides : decide (flat (rest heads lengths type before 1)) ≡ decide (flat (rest heads lengths type end k))
-  pub names : refused_from 1 (rest heads lengths type before 1) ≡ refused_from k (rest heads lengths type end k)
+  pub decides : decide (flat (later_places heads lengths type before 1)) ≡ decide (flat (later_places heads lengths type end k))
+  pub names : refused_from 1 (later_places heads lengths type before 1) ≡ refused_from k (later_places heads lengths type end k)
   pub ends : before + all_length (heads_from heads lengths 1) ≡ end + all_length (heads_from heads lengths k)
   pub few : end ≤ 2540160000
 
@@ -49,7 +49,7 @@ module _ (heads lengths : List ℕ) (type before : ℕ) where
       abbrev h : Head
       h = head_at heads lengths k
 
-      rest_is : rest heads lengths type end k ≡ next_places type (end + head_length h) h ∷ rest heads lengths type (end + head_length h) (k + 1)
+      rest_is : later_places heads lengths type end k ≡ next_places type (end + head_length h) h ∷ later_places heads lengths type (end + head_length h) (k + 1)
       unfolding rest_places
       rest_is = rw (front heads lengths k within) refl
 
@@ -58,7 +58,7 @@ module _ (heads lengths : List ℕ) (type before : ℕ) where
       one_refused e t =
           let no : is_accepted (decide (next_places type (end + head_length h) h)) ≡ false = ap is_accepted (sym t.decided) ∙ error_refuses e in
           record {
-            decided = stops (next_places type (end + head_length h) h) (flat (rest heads lengths type (end + head_length h) (k + 1))) e t.decided ∙ sym (s.decides ∙ rw rest_is refl);
+            decided = stops (next_places type (end + head_length h) h) (flat (later_places heads lengths type (end + head_length h) (k + 1))) e t.decided ∙ sym (s.decides ∙ rw rest_is refl);
             named = sym (s.names ∙ rw (rest_is, no) refl);
             end = _;
             few = _;
@@ -70,7 +70,7 @@ module _ (heads lengths : List ℕ) (type before : ℕ) where
           let q : p ≡ end + head_length h = t.end in
           let yes : decide (next_places type (end + head_length h) h) ≡ accepted = sym t.decided in
           record {
-            decides = s.decides ∙ rw (rest_is, q) (decide_skip (next_places type (end + head_length h) h) (flat (rest heads lengths type (end + head_length h) (k + 1))) yes);
+            decides = s.decides ∙ rw (rest_is, q) (decide_skip (next_places type (end + head_length h) h) (flat (later_places heads lengths type (end + head_length h) (k + 1))) yes);
             names = s.names ∙ rw (rest_is, yes, q) refl;
             ends = s.ends ∙ rw (front heads lengths k within, q) (omega arith);
             few = rw q (few_bytes h type (end + head_length h) yes);

@@ -3,7 +3,7 @@ use Rattle.std.proofs.Common.{◌≡◌, ℕ, ◌+◌, ◌-◌, ◌*◌, ◌≤�
 use Rattle.numbers.specs.Lists.{tabulate}
 use Rattle.numbers.proofs.Lists.{tabulate_join}
 use Rattle.tracks.specs.Tracks.{head_at}
-use Rattle.tracks_open.specs.Trying.{heads_from}
+use Rattle.tracks_open.specs.inner.Trying.{heads_from}
 
 pub head_within : (n k long : ℕ) → k < n → long ≡ 92 * n → 92 * k + 92 ≤ long
 head_within n k long h e = omega (arith, e)

@@ -12,9 +12,11 @@ use Rattle.dsf.specs.Dsf.{channels, channel_type}
 use Rattle.dsf.specs.Reading.{header_places, file_header}
 use Rattle.dsf.specs.declared.DsfHeader.{DsfHeader}
 use Rattle.dsf.proofs.Accepted.{head_channels}
-use Rattle.tracks.specs.Tracks.{Head, head_at, heads_of, head_length, all_length, frames_of_bytes, settings_for, tracks_channels, tracks_type, first_places, tracks_places, open_places, refused_from, refused_track}
-use Rattle.tracks_open.specs.Open.{numbers, album_of, OpenPromise}
-use Rattle.tracks_open.specs.Trying.{a_head, FirstTried, heads_from, rest, RestTried}
+use Rattle.tracks.specs.Tracks.{Head, head_at, heads_of, head_length, all_length, frames_of_bytes, settings_for, tracks_channels}
+use Rattle.tracks.specs.Tracks.{tracks_type, first_places, tracks_places, open_places, refused_from, refused_track}
+use Rattle.tracks_open.specs.Open.{numbers, album_of}
+use Rattle.tracks_open.specs.inner.Open.{OpenPromise}
+use Rattle.tracks_open.specs.inner.Trying.{a_head, FirstTried, heads_from, later_places, RestTried}
 use Rattle.tracks_open.specs.declared.Album.{Album}
 use Rattle.tracks_open.specs.declared.Refused.{Refused}
 use Rattle.tracks_open.proofs.Following.{flat}
@@ -43,7 +45,7 @@ module _ (heads lengths : List ℕ) (some : 1 ≤ length lengths) (s : Settings)
       ap (λ (n : ℕ). tabulate (head_at heads lengths) 0 n) size ∙ tabulate_join (head_at heads lengths) 0 1 (length lengths - 1)
 
   abbrev others : List (List Place)
-  others = rest heads lengths (channel_type h.bytes) (head_length h) 1
+  others = later_places heads lengths (channel_type h.bytes) (head_length h) 1
 
   places_are : open_places hs s ≡ first_places h s ++ flat others
   unfolding open_places tracks_places

@@ -14,7 +14,7 @@ use Rattle.dsf.specs.Reading.{OpenedPromise, header_places, file_header}
 use Rattle.dsf.specs.declared.DsfHeader.{DsfHeader}
 use Rattle.dsf.proofs.Accepted.{head_channels}
 use Rattle.tracks.specs.Tracks.{head_length, frames_of_bytes, too_long, first_places, next_places}
-use Rattle.tracks_open.specs.Trying.{a_head, opened_places, other_type, joined_places, FirstTried, NextTried}
+use Rattle.tracks_open.specs.inner.Trying.{a_head, opened_places, other_type, joined_places, FirstTried, NextTried}
 
 pub too_many_frames : (p f : ℕ) → f ≡ frames_of_bytes p → 540000 < f → error_decision (Frames f) ≡ decide (too_long p ∷ [])
 too_many_frames p f e h = rw e (sym (at_first _ _ (lt-ltb 540000 (frames_of_bytes p) (rw e at h))))
@@ -52,7 +52,8 @@ another_type type k h = sym (at_first _ _ (ap not (ne_eqb k type h)))
 pub same_type : (type k : ℕ) → k ≡ type → accepted ≡ decide (other_type type k ∷ [])
 same_type type k h = sym (at_next _ _ (ap not (eq-eqb k type h)) ∙ at_end)
 
-pub two_places : (p q : Place) {A B : Type 0} (a : Result A PcmError) (b : Result B PcmError) → decision a ≡ decide (p ∷ []) → decision b ≡ decide (q ∷ []) → decision (result_and a b) ≡ decide (p ∷ q ∷ [])
+pub two_places : (p q : Place) {A B : Type 0} (a : Result A PcmError) (b : Result B PcmError) → decision a
+    ≡ decide (p ∷ []) → decision b ≡ decide (q ∷ []) → decision (result_and a b) ≡ decide (p ∷ q ∷ [])
 two_places p q a b h k = one_after (p ∷ []) (q ∷ []) a b h k
 
 module _ (head : List ℕ) (n type before : ℕ) where

@@ -7,11 +7,11 @@ ghost use Rattle.wav_format.specs.Wav as wav;
 ghost use Rattle.tracks.specs.Tracks as tracks;
 ghost use Rattle.tracks.specs.Tracks.{heads_of, head_at, head_length, settings_for, too_long};
 ghost use Rattle.tracks_open.specs.Open as albums;
-ghost use Rattle.tracks_open.specs.Open.{TracksArgs, OpenPromise};
-ghost use Rattle.tracks_open.specs.Trying.{a_head, opened_places, other_type, joined_places, FirstTried, NextTried, RestTried, NumbersArgs, most_bytes};
+ghost use Rattle.tracks_open.specs.inner.Open.{TracksArgs, OpenPromise};
+ghost use Rattle.tracks_open.specs.inner.Trying.{a_head, opened_places, other_type, joined_places, FirstTried, NextTried, RestTried, NumbersArgs, most_bytes};
 
 use dsf::{DsfHeader, number, read_header};
-use reference::{MOST_FRAMES, PcmError, PcmRate, Settings};
+use reference::{FRAME_BYTES, MOST_FRAMES, PcmError, PcmRate, Settings};
 use refusals::opening;
 
 // What is known of the tracks' files before their data are read: the first 92 bytes of each, end to end, and their
@@ -82,7 +82,7 @@ fn few(bytes: u64) -> Result<(), PcmError>
     requires { bytes ≤ most_bytes }
     ensures { decision result ≡ decide (too_long bytes ∷ []) }
 {
-    let frames = (bytes + 4703) / 4704;
+    let frames = bytes.div_ceil(FRAME_BYTES as u64);
     if frames > MOST_FRAMES as u64 {
         return Err(PcmError::Frames(frames as usize));
     }
@@ -171,12 +171,12 @@ fn frame_size(rate: PcmRate, channels: u64) -> u64
     3 * rate.samples_per_frame() as u64 * channels
 }
 
-#[tactic(auto, using(crate::proofs::Bounds::bytes_bound, crate::proofs::Bounds::frames_cover, crate::proofs::Bounds::frames_few), unfolding(crate::specs::Open::numbers, crate::specs::Open::pieces, tracks::specs::Tracks::frames_of_bytes))]
+#[tactic(auto, using(crate::proofs::Bounds::bytes_bound, crate::proofs::Bounds::frames_cover, crate::proofs::Bounds::frames_few), unfolding(crate::specs::Open::numbers, crate::specs::Open::piece_total, tracks::specs::Tracks::frames_of_bytes))]
 fn numbers(rate: PcmRate, header: DsfHeader, bytes: u64) -> Album
     requires { NumbersArgs header.channels bytes }
     ensures { result ≡ albums.numbers rate header.channels header.channel_type bytes }
 {
-    let frames = (bytes + 4703) / 4704;
+    let frames = bytes.div_ceil(FRAME_BYTES as u64);
     let frame = frame_size(rate, header.channels);
     Album {
         channels: header.channels,
@@ -185,7 +185,7 @@ fn numbers(rate: PcmRate, header: DsfHeader, bytes: u64) -> Album
         frames,
         data: frames * frame,
         frame,
-        filled: frames * 4704 - bytes,
+        filled: frames * FRAME_BYTES as u64 - bytes,
         pieces: frames.div_ceil(128),
     }
 }

@@ -1,13 +1,12 @@
 -- How much a piece asks.
-use Rattle.std.proofs.Common.{◌≡◌, Some, None, Bool, true, false, ℕ, ◌+◌, ◌-◌, ◌*◌, ◌/◌, ◌≤◌, ◌<◌, List, [], ◌∷◌, length, cond, ltb, arith, refl}
+use Rattle.std.proofs.Common.{◌≡◌, Some, None, Bool, true, false, ℕ, ◌+◌, ◌-◌, ◌*◌, ◌/◌, ◌≤◌, ◌<◌, List, [], ◌∷◌, length, cond, ltb, arith, refl, min}
 use native.Mathlib.Nat.{mul-le-mul_right, add-mul}
 use borrow.Author.Tests.{ltb-true}
 use Rattle.reference.specs.declared.PcmRate.{PcmRate}
 use Rattle.dsf.specs.Dsf.{blocks}
-use Rattle.dsf_frames.specs.Reading.{lesser}
 use Rattle.tracks.specs.Tracks.{Head, head_length, tracks_channels, tracks_frames}
 use Rattle.tracks.specs.Windows.{own_from, own_to, read_start, read_end, read_bytes, windows_length}
-use Rattle.tracks_open.specs.Open.{pieces, numbers, album_of}
+use Rattle.tracks_open.specs.Open.{piece_total, numbers, album_of}
 use Rattle.tracks_plan.specs.Plan.{piece_count, piece_from, piece_at}
 use Rattle.tracks_plan.specs.Theorems.{AsksAtMost}
 use Rattle.tracks_plan.specs.declared.cutting.Piece.{Piece}
@@ -48,10 +47,10 @@ owned_few a b o (h ∷ hs) =
     let more = owned_few a b (o + head_length h) hs in
     (two (head_length h) more.0 more.1, three (head_length h) more.1)
   where
-    two : (n : ℕ) {m : ℕ} → m ≤ b - a → m ≤ b - (o + n) → lesser n (b - o) - (a - o) + m ≤ b - a
+    two : (n : ℕ) {m : ℕ} → m ≤ b - a → m ≤ b - (o + n) → min n (b - o) - (a - o) + m ≤ b - a
     two n p q = omega arith
 
-    three : (n : ℕ) {m : ℕ} → m ≤ b - (o + n) → lesser n (b - o) - (a - o) + m ≤ b - o
+    three : (n : ℕ) {m : ℕ} → m ≤ b - (o + n) → min n (b - o) - (a - o) + m ≤ b - o
     three n q = omega arith
 
 all_reads : (n a b o : ℕ) (hs : List Head) → windows_length n a b o hs ≤ (owned a b o hs + 8192 * length hs) * n
@@ -65,10 +64,10 @@ all_reads n a b o (h ∷ hs) =
 
 -- ---- of a piece
 
-frames_held : (f first count : ℕ) → count ≤ 128 → lesser (first + count + 1) f - (first - 1) ≤ 130
+frames_held : (f first count : ℕ) → count ≤ 128 → min (first + count + 1) f - (first - 1) ≤ 130
 frames_held f first count h = omega arith
 
-frames_read : (f first count : ℕ) → count ≤ 128 → lesser (first + count + 1) f * 4704 - (first - 1) * 4704 ≤ 130 * 4704
+frames_read : (f first count : ℕ) → count ≤ 128 → min (first + count + 1) f * 4704 - (first - 1) * 4704 ≤ 130 * 4704
 frames_read f first count h = omega arith
 
 module _ (rate : PcmRate) (hs : List Head) where
@@ -77,10 +76,10 @@ module _ (rate : PcmRate) (hs : List Head) where
   at_most first =
       let n = tracks_channels hs in
       let f = tracks_frames hs in
-      let count = lesser 128 (f - first) in
+      let count = min 128 (f - first) in
       let few : count ≤ 128 = omega arith in
       let a = (first - 1) * 4704 in
-      let b = lesser (first + count + 1) f * 4704 in
+      let b = min (first + count + 1) f * 4704 in
       let own : owned a b 0 hs + 8192 * length hs ≤ 130 * 4704 + 8192 * length hs = omega (arith, (owned_few a b 0 hs).0, frames_read f first count few) in
       let held = mul-le-mul_right (4704 * n) (frames_held f first count few) in
       record {
@@ -91,7 +90,7 @@ module _ (rate : PcmRate) (hs : List Head) where
 
   pub asks_at_most : (i : ℕ) (p : Piece) → piece_at (album_of rate hs) i ≡ Some p → AsksAtMost rate hs p
   unfolding piece_at
-  asks_at_most i p e = go (ltb i (pieces (album_of rate hs).frames)) e
+  asks_at_most i p e = go (ltb i (piece_total (album_of rate hs).frames)) e
     where
       go : (c : Bool) → cond c (Some (piece_from (album_of rate hs) (i * 128))) None ≡ Some p → AsksAtMost rate hs p
       go true e = rw (← some_is e) (at_most (i * 128))

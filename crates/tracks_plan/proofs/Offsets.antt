@@ -4,7 +4,7 @@ use lib.Seq.{drop_at}
 use Rattle.numbers.specs.Lists.{tabulate}
 use Rattle.numbers.proofs.Lists.{tabulate_join, length_tabulate}
 use Rattle.tracks.specs.Tracks.{Head, head_at, heads_of, head_length, all_length, offset}
-use Rattle.tracks_open.specs.Trying.{heads_from}
+use Rattle.tracks_open.specs.inner.Trying.{heads_from}
 use Rattle.tracks_open.proofs.Heads.{front}
 
 -- the first k tracks, and the others

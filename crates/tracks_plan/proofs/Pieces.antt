@@ -1,5 +1,5 @@
 -- Sizes of a piece.
-use Rattle.tracks_open.specs.Open.{pieces}
+use Rattle.tracks_open.specs.Open.{piece_total}
 use Rattle.tracks_plan.specs.Plan.{last, piece_count, piece_from, piece_at}
 use Rattle.tracks_plan.specs.Theorems.{PlanCuts}
 use borrow.Author.Tests.{ltb-true}
@@ -24,12 +24,12 @@ pub held_few : (f first count : ℕ) → f ≤ 540000 → last f first count - (
 held_few f first count h = omega arith
 
 pub plan_cuts : (f : ℕ) → PlanCuts f
-unfolding pieces piece_count
+unfolding piece_total piece_count
 plan_cuts f = record { follows = λ i h. omega arith; ends = λ i h. omega arith }
 
 -- a piece's frames are the album's
 pub piece_within : (a : Album) (i : ℕ) (p : Piece) → Some p ≡ piece_at a i → p.first + p.count ≤ a.frames
-unfolding piece_at piece_from piece_count pieces
+unfolding piece_at piece_from piece_count piece_total
 piece_within a i p e = go (ltb i ((a.frames + 127) / 128)) refl e
   where
     go : (c : Bool) → ltb i ((a.frames + 127) / 128) ≡ c → Some p ≡ cond c (Some (piece_from a (i * 128))) None → p.first + p.count ≤ a.frames

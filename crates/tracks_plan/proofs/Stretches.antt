@@ -4,13 +4,14 @@ use borrow.Rule.Slice.PartMut.{put_mid}
 use lib.Seq.{take_at, take_all, length-take-le}
 use Rattle.tracks.specs.Tracks.{Head, head_at, heads_of, head_length, all_length}
 use Rattle.tracks.specs.Windows.{read_start, read_end, windows_length}
-use Rattle.tracks_open.specs.Trying.{heads_from}
+use Rattle.tracks_open.specs.inner.Trying.{heads_from}
 use Rattle.tracks_open.proofs.Heads.{front, none_left}
 use Rattle.dsf_frames.specs.declared.FrameWindow.{FrameWindow}
 use Rattle.tracks_put.specs.declared.Span.{Span}
-use Rattle.tracks_reads.specs.Reading.{read_from, read_to, ReadArgs}
+use Rattle.tracks_reads.specs.inner.Reading.{read_from, read_to, ReadArgs}
 use Rattle.tracks_reads.proofs.Stretches.{start_is, end_is, bounded, in_order}
-use Rattle.tracks_plan.specs.Reads.{reads, ReadsPromise}
+use Rattle.tracks_plan.specs.Reads.{reads}
+use Rattle.tracks_plan.specs.inner.Reads.{ReadsPromise}
 
 -- before track k, which begins at byte `offset`
 pub record SoFar (heads lengths : List ℕ) (n a b k offset all : ℕ) (out : List ℕ) : Type 0 where

@@ -1,5 +1,5 @@
-pub mod Asked
 pub mod Plan
 pub mod Reads
 pub mod Theorems
 pub mod Writes
+pub mod inner

@@ -8,15 +8,15 @@ use Rattle.reference.specs.declared.Settings.{Settings}
 use Rattle.wav_format.specs.Wav.{frame_size}
 use Rattle.tracks.specs.Tracks.{Head, tracks_channels, open_places}
 use Rattle.tracks.specs.Windows.{low, high, read_end, windows_length}
-use Rattle.tracks_open.specs.Open.{pieces, album_of}
+use Rattle.tracks_open.specs.Open.{piece_total, album_of}
 use Rattle.tracks_plan.specs.Plan.{piece_count, piece_at}
 use Rattle.tracks_plan.specs.declared.cutting.Piece.{Piece}
 
 -- the plan cuts an album of f frames: each piece ends where the next begins, the last with the album. Proved in
 -- proofs/Pieces, `plan_cuts`
 pub record PlanCuts (f : ℕ) : Type 0 where
-  pub follows : (i : ℕ) → i + 1 < pieces f → i * 128 + piece_count f (i * 128) ≡ (i + 1) * 128
-  pub ends : (i : ℕ) → i + 1 ≡ pieces f → i * 128 + piece_count f (i * 128) ≡ f
+  pub follows : (i : ℕ) → i + 1 < piece_total f → i * 128 + piece_count f (i * 128) ≡ (i + 1) * 128
+  pub ends : (i : ℕ) → i + 1 ≡ piece_total f → i * 128 + piece_count f (i * 128) ≡ f
 
 -- what a piece of an album asks at most: bytes that are read, of 130 frames and of two blocks more for each track and
 -- channel; bytes of the frames that it is made of; and of its samples

@@ -1,8 +1,11 @@
 // An album's frames cut into pieces.
 ghost use Rattle.std.specs.Prelude.{◌≡◌, ◌≤◌, ◌<◌, ◌+◌};
+ghost use Rattle.reference.specs.Refusals.{most};
+ghost use Rattle.reference.specs.declared.Limit.TheVariants as limit;
 ghost use Rattle.tracks_open.specs.Open.{AlbumFits};
 ghost use Rattle.tracks_plan.specs.Plan as plan;
 
+use reference::FRAME_BYTES;
 use tracks_open::Album;
 
 // A piece: its frames, where its bytes stand in the album's data and how many they are, and the bytes of the frames
@@ -18,7 +21,7 @@ pub struct Piece {
 
 // The frame behind the last that is read for some frames.
 pub fn last(frames: u64, first: u64, count: u64) -> u64
-    requires { (frames ≤ 540000) × (first + count ≤ frames) }
+    requires { (frames ≤ most limit.Rack) × (first + count ≤ frames) }
     ensures { result ≡ plan.last frames first count }
 {
     (first + count + 1).min(frames)
@@ -37,12 +40,12 @@ fn piece_from(album: Album, first: u64) -> Piece
         count,
         place: first * album.frame,
         bytes: count * album.frame,
-        scratch: held * (4704 * album.channels),
+        scratch: held * (FRAME_BYTES as u64 * album.channels),
     }
 }
 
 // Piece i, where there is one.
-#[tactic(auto, using(crate::proofs::Pieces::begins_within), unfolding(crate::specs::Plan::piece_at, tracks_open::specs::Open::pieces))]
+#[tactic(auto, using(crate::proofs::Pieces::begins_within), unfolding(crate::specs::Plan::piece_at, tracks_open::specs::Open::piece_total))]
 pub fn piece_of(album: Album, i: u64) -> Option<Piece>
     requires { AlbumFits album }
     ensures { result ≡ plan.piece_at album i }

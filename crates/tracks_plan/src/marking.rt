@@ -3,7 +3,7 @@ ghost use Rattle.std.specs.Prelude.{◌≡◌, ◌+◌, ◌*◌, ◌≤◌, leng
 ghost use Rattle.numbers.specs.Lists.{tabulate};
 ghost use Rattle.tracks.specs.Tracks as tracks;
 ghost use Rattle.tracks.specs.Tracks.{heads_of, data_start};
-ghost use Rattle.tracks_plan.specs.Asked.{SizedTracks};
+ghost use Rattle.tracks_plan.specs.inner.Asked.{SizedTracks};
 
 use reference::PcmRate;
 use tracks_open::Tracks;

@@ -3,10 +3,11 @@ ghost use Rattle.std.specs.Prelude.{◌≡◌, [], ◌∷◌, ◌*◌, length};
 ghost use Rattle.reference.specs.Frames.{frame_bytes};
 ghost use Rattle.tracks.specs.Tracks.{heads_of};
 ghost use Rattle.tracks.specs.Windows.{low, high};
-ghost use Rattle.tracks_plan.specs.Reads.{ReadsPromise};
-ghost use Rattle.tracks_plan.specs.Asked.{BetweenArgs, ReadsArgs};
+ghost use Rattle.tracks_plan.specs.inner.Reads.{ReadsPromise};
+ghost use Rattle.tracks_plan.specs.inner.Asked.{BetweenArgs, ReadsArgs};
 
 use crate::cutting::last;
+use reference::FRAME_BYTES;
 use tracks_open::{Album, Tracks};
 use tracks_put::Span;
 
@@ -43,7 +44,7 @@ pub fn reads(tracks: Tracks<'_>, album: Album, first: u64, count: u64, out: &mut
     requires { ReadsArgs tracks.heads.now tracks.lengths.now album first count (length out.old) }
     ensures { let hs = heads_of tracks.entry.heads.now tracks.entry.lengths.now in ReadsPromise album.channels (low first * frame_bytes) (high hs first count * frame_bytes) hs out.new result }
 {
-    let from = first.saturating_sub(1) * 4704;
-    let to = last(album.frames, first, count) * 4704;
+    let from = first.saturating_sub(1) * FRAME_BYTES as u64;
+    let to = last(album.frames, first, count) * FRAME_BYTES as u64;
     between(tracks, album.channels, Span { from, to }, out)
 }

@@ -13,13 +13,13 @@ use Rattle.numbers.proofs.Lists.{below_or, length_tabulate, get_d_tabulate}
 use Rattle.text.specs.Text.{with_text}
 use Rattle.text.specs.Bytes.{Bytes}
 use Rattle.dsf.specs.Dsf.{data_place, sample_byte, turn_byte}
-use Rattle.dsf.specs.Orders.{bit_order}
+use Rattle.dsf.specs.inner.Orders.{bit_order}
 use Rattle.dsf_frames.specs.Reading.{window_data}
-use Rattle.dsf_columns.specs.Columns.{Strided, Ordering}
+use Rattle.dsf_columns.specs.inner.Columns.{Strided, Ordering}
 use Rattle.dsf_columns.proofs.Blocks.{quotient, remainder}
 use Rattle.dsf_columns.proofs.Turned.{ordered_is}
 use Rattle.tracks_put.specs.declared.Part.{Part}
-use Rattle.tracks_put.specs.Putting.{table_byte, stretch, Placed, PutArgs, ChannelArgs}
+use Rattle.tracks_put.specs.inner.Putting.{table_byte, stretch, Placed, PutArgs, ChannelArgs}
 
 -- ---- a list with a text in it, by its places
 pub is_with_text : (old new t : List ℕ) (a : ℕ) → a + length t ≤ length old → length new ≡ length old → ((j : ℕ) → j < a → get_or new j 0 ≡ get_or old j 0)
@@ -42,7 +42,8 @@ is_with_text old new t a fits same before inside behind =
         let e : a + (j - a) ≡ j = omega arith in
         let g : length (take a old) + (j - a) ≡ j = omega (arith, lead) in
         ap (λ (x : ℕ). get_or new x 0) (sym e) ∙ inside (j - a) h
-        ∙ sym (ap (λ (x : ℕ). get_or (take a old ++ (t ++ drop (a + length t) old)) x 0) (sym g) ∙ get_or-append-add (take a old) (t ++ drop (a + length t) old) (j - a) 0 ∙ get_or-append t (drop (a + length t) old) 0 (j - a) h)
+        ∙ sym (ap (λ (x : ℕ). get_or (take a old ++ (t ++ drop (a + length t) old)) x 0) (sym g)
+        ∙ get_or-append-add (take a old) (t ++ drop (a + length t) old) (j - a) 0 ∙ get_or-append t (drop (a + length t) old) 0 (j - a) h)
 
     back : (j : ℕ) → a ≤ j → length t ≤ j - a → get_or new j 0 ≡ get_or (take a old ++ (t ++ drop (a + length t) old)) j 0
     back j l h =
@@ -111,7 +112,8 @@ module _ {n samples : ℕ} {part : Part} {start size out : ℕ} (a : PutArgs n s
         rw (quotient (part.from + i) n c h, remainder (part.from + i) n c h, lt-ltb (part.from + i) (samples / 8) (omega (arith, a.there)))
         (o.is (get_or window at 0) (each.each at) ∙ ordered_is bits (get_or window at 0))
 
-    pub stretch_is : Placed n part.at m n (λ d. table_byte window table n start d part.from) old new → new ≡ with_text old (part.at * n) (stretch (window_data window start) n bits samples part.from part.to)
+    pub stretch_is : Placed n part.at m n (λ d. table_byte window table n start d part.from) old new
+        → new ≡ with_text old (part.at * n) (stretch (window_data window start) n bits samples part.from part.to)
     unfolding stretch
     stretch_is w =
         let long : length cells ≡ m * n = length_tabulate byte (part.from * n) (m * n) in

@@ -10,9 +10,9 @@ use lib.Seq.{get_or-take, get_or-drop, length-take-le}
 use Rattle.numbers.proofs.Lists.{below_or}
 use Rattle.reference.specs.Frames.{frame_length}
 use Rattle.dsf.specs.Dsf.{blocks, data_place}
-use Rattle.dsf_columns.specs.Columns.{Strided, ColumnArgs}
+use Rattle.dsf_columns.specs.inner.Columns.{Strided, ColumnArgs}
 use Rattle.dsf_columns.proofs.Strides as strides
-use Rattle.tracks_put.specs.Putting.{table_byte, ChannelArgs}
+use Rattle.tracks_put.specs.inner.Putting.{table_byte, ChannelArgs}
 
 -- ---- places at a stride, and more of them behind
 pub strided_join : {f g : ℕ → ℕ} {at stride m s : ℕ} {old mid new : List ℕ} → 1 ≤ stride → Strided f at stride m old mid → Strided g (at + m * stride) stride s mid new

@@ -5,14 +5,15 @@ use Prim.Native.Nat.{ℕ, ◌+◌, ◌-◌, ◌*◌, ◌/◌, ◌≤◌, ◌<◌
 use native.Mathlib.Nat.{mul-le-mul, mul-le-mul_right, zero-mul}
 use native.Mathlib.Omega.{arith}
 use lib.ListN.{length, set, replicate, length-replicate, get_or-replicate, get_or-eq_default, take-append-drop}
-use Rattle.numbers.specs.Lists.{tabulate, Wrote}
+use Rattle.numbers.specs.Lists.{tabulate}
+use Rattle.numbers.specs.inner.Lists.{Wrote}
 use Rattle.numbers.proofs.Lists.{wrote_more}
 use Rattle.text.specs.Text.{with_text}
 use Rattle.reference.specs.Frames.{idle}
 use Rattle.tracks_put.specs.declared.Part.{Part}
 use Rattle.tracks_put.specs.declared.Span.{Span}
-use Rattle.tracks_put.specs.Putting.{stretch, PutArgs}
-use Rattle.tracks_put.specs.Placing.{with_track, with_fill, TrackArgs, track_from, track_to, track_at}
+use Rattle.tracks_put.specs.inner.Putting.{stretch, PutArgs}
+use Rattle.tracks_put.specs.inner.Placing.{with_track, with_fill, TrackArgs, track_from, track_to, track_at}
 use Rattle.tracks_put.proofs.Buffers.{is_with_text}
 
 pub with_none : (l : List ℕ) (at : ℕ) → with_text l at [] ≡ l

@@ -4,10 +4,10 @@
 ghost use Rattle.std.specs.Prelude.{◌≡◌, ◌-◌, ◌*◌, ◌≤◌, length};
 ghost use Rattle.text.specs.Text.{with_text};
 ghost use Rattle.text.specs.Bytes.{Bytes};
-ghost use Rattle.dsf_columns.specs.Columns.{Strided};
+ghost use Rattle.dsf_columns.specs.inner.Columns.{Strided};
 ghost use Rattle.dsf_frames.specs.Reading.{window_data};
-ghost use Rattle.tracks_put.specs.Putting.{table_byte, ChannelArgs, stretch, PutArgs};
-ghost use Rattle.tracks_put.specs.Placing.{with_track, with_fill, TrackArgs};
+ghost use Rattle.tracks_put.specs.inner.Putting.{table_byte, ChannelArgs, stretch, PutArgs};
+ghost use Rattle.tracks_put.specs.inner.Placing.{with_track, with_fill, TrackArgs};
 
 use dsf::DsfHeader;
 use dsf_columns::{Channel, Stretch, order_table, spread};
@@ -49,7 +49,8 @@ fn are_bytes(bytes: &[u8])
 // Bytes of each channel of a track, out of a stretch of its data, into a buffer.
 fn put(header: DsfHeader, part: Part, window: &Stretch, out: &mut [u8])
     requires { PutArgs header.channels header.samples part window.now.start (length window.now.bytes.now) (length out.old) }
-    ensures { out.new ≡ with_text out.old (part.at * header.channels) (stretch (window_data window.now.bytes.now window.now.start) header.channels header.bits_per_sample header.samples part.from part.to) }
+    ensures { out.new ≡ with_text out.old (part.at * header.channels)
+        (stretch (window_data window.now.bytes.now window.now.start) header.channels header.bits_per_sample header.samples part.from part.to) }
 {
     are_bytes(window.bytes);
     let channels = header.channels;

@@ -7,10 +7,10 @@ use native.Mathlib.Omega.{arith}
 use lib.ListN.{length}
 use Rattle.tracks.specs.Tracks.{Head, head_length, all_length, head_at, heads_of}
 use Rattle.tracks.specs.Windows.{read_bytes, windows_length}
-use Rattle.tracks_open.specs.Trying.{heads_from}
+use Rattle.tracks_open.specs.inner.Trying.{heads_from}
 use Rattle.tracks_open.proofs.Heads.{front, none_left}
 use Rattle.tracks_put.specs.declared.Span.{Span}
-use Rattle.tracks_reads.specs.Reading.{read_from, read_to, ReadArgs}
+use Rattle.tracks_reads.specs.inner.Reading.{read_from, read_to, ReadArgs}
 use Rattle.tracks_reads.proofs.Stretches.{start_is, end_is, bounded}
 
 -- ---- before a track

@@ -10,8 +10,8 @@ use Rattle.dsf.specs.Dsf.{blocks}
 use Rattle.tracks.specs.Tracks.{Head, head_length}
 use Rattle.tracks.specs.Windows.{read_start, read_end}
 use Rattle.tracks_put.specs.declared.Span.{Span}
-use Rattle.tracks_put.specs.Placing.{track_from, track_to}
-use Rattle.tracks_reads.specs.Reading.{read_from, read_to, ReadArgs}
+use Rattle.tracks_put.specs.inner.Placing.{track_from, track_to}
+use Rattle.tracks_reads.specs.inner.Reading.{read_from, read_to, ReadArgs}
 
 module _ (n size o : ℕ) (span : Span) where
   abbrev from : ℕ

@@ -4,7 +4,7 @@
 ghost use Rattle.std.specs.Prelude.{◌≡◌, ◌≤◌};
 ghost use Rattle.tracks.specs.Tracks.{heads_of};
 ghost use Rattle.tracks.specs.Windows.{windows_length};
-ghost use Rattle.tracks_reads.specs.Reading.{ReadArgs, read_from, read_to, WindowsArgs};
+ghost use Rattle.tracks_reads.specs.inner.Reading.{ReadArgs, read_from, read_to, WindowsArgs};
 
 use dsf_frames::FrameWindow;
 use tracks_open::Tracks;

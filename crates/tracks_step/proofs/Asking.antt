@@ -11,14 +11,15 @@ use Rattle.refusals.proofs.Steps.{stops, goes_on}
 use Rattle.tracks.specs.Tracks.{Head, heads_of, tracks_channels, tracks_frames, open_places}
 use Rattle.tracks.specs.Windows.{low, windows_length}
 use Rattle.tracks.proofs.Opened.{is_opened, six_channels}
-use Rattle.tracks_open.specs.Open.{numbers, album_of, OpenPromise, TracksArgs}
+use Rattle.tracks_open.specs.Open.{numbers, album_of}
+use Rattle.tracks_open.specs.inner.Open.{OpenPromise, TracksArgs}
 use Rattle.tracks_open.specs.declared.Album.{Album}
 use Rattle.tracks_open.specs.declared.Refused.{Refused}
 use Rattle.tracks_open.proofs.Accepted.{accepted_few, none_refused}
 use Rattle.tracks_put.specs.declared.Span.{Span}
-use Rattle.tracks_step.specs.declared.Ready.{Ready}
+use Rattle.tracks_step.specs.declared.Gathered.{Gathered}
 use Rattle.tracks_step.specs.Promises.{piece_places, frames_places}
-use Rattle.tracks_step.specs.Steps.{no_frames, lent_places, LentArgs, FitArgs, around, Fitting, ReadyPromise}
+use Rattle.tracks_step.specs.inner.Steps.{no_frames, lent_places, LentArgs, FitArgs, piece_span, Fitting, ReadyPromise}
 
 module _ (frames first count : ℕ) where
   pub begins_past : frames < first → refused 5 (number first ∷ []) ≡ decide (no_frames frames first count ∷ [])
@@ -39,7 +40,7 @@ module _ (hs : List Head) (first count windows scratch : ℕ) where
   here = no_frames (tracks_frames hs) first count
 
   abbrev lists : List Place
-  lists = lent_places hs (tracks_channels hs) (around hs first count) windows scratch
+  lists = lent_places hs (tracks_channels hs) (piece_span hs first count) windows scratch
 
   in_turn : piece_places hs first count windows scratch ≡ (here ∷ []) ++ lists
   unfolding piece_places lent_places
@@ -51,7 +52,7 @@ module _ (hs : List Head) (first count windows scratch : ℕ) where
   pub not_lent : (e : PcmError) → accepted ≡ decide (here ∷ []) → error_decision e ≡ decide lists → Fitting hs first count windows scratch (Err e)
   not_lent e a h = record { decided = goes_on (here ∷ []) lists a h ∙ sym (ap decide in_turn); frames = _ }
 
-  pub all_lent : (f : Span) → f ≡ around hs first count → accepted ≡ decide (here ∷ []) → accepted ≡ decide lists → Fitting hs first count windows scratch (Ok f)
+  pub all_lent : (f : Span) → f ≡ piece_span hs first count → accepted ≡ decide (here ∷ []) → accepted ≡ decide lists → Fitting hs first count windows scratch (Ok f)
   all_lent f e a h = record { decided = goes_on (here ∷ []) lists a h ∙ sym (ap decide in_turn); frames = e }
 
 pub is_there : (frames first count : ℕ) → accepted ≡ decide (no_frames frames first count ∷ []) → first + count ≤ frames
@@ -76,7 +77,7 @@ module _ {heads lengths : List ℕ} {a : Album} (g : FitArgs heads lengths a) (f
   pub lent_args : LentArgs heads lengths a.channels f
   lent_args = record { is = g.is; six = g.six; order = omega arith; most = omega (arith, g.most); short = g.short }
 
-  pub span_is : f ≡ around (heads_of heads lengths) first count
+  pub span_is : f ≡ piece_span (heads_of heads lengths) first count
   span_is = λ i. record { from = from i; to = (to ∙ ap (λ (x : ℕ). min (first + count + 1) x) g.frames) i }
 
 pub all_fit : {heads lengths : List ℕ} {a : Album} → FitArgs heads lengths a → (first count windows scratch : ℕ) → accepted ≡ decide (no_frames a.frames first count ∷ [])
@@ -91,7 +92,7 @@ module _ (heads lengths : List ℕ) (s : Settings) (first count windows scratch 
   abbrev hs : List Head
   hs = heads_of heads lengths
 
-  abbrev Readied : Result Ready Refused → Type 0
+  abbrev Readied : Result Gathered Refused → Type 0
   Readied = ReadyPromise hs s first count windows scratch
 
   pub not_opened : (e : Refused) → OpenPromise hs s (Err e) → Readied (Err e)

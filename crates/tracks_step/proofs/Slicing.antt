@@ -18,7 +18,7 @@ use Rattle.reference.proofs.Refusals.{error_refuses}
 use Rattle.reference.proofs.Promises.{exit_accepted}
 use Rattle.tracks.specs.Runs.{frames_from, there, run_from}
 use Rattle.tracks.proofs.Sequences.{none_from, from_one, from_join, from_length}
-use Rattle.tracks_step.specs.Slices.{before_of, sliced, SliceArgs, Converting}
+use Rattle.tracks_step.specs.inner.Slices.{before_of, sliced, SliceArgs, Converting}
 
 -- ---- slices
 pub rest_is : (w : List ℕ) (p : ℕ) → take (length w - p) (drop p w) ≡ drop p w

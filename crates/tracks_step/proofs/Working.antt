@@ -22,15 +22,16 @@ use Rattle.tracks.specs.Tracks.{Head, Track, heads_of, tracks_channels, tracks_f
 use Rattle.tracks.specs.Windows.{low, high, windowed, windowed_tracks}
 use Rattle.tracks.proofs.Opened.{Opened, is_opened, opens, some, six_channels}
 use Rattle.tracks.proofs.StepCalls.{accepted_call}
-use Rattle.tracks_open.specs.Open.{numbers, album_of, TracksArgs, AlbumFits}
+use Rattle.tracks_open.specs.Open.{numbers, album_of, AlbumFits}
+use Rattle.tracks_open.specs.inner.Open.{TracksArgs}
 use Rattle.tracks_open.specs.declared.Refused.{Refused}
 use Rattle.tracks_open.proofs.Accepted.{accepted_few, album_fits, none_refused}
-use Rattle.tracks_gather.specs.Gathering.{GatherArgs}
+use Rattle.tracks_gather.specs.inner.Gathering.{GatherArgs}
 use Rattle.tracks_gather.proofs.Going.{windowed_heads}
-use Rattle.tracks_step.specs.declared.Ready.{Ready}
+use Rattle.tracks_step.specs.declared.Gathered.{Gathered}
 use Rattle.tracks_step.specs.Promises.{piece_windows, piece_places, frames_places, step_places, piece_frames, piece_run, FramesPromise, StepPromise}
-use Rattle.tracks_step.specs.Steps.{around, ReadyPromise}
-use Rattle.tracks_step.specs.Slices.{sliced, SliceArgs, Converting}
+use Rattle.tracks_step.specs.inner.Steps.{piece_span, ReadyPromise}
+use Rattle.tracks_step.specs.inner.Slices.{sliced, SliceArgs, Converting}
 use Rattle.tracks_step.proofs.Slicing.{sliced_is, reaches}
 
 module _ (heads' lengths : List ℕ) (s : Settings) (first count : ℕ) (w scratch : List ℕ) where
@@ -40,7 +41,7 @@ module _ (heads' lengths : List ℕ) (s : Settings) (first count : ℕ) (w scrat
   abbrev n : ℕ
   n = tracks_channels hs
 
-  abbrev Readied : Result Ready Refused → Type 0
+  abbrev Readied : Result Gathered Refused → Type 0
   Readied = ReadyPromise hs s first count (length w) (length scratch)
 
   abbrev places : List Place
@@ -52,7 +53,7 @@ module _ (heads' lengths : List ℕ) (s : Settings) (first count : ℕ) (w scrat
       record { decided = p.decided; named = p.named; album = _; gathered = sym (exit_refused _ _ _ refused) }
 
   -- ---- what an accepted one has
-  module _ (r : Ready) (p : Readied (Ok r)) where
+  module _ (r : Gathered) (p : Readied (Ok r)) where
     opened : decide (open_places hs s) ≡ accepted
     unfolding frames_places
     opened = decide_first (open_places hs s) _ (sym p.decided)
@@ -81,17 +82,17 @@ module _ (heads' lengths : List ℕ) (s : Settings) (first count : ℕ) (w scrat
 
     channels_are : r.album.channels ≡ n
     unfolding album_of numbers
-    channels_are = ap (λ (x : Ready). x.album.channels) p.ready
+    channels_are = ap (λ (x : Gathered). x.album.channels) p.ready
 
-    span_is : r.frames ≡ around hs first count
-    span_is = ap (λ (x : Ready). x.frames) p.ready
+    span_is : r.frames ≡ piece_span hs first count
+    span_is = ap (λ (x : Gathered). x.frames) p.ready
 
     pub few_channels : r.album.channels ≤ 6
     few_channels = rw channels_are (six_channels hs s facts)
 
     pub gather_args : TracksArgs heads' lengths → GatherArgs heads' lengths r.album.channels r.frames (length w) (length scratch)
     gather_args is =
-        let args : GatherArgs heads' lengths n (around hs first count) (length w) (length scratch) = record {
+        let args : GatherArgs heads' lengths n (piece_span hs first count) (length w) (length scratch) = record {
           is = is;
           one = some hs s facts;
           six = six_channels hs s facts;
@@ -104,12 +105,15 @@ module _ (heads' lengths : List ℕ) (s : Settings) (first count : ℕ) (w scrat
         } in
         rw (channels_are, span_is) args
 
-    pub frames_are : {new : List ℕ} → new ≡ frames_from (tracks_frame r.album.channels (windowed r.album.channels (r.frames.from * 4704) (r.frames.to * 4704) 0 0 w hs)) r.frames.from (r.frames.to - r.frames.from) → new ≡ piece_frames hs first count w
+    pub frames_are : {new : List ℕ} → new
+        ≡ frames_from (tracks_frame r.album.channels (windowed r.album.channels (r.frames.from * 4704) (r.frames.to * 4704) 0 0 w hs))
+        r.frames.from (r.frames.to - r.frames.from) → new ≡ piece_frames hs first count w
     frames_are e = rw (channels_are, span_is) at e
 
-    pub framed : {new : List ℕ} → new ≡ frames_from (tracks_frame r.album.channels (windowed r.album.channels (r.frames.from * 4704) (r.frames.to * 4704) 0 0 w hs)) r.frames.from (r.frames.to - r.frames.from)
+    pub framed : {new : List ℕ} → new
+        ≡ frames_from (tracks_frame r.album.channels (windowed r.album.channels (r.frames.from * 4704) (r.frames.to * 4704) 0 0 w hs)) r.frames.from (r.frames.to - r.frames.from)
         → FramesPromise hs s first count w scratch new (Ok r.album)
-    framed e = record { decided = p.decided; named = _; album = ap (λ (x : Ready). x.album) p.ready; gathered = frames_are e ∙ sym (exit_accepted _ _ _ (sym p.decided)) }
+    framed e = record { decided = p.decided; named = _; album = ap (λ (x : Gathered). x.album) p.ready; gathered = frames_are e ∙ sym (exit_accepted _ _ _ (sym p.decided)) }
 
   -- ---- the samples' bytes
   module _ (out : List ℕ) where
@@ -131,10 +135,10 @@ module _ (heads' lengths : List ℕ) (s : Settings) (first count : ℕ) (w scrat
     unfolding step_places
     not_ready e p = refused_step e (stops places (lent_length 7 (length out) (count * frame_size s.rate n) ∷ []) e.error p.decided) p.named
 
-    module _ (r : Ready) (p : Readied (Ok r)) where
+    module _ (r : Gathered) (p : Readied (Ok r)) where
       frame_is : r.album.frame ≡ frame_size s.rate n
       unfolding album_of numbers
-      frame_is = ap (λ (x : Ready). x.album.frame) p.ready
+      frame_is = ap (λ (x : Gathered). x.album.frame) p.ready
 
       pub few_bytes : count * r.album.frame ≤ 540000 * 84672
       unfolding album_of numbers

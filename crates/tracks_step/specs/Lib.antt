@@ -1,3 +1,2 @@
 pub mod Promises
-pub mod Steps
-pub mod Slices
+pub mod inner

@@ -11,7 +11,7 @@ use Rattle.wav_format.specs.Wav.{frame_size}
 use Rattle.tracks.specs.Runs.{frames_from}
 use Rattle.tracks.specs.Tracks.{Head, tracks_channels, tracks_frames, tracks_frame, tracks_piece, tracks_converter, open_places, refused_track}
 use Rattle.tracks.specs.Windows.{low, high, windows_length, windowed_tracks}
-use Rattle.tracks_open.specs.Open.{decision, Names, album_of}
+use Rattle.tracks_open.specs.Open.{tracks_decision, Names, album_of}
 use Rattle.tracks_open.specs.declared.Album.{Album}
 use Rattle.tracks_open.specs.declared.Refused.{Refused}
 
@@ -51,13 +51,13 @@ piece_run hs first count w = tracks_piece (tracks_channels hs) (windowed_tracks 
 -- ---- what is promised. Where an album is accepted, `refused_track` is 0
 
 pub record FramesPromise (hs : List Head) (s : Settings) (first count : ℕ) (w scratch scratch' : List ℕ) (answer : Result Album Refused) : Type 0 where
-  pub decided : decision answer ≡ decide (frames_places hs s first count (length w) (length scratch))
+  pub decided : tracks_decision answer ≡ decide (frames_places hs s first count (length w) (length scratch))
   pub named : Names (refused_track hs s) answer
   pub album : IfOk answer (λ a. a ≡ album_of s.rate hs)
   pub gathered : scratch' ≡ by_decision (decide (frames_places hs s first count (length w) (length scratch))) (piece_frames hs first count w) scratch
 
 pub record StepPromise (hs : List Head) (s : Settings) (first count : ℕ) (w scratch scratch' out out' : List ℕ) (answer : Result ConvertStats Refused) : Type 0 where
-  pub decided : decision answer ≡ decide (step_places hs s first count (length w) (length scratch) (length out))
+  pub decided : tracks_decision answer ≡ decide (step_places hs s first count (length w) (length scratch) (length out))
   pub named : Names (refused_track hs s) answer
   pub counted : IfOk answer (λ t. t ≡ stats (tracks_converter s hs) (piece_run hs first count w))
   pub gathered : scratch' ≡ by_decision (decide (step_places hs s first count (length w) (length scratch) (length out))) (piece_frames hs first count w) scratch

@@ -1,13 +1,14 @@
 // What a step asks of its windows and its lists.
 ghost use Rattle.std.specs.Prelude.{◌≡◌, [], ◌∷◌, ◌+◌, ◌≤◌, min, length};
-ghost use Rattle.reference.specs.Refusals.{decision, decide, lent_length};
+ghost use Rattle.reference.specs.Refusals.{decision, decide, lent_length, most};
+ghost use Rattle.reference.specs.declared.Limit.TheVariants as limit;
 ghost use Rattle.tracks.specs.Tracks.{heads_of};
 ghost use Rattle.tracks.specs.Windows.{low};
-ghost use Rattle.tracks_open.specs.Open.{TracksArgs};
-ghost use Rattle.tracks_step.specs.Steps.{no_frames, lent_places, LentArgs, ReadyPromise, FitArgs, Fitting};
+ghost use Rattle.tracks_open.specs.inner.Open.{TracksArgs};
+ghost use Rattle.tracks_step.specs.inner.Steps.{no_frames, lent_places, LentArgs, ReadyPromise, FitArgs, Fitting};
 
-use crate::Ready;
-use reference::{PcmError, Settings};
+use crate::Gathered;
+use reference::{FRAME_BYTES, PcmError, Settings};
 use tracks_open::{Album, Refused, Tracks, open};
 use tracks_put::Span;
 
@@ -50,22 +51,22 @@ fn lent(
     ensures { decision result ≡ decide (lent_places (heads_of tracks.entry.heads.now tracks.entry.lengths.now) channels frames windows scratch) }
 {
     let span = Span {
-        from: frames.from * 4704,
-        to: frames.to * 4704,
+        from: frames.from * FRAME_BYTES as u64,
+        to: frames.to * FRAME_BYTES as u64,
     };
     if windows as u64 != tracks_reads::windows(tracks, channels, span) {
         return Err(PcmError::DsfLength);
     }
     long(
         scratch,
-        ((frames.to - frames.from) * (4704 * channels)) as usize,
+        ((frames.to - frames.from) * (FRAME_BYTES as u64 * channels)) as usize,
     )
 }
 
 // The frames of a piece and next to it, of an album of so many.
 #[tactic(auto, using(crate::proofs::Asking::last_is))]
 fn around(frames: u64, first: u64, count: u64) -> Span
-    requires { (first + count ≤ frames) × (frames ≤ 540000) }
+    requires { (first + count ≤ frames) × (frames ≤ most limit.Rack) }
     ensures { (result.from ≡ low first) × (result.to ≡ min (first + count + 1) frames) }
 {
     Span {
@@ -102,13 +103,13 @@ pub fn ready(
     count: u64,
     windows: usize,
     scratch: usize,
-) -> Result<Ready, Refused>
+) -> Result<Gathered, Refused>
     requires { TracksArgs tracks.heads.now tracks.lengths.now }
     ensures { ReadyPromise (heads_of tracks.entry.heads.now tracks.entry.lengths.now) settings first count windows scratch result }
 {
     let album = open(tracks, settings)?;
     match fits(tracks, album, first, count, windows, scratch) {
-        Ok(frames) => Ok(Ready { album, frames }),
+        Ok(frames) => Ok(Gathered { album, frames }),
         Err(error) => Err(Refused { track: 0, error }),
     }
 }

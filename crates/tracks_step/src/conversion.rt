@@ -1,8 +1,8 @@
 // Frames of an album converted, with those next to them.
 ghost use Rattle.reference.specs.Refusals.{decide, accepted};
-ghost use Rattle.tracks_step.specs.Slices.{sliced, SliceArgs, Converting};
+ghost use Rattle.tracks_step.specs.inner.Slices.{sliced, SliceArgs, Converting};
 
-use reference::{ConvertStats, Converter, PcmError, Run};
+use reference::{ConvertStats, Converter, FRAME_BYTES, PcmError, Run};
 
 // So many frames from `first` on, out of those of the album from the one before to the one after, where they are there.
 pub fn convert_piece(
@@ -15,7 +15,7 @@ pub fn convert_piece(
     requires { SliceArgs conv first count frames.now out.old }
     ensures { Converting conv (sliced conv.channels first count frames.now) out.new result }
 {
-    let size = 4704 * conv.channels as usize;
+    let size = FRAME_BYTES * conv.channels as usize;
     let start = first.min(1) as usize * size;
     let end = start + count as usize * size;
     let run = Run {

@@ -6,7 +6,7 @@ mod conversion;
 
 ghost use Rattle.std.specs.Prelude.{◌≡◌};
 ghost use Rattle.tracks.specs.Tracks.{heads_of};
-ghost use Rattle.tracks_open.specs.Open.{TracksArgs};
+ghost use Rattle.tracks_open.specs.inner.Open.{TracksArgs};
 ghost use Rattle.tracks_step.specs.Promises.{FramesPromise, StepPromise};
 
 use asked::{long, ready};
@@ -18,7 +18,7 @@ use tracks_put::Span;
 
 // What is accepted: the album, and its frames that are gathered.
 #[derive(Clone, Copy)]
-pub struct Ready {
+pub struct Gathered {
     pub album: Album,
     pub frames: Span,
 }

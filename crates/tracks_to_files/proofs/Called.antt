@@ -22,7 +22,7 @@ use Rattle.tracks_plan.specs.Plan.{piece_at}
 use Rattle.tracks_plan.specs.declared.cutting.Piece.{Piece}
 use Rattle.tracks_step.specs.Promises.{piece_windows, StepPromise}
 use Rattle.tracks_step.specs.contracts.step as step
-use Rattle.tracks_to_files.specs.Calls.{PieceCall}
+use Rattle.tracks_to_files.specs.Calls.{PieceStep}
 
 -- of a call of `step`, its arguments a, its answer r, the lent lists s at exit
 abbrev pub step_said : (κs : Lfts 4) (a : Args step.signature κs) → Res step.signature κs → AtExit step.ended κs → Type 0
@@ -51,7 +51,7 @@ module _ (κs : Lfts 4) (a : Args step.signature κs) (r : Res step.signature κ
     pub held : length a.1.1.1.1.1.0.now ≡ piece.scratch
     pub lent : length a.1.1.1.1.1.1.0.now ≡ piece.bytes
 
-  pub piece_call : (i : ℕ) → OfPiece i → step_said κs a r s → PieceCall files hs a.1.0
+  pub piece_call : (i : ℕ) → OfPiece i → step_said κs a r s → PieceStep files hs a.1.0
   piece_call i o p = record {
     i = i;
     piece = o.piece;

@@ -1,3 +1,4 @@
+use Rattle.std.proofs.Common.{min}
 -- Frames out of windows are the files': a piece and what is next to it are.
 use mathlib.Core.Path.{◌≡◌, refl, sym, ap, subst, ◌∙◌}
 use mathlib.Core.Logic.{⊎_elim}
@@ -14,7 +15,6 @@ use Rattle.reference.specs.Refusals.{decide, accepted}
 use Rattle.reference.proofs.Refusals.{decide_first}
 use Rattle.reference.proofs.Promises.{exit_accepted}
 use Rattle.dsf.specs.Dsf.{channels}
-use Rattle.dsf_frames.specs.Reading.{lesser}
 use Rattle.tracks.specs.Runs.{frames_from, there, run_from}
 use Rattle.tracks.specs.Tracks.{Head, heads, tracks_channels, tracks_frames, tracks_frame, open_places}
 use Rattle.tracks.specs.Windows.{low, high, windowed, windowed_tracks, HeadsOf, WindowsFrom, WindowsOf}
@@ -31,40 +31,40 @@ around : Run → List ℕ
 around r = r.before ++ r.frames ++ r.after
 
 module _ (F : ℕ → List ℕ) (f : ℕ) where
-  before_is : (first : ℕ) → frames_from F (first - 1) (lesser first 1) ≡ there (ltb 0 first) (F (first - 1))
+  before_is : (first : ℕ) → frames_from F (first - 1) (min first 1) ≡ there (ltb 0 first) (F (first - 1))
   unfolding there
   before_is first = ⊎_elim one none (below_or 0 first)
     where
-      one : 0 < first → frames_from F (first - 1) (lesser first 1) ≡ there (ltb 0 first) (F (first - 1))
+      one : 0 < first → frames_from F (first - 1) (min first 1) ≡ there (ltb 0 first) (F (first - 1))
       one h =
-          let e : lesser first 1 ≡ 1 = omega arith in
+          let e : min first 1 ≡ 1 = omega arith in
           rw (e, lt-ltb 0 first h) (from_one F (first - 1))
 
-      none : first ≤ 0 → frames_from F (first - 1) (lesser first 1) ≡ there (ltb 0 first) (F (first - 1))
+      none : first ≤ 0 → frames_from F (first - 1) (min first 1) ≡ there (ltb 0 first) (F (first - 1))
       none h =
-          let e : lesser first 1 ≡ 0 = omega arith in
+          let e : min first 1 ≡ 0 = omega arith in
           rw (e, le-ltb 0 first h) (none_from F (first - 1))
 
-  after_is : (end : ℕ) → frames_from F end (lesser (end + 1) f - end) ≡ there (ltb end f) (F end)
+  after_is : (end : ℕ) → frames_from F end (min (end + 1) f - end) ≡ there (ltb end f) (F end)
   unfolding there
   after_is end = ⊎_elim one none (below_or end f)
     where
-      one : end < f → frames_from F end (lesser (end + 1) f - end) ≡ there (ltb end f) (F end)
+      one : end < f → frames_from F end (min (end + 1) f - end) ≡ there (ltb end f) (F end)
       one h =
-          let e : lesser (end + 1) f - end ≡ 1 = omega arith in
+          let e : min (end + 1) f - end ≡ 1 = omega arith in
           rw (e, lt-ltb end f h) (from_one F end)
 
-      none : f ≤ end → frames_from F end (lesser (end + 1) f - end) ≡ there (ltb end f) (F end)
+      none : f ≤ end → frames_from F end (min (end + 1) f - end) ≡ there (ltb end f) (F end)
       none h =
-          let e : lesser (end + 1) f - end ≡ 0 = omega arith in
+          let e : min (end + 1) f - end ≡ 0 = omega arith in
           rw (e, le-ltb end f h) (none_from F end)
 
-  around_is : (first count : ℕ) → first + count ≤ f → frames_from F (first - 1) (lesser (first + count + 1) f - (first - 1)) ≡ around (run_from F f first count)
+  around_is : (first count : ℕ) → first + count ≤ f → frames_from F (first - 1) (min (first + count + 1) f - (first - 1)) ≡ around (run_from F f first count)
   unfolding around run_from
   around_is first count h =
-      let b = lesser first 1 in
-      let a = lesser (first + count + 1) f - (first + count) in
-      let e : lesser (first + count + 1) f - (first - 1) ≡ b + count + a = omega arith in
+      let b = min first 1 in
+      let a = min (first + count + 1) f - (first + count) in
+      let e : min (first + count + 1) f - (first - 1) ≡ b + count + a = omega arith in
       let m : first - 1 + b ≡ first = omega arith in
       let l : first - 1 + (b + count) ≡ first + count = omega arith in
       rw (e, from_join F (first - 1) (b + count) a, from_join F (first - 1) b count, m, l, before_is first, after_is (first + count)) refl
@@ -102,7 +102,7 @@ module _ (n : ℕ) (fs : List (List ℕ)) (hs : List Head) (first : ℕ) (w : Li
 
       inside : first ≤ tracks_frames hs → Alike (high hs first count)
       inside h =
-          let c = lesser count (tracks_frames hs - first) in
+          let c = min count (tracks_frames hs - first) in
           let same : high hs first count ≡ high hs first c = omega arith in
           subst Alike (sym same)
           (within c (omega arith) (subst (λ (to : ℕ). WindowsFrom n (low first * 4704) (to * 4704) 0 0 w fs hs) same d))
@@ -120,4 +120,4 @@ frames_of_files files hs s first count w scratch scratch' answer g d p taken =
     let told = heads_tell files hs s g in
     p.gathered ∙ exit_accepted _ _ _ ok ∙ windowed_frames (tracks_channels hs) files hs first count w g opened.alike d
     ∙ ap (λ (m : ℕ). frames_from (tracks_frame m (tracks_of files)) (low first) (high hs first count - low first)) told.channels
-    ∙ ap (λ (f : ℕ). frames_from (tracks_frame (tracks_channels (heads (tracks_of files))) (tracks_of files)) (low first) (lesser (first + count + 1) f - low first)) told.frames
+    ∙ ap (λ (f : ℕ). frames_from (tracks_frame (tracks_channels (heads (tracks_of files))) (tracks_of files)) (low first) (min (first + count + 1) f - low first)) told.frames

@@ -11,7 +11,8 @@ use Rattle.dsf.specs.Dsf.{channel_type}
 use Rattle.dsf.specs.Reading.{HeadOf, header_places, file_header}
 use Rattle.dsf.specs.declared.DsfHeader.{DsfHeader}
 use Rattle.dsf.proofs.Head.{header_right, whole_head}
-use Rattle.tracks.specs.Tracks.{Head, head_of, heads, head_length, all_length, offset, tracks_channels, tracks_type, tracks_frames, first_places, next_places, rest_places, tracks_places, open_places, data_start}
+use Rattle.tracks.specs.Tracks.{Head, head_of, heads, head_length, all_length, offset, tracks_channels, tracks_type}
+use Rattle.tracks.specs.Tracks.{tracks_frames, first_places, next_places, rest_places, tracks_places, open_places, data_start}
 use Rattle.tracks.specs.Windows.{HeadsOf}
 use Rattle.tracks.proofs.Windows.{same_header, same_channels, same_length, same_all_length}
 use Rattle.tracks_to_files.specs.Heads.{tracks_of, HeadsTell}

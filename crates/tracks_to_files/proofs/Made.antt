@@ -18,24 +18,24 @@ use Rattle.dsf.specs.Dsf.{file_data}
 use Rattle.album_parts.specs.Parts.{part_first}
 use Rattle.tracks.specs.Tracks.{Head, heads, head_length, tracks_channels, tracks_frames, tracks_converter, open_places}
 use Rattle.tracks.specs.Windows.{HeadsOf, WindowsFrom, low, high, read_start, read_bytes, windows_length}
-use Rattle.tracks_open.specs.Open.{pieces, numbers, album_of}
+use Rattle.tracks_open.specs.Open.{piece_total, numbers, album_of}
 use Rattle.tracks_open.specs.declared.Album.{Album}
 use Rattle.tracks_plan.specs.Plan.{piece_from, piece_at}
 use Rattle.tracks_plan.specs.declared.cutting.Piece.{Piece}
 use Rattle.tracks_step.specs.Promises.{piece_frames, piece_run, step_places}
 use Rattle.tracks_to_files.specs.Heads.{tracks_of}
-use Rattle.tracks_to_files.specs.Calls.{PieceCall, Calls, Parts}
+use Rattle.tracks_to_files.specs.Calls.{PieceStep, Calls, Parts}
 use Rattle.tracks_to_files.proofs.Calls.{piece_taken, part_is}
 use Rattle.tracks_to_files.proofs.Steps.{opened}
 
 -- ---- windows
 module _ (n a b : ℕ) where
-  made : ℕ → List (List ℕ) → List Head → List ℕ
+  pub made : ℕ → List (List ℕ) → List Head → List ℕ
   made o [] hs = []
   made o (f ∷ fs) [] = []
   made o (f ∷ fs) (h ∷ hs) = tabulate (λ j. file_data f (read_start n h o a b + j)) 0 (read_bytes n h o a b) ++ made (o + head_length h) fs hs
 
-  made_long : (o : ℕ) (fs : List (List ℕ)) (hs : List Head) → HeadsOf fs hs → length (made o fs hs) ≡ windows_length n a b o hs
+  pub made_long : (o : ℕ) (fs : List (List ℕ)) (hs : List Head) → HeadsOf fs hs → length (made o fs hs) ≡ windows_length n a b o hs
   unfolding made windows_length
   made_long o [] [] g = refl
   made_long o [] (h ∷ hs) g = absurd g
@@ -44,7 +44,7 @@ module _ (n a b : ℕ) where
       length-append (tabulate (λ j. file_data f (read_start n h o a b + j)) 0 (read_bytes n h o a b)) (made (o + head_length h) fs hs)
       ∙ rw (length_tabulate (λ j. file_data f (read_start n h o a b + j)) 0 (read_bytes n h o a b), made_long (o + head_length h) fs hs g.1) refl
 
-  made_at : (o p : ℕ) (front : List ℕ) (fs : List (List ℕ)) (hs : List Head) → length front ≡ p → HeadsOf fs hs → WindowsFrom n a b o p (front ++ made o fs hs) fs hs
+  pub made_at : (o p : ℕ) (front : List ℕ) (fs : List (List ℕ)) (hs : List Head) → length front ≡ p → HeadsOf fs hs → WindowsFrom n a b o p (front ++ made o fs hs) fs hs
   unfolding made
   made_at o p front [] [] e g = tt
   made_at o p front [] (h ∷ hs) e g = absurd g
@@ -76,13 +76,13 @@ module _ (files : List (List ℕ)) (hs : List Head) (s : Settings) (g : HeadsOf 
   album = album_of s.rate hs
 
   -- ---- a call
-  module _ (i : ℕ) (h : i < pieces (tracks_frames hs)) where
+  module _ (i : ℕ) (h : i < piece_total (tracks_frames hs)) where
     abbrev p : Piece
     p = piece_from album (i * 128)
 
     planned : piece_at album i ≡ Some p
     unfolding piece_at album_of numbers tracks_frames
-    planned = rw (lt-ltb i (pieces (tracks_frames hs)) h) refl
+    planned = rw (lt-ltb i (piece_total (tracks_frames hs)) h) refl
 
     abbrev w : List ℕ
     w = made n (low p.first * 4704) (high hs p.first p.count * 4704) 0 files hs
@@ -99,7 +99,7 @@ module _ (files : List (List ℕ)) (hs : List Head) (s : Settings) (g : HeadsOf 
     passes : decide (step_places hs s p.first p.count (length w) (length room) (length bytes)) ≡ accepted
     passes = piece_taken files hs s g taken i p planned (length w) (length room) (length bytes) long (length-replicate p.scratch 0) (length-replicate p.bytes 0)
 
-    call_on : PieceCall files hs s
+    call_on : PieceStep files hs s
     call_on = record {
       i = i;
       piece = p;
@@ -125,10 +125,10 @@ module _ (files : List (List ℕ)) (hs : List Head) (s : Settings) (g : HeadsOf 
 
   -- calls on pieces a, …, b - 1
   record Called (a b : ℕ) : Type 0 where
-    calls : List (PieceCall files hs s)
+    calls : List (PieceStep files hs s)
     are : Calls a b calls
 
-  called : (k a : ℕ) → a + k ≤ pieces (tracks_frames hs) → Called a (a + k)
+  called : (k a : ℕ) → a + k ≤ piece_total (tracks_frames hs) → Called a (a + k)
   unfolding call_on
   called zero a l = record { calls = []; are = omega arith }
   called (suc k) a l =
@@ -138,7 +138,7 @@ module _ (files : List (List ℕ)) (hs : List Head) (s : Settings) (g : HeadsOf 
 
   module _ (jobs : ℕ) (some_job : 0 < jobs) (most : jobs ≤ 64) where
     abbrev P : ℕ
-    P = pieces (tracks_frames hs)
+    P = piece_total (tracks_frames hs)
 
     abbrev begin : ℕ → ℕ
     begin j = part_first P jobs j
@@ -156,7 +156,7 @@ module _ (files : List (List ℕ)) (hs : List Head) (s : Settings) (g : HeadsOf 
 
     -- the calls of parts j, …, jobs - 1, k of them
     pub record CalledParts (j : ℕ) : Type 0 where
-      pub parts : List (List (PieceCall files hs s))
+      pub parts : List (List (PieceStep files hs s))
       pub are : Parts jobs j parts
 
     parts_called : (k j : ℕ) → j + k ≡ jobs → CalledParts j

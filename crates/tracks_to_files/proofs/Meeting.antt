@@ -12,17 +12,18 @@ use Rattle.numbers.specs.Lists.{Each}
 use Rattle.numbers.proofs.Lists.{below_or}
 use Rattle.reference.specs.Refusals.{decide, accepted}
 use Rattle.reference.specs.declared.Settings.{Settings}
+use Rattle.text.specs.Lists.{part}
 use Rattle.wave_headers.specs.Headers.{header_length, pad}
 use Rattle.wave_headers.specs.declared.HeaderKind.{HeaderKind}
-use Rattle.tracks.specs.Tracks.{Head, Track, heads, tracks_channels, tracks_frames, open_places, data_start, part, album_data, track_data}
-use Rattle.tracks.specs.TracksToFiles.{album_frame, Step, Cut, Holds}
+use Rattle.tracks.specs.Tracks.{Head, Track, heads, tracks_channels, tracks_frames, open_places, data_start, album_data, track_data}
+use Rattle.tracks.specs.TracksToFiles.{album_frame, Step, Cut, HoldsAt}
 use Rattle.tracks.specs.Windows.{HeadsOf}
 use Rattle.tracks.proofs.Parts.{drop_take, length_part}
 use Rattle.tracks.proofs.TracksToFiles.{tracks_to_files, album_long, track_within, step_long}
 use Rattle.tracks_plan.specs.Writes.{write_of}
 use Rattle.tracks_plan.specs.declared.writing.Write.{Write}
 use Rattle.tracks_to_files.specs.Heads.{tracks_of}
-use Rattle.tracks_to_files.specs.Calls.{PieceCall}
+use Rattle.tracks_to_files.specs.Calls.{PieceStep}
 use Rattle.tracks_to_files.specs.PlanToFiles.{write_for, FileWritten, TrackWritten, AllWritten, file_of}
 use Rattle.tracks_to_files.specs.CanBeMet.{PlanMeets}
 use Rattle.tracks_to_files.proofs.Calls.{step_of, calls_cut, parts_are_all}
@@ -39,7 +40,7 @@ module _ (ts : List Track) (s : Settings) (taken : decide (open_places (heads ts
   cut_ends from (p ∷ ps) e = omega (arith, cut_ends (from + p.count) ps e.1)
 
   each_held : (d : List ℕ) (from : ℕ) (ps : List (Step ts s)) → Cut from (tracks_frames (heads ts)) ps → drop (from * size) d ≡ flat_map (λ (p : Step ts s). p.out) ps
-      → Each (λ p. Holds d (p.first * size) p.out) ps
+      → Each (λ p. HoldsAt d (p.first * size) p.out) ps
   unfolding flat_map
   each_held d from [] e is = tt
   each_held d from (p ∷ ps) e is =
@@ -51,7 +52,7 @@ module _ (ts : List Track) (s : Settings) (taken : decide (open_places (heads ts
       (record { is = rw (e.0, is) (take-append_seam p.out others) }, each_held d (from + p.count) ps e.1 next)
 
 -- ---- what is told of bytes at their place is in every part that has it
-module _ (d l : List ℕ) (place low high : ℕ) (front behind : List ℕ) (ends : high ≤ length d) (h : Holds d place l) where
+module _ (d l : List ℕ) (place low high : ℕ) (front behind : List ℕ) (ends : high ≤ length d) (h : HoldsAt d place l) where
   abbrev w : Write
   w = write_of place (length l) low high
 
@@ -81,7 +82,6 @@ module _ (d l : List ℕ) (place low high : ℕ) (front behind : List ℕ) (ends
     part_long = length_part low high d ends
 
     out_is : take m (drop (length front + at) out) ≡ take m (drop (low + at) d)
-    unfolding part
     out_is =
         let mine = part low high d in
         let rest : drop (length front + at) out ≡ drop at mine ++ behind = drop-append-add front (mine ++ behind) at ∙ drop-append-le at mine behind (omega (arith, part_long, in_part)) in
@@ -91,7 +91,6 @@ module _ (d l : List ℕ) (place low high : ℕ) (front behind : List ℕ) (ends
         ∙ take-take m (high - low - at) (drop (low + at) d) (omega (arith, in_part))
 
     part_is : part begin end l ≡ take m (drop (place + begin) d)
-    unfolding part
     part_is =
         ap (λ (x : List ℕ). take m (drop begin x)) (sym h.is)
         ∙ ap (take m) (drop_take begin (length l) (drop place d) ∙ ap (take (length l - begin)) (drop-drop begin place d))
@@ -100,19 +99,19 @@ module _ (d l : List ℕ) (place low high : ℕ) (front behind : List ℕ) (ends
     part_size : length (part begin end l) ≡ m
     part_size = length_part begin end l (omega arith)
 
-    some_held : Holds out (length front + at) (part begin end l)
+    some_held : HoldsAt out (length front + at) (part begin end l)
     some_held =
         let same : place + begin ≡ low + at = omega arith in
         record { is = rw part_size (out_is ∙ sym (part_is ∙ ap (λ (k : ℕ). take m (drop k d)) same)) }
 
-  write_held : Holds out (length front + w.at) (part w.begin w.end l)
-  unfolding write_of part
+  write_held : HoldsAt out (length front + w.at) (part w.begin w.end l)
+  unfolding write_of
   write_held = ⊎_elim some none (below_or begin end)
     where
-      some : begin < end → Holds out (length front + w.at) (part w.begin w.end l)
+      some : begin < end → HoldsAt out (length front + w.at) (part w.begin w.end l)
       some h = rw (lt-ltb begin end h) (some_held h)
 
-      none : end ≤ begin → Holds out (length front + w.at) (part w.begin w.end l)
+      none : end ≤ begin → HoldsAt out (length front + w.at) (part w.begin w.end l)
       none h = rw (le-ltb begin end h) (record { is = refl })
 
 -- ---- a file
@@ -144,29 +143,29 @@ module _ (files : List (List ℕ)) (hs : List Head) (s : Settings) (g : HeadsOf 
         length-append (F kind low high) (mine ++ B kind low high)
         ∙ rw (front_size, length-append mine (B kind low high), mine_long, length-replicate {A = ℕ} (pad (high - low)) 0) (sym (add_assoc (header_length kind) (high - low) (pad (high - low))))
 
-    abbrev Told : PieceCall files hs s → Type 0
-    Told c = Holds file (header_length kind + (write_for low high c).at) (part (write_for low high c).begin (write_for low high c).end c.out')
+    abbrev Told : PieceStep files hs s → Type 0
+    Told c = HoldsAt file (header_length kind + (write_for low high c).at) (part (write_for low high c).begin (write_for low high c).end c.out')
 
-    told_by : (c : PieceCall files hs s) → Holds d (c.piece.first * album_frame (tracks_of files) s) c.out' → Told c
+    told_by : (c : PieceStep files hs s) → HoldsAt d (c.piece.first * album_frame (tracks_of files) s) c.out' → Told c
     told_by c h =
         rw (bytes_of files hs s g taken c, ← front_size)
         (write_held d c.out' c.piece.place low high (F kind low high) (B kind low high) ends (rw (← place_of files hs s g taken c) at h))
 
-    of_steps : (cs : List (PieceCall files hs s)) → Each (λ p. Holds d (p.first * album_frame (tracks_of files) s) p.out) (map (step files hs s g taken) cs) → Each Told cs
+    of_steps : (cs : List (PieceStep files hs s)) → Each (λ p. HoldsAt d (p.first * album_frame (tracks_of files) s) p.out) (map (step files hs s g taken) cs) → Each Told cs
     unfolding step_of
     of_steps [] e = tt
     of_steps (c ∷ cs) e = (told_by c e.0, of_steps cs e.1)
 
-    each_left : (l m : List (PieceCall files hs s)) → Each Told (l ++ m) → Each Told l × Each Told m
+    each_left : (l m : List (PieceStep files hs s)) → Each Told (l ++ m) → Each Told l × Each Told m
     each_left [] m e = (tt, e)
     each_left (c ∷ l) m e = ((e.0, (each_left l m e.1).0), (each_left l m e.1).1)
 
-    of_all : (ps : List (List (PieceCall files hs s))) → Each Told (flat_map (λ p. p) ps) → Each (λ p. Each Told p) ps
+    of_all : (ps : List (List (PieceStep files hs s))) → Each Told (flat_map (λ p. p) ps) → Each (λ p. Each Told p) ps
     unfolding flat_map
     of_all [] e = tt
     of_all (p ∷ ps) e = let both = each_left p (flat_map (λ p. p) ps) e in (both.0, of_all ps both.1)
 
-    pad_held : Holds file (header_length kind + (high - low)) (B kind low high)
+    pad_held : HoldsAt file (header_length kind + (high - low)) (B kind low high)
     pad_held =
         let both = F kind low high ++ mine in
         let long : length both ≡ header_length kind + (high - low) = length-append (F kind low high) mine ∙ rw (front_size, mine_long) refl in
@@ -178,7 +177,7 @@ module _ (files : List (List ℕ)) (hs : List Head) (s : Settings) (g : HeadsOf 
               ∙ ap (take (length (B kind low high))) (drop-append_seam both (B kind low high)) ∙ take-length (B kind low high);
         }
 
-    written : (ps : List (List (PieceCall files hs s))) → Each (λ p. Holds d (p.first * album_frame (tracks_of files) s) p.out) (map (step files hs s g taken) (flat_map (λ p. p) ps))
+    written : (ps : List (List (PieceStep files hs s))) → Each (λ p. HoldsAt d (p.first * album_frame (tracks_of files) s) p.out) (map (step files hs s g taken) (flat_map (λ p. p) ps))
         → FileWritten ps kind low high file
     written ps e = record {
       long = file_long;
@@ -188,11 +187,11 @@ module _ (files : List (List ℕ)) (hs : List Head) (s : Settings) (g : HeadsOf 
     }
 
     -- as the definition has it
-    pub meets : (ps : List (List (PieceCall files hs s))) → Each (λ p. Holds d (p.first * album_frame (tracks_of files) s) p.out) (map (step files hs s g taken) (flat_map (λ p. p) ps))
+    pub meets : (ps : List (List (PieceStep files hs s))) → Each (λ p. HoldsAt d (p.first * album_frame (tracks_of files) s) p.out) (map (step files hs s g taken) (flat_map (λ p. p) ps))
         → FileWritten ps kind low high (file_of files s kind mine)
     meets ps e = subst (λ (l : List ℕ). FileWritten ps kind low high l) (file_is files hs s g taken kind low high mine mine_long) (written ps e)
 
-  module _ (ps : List (List (PieceCall files hs s))) (e : Each (λ p. Holds d (p.first * album_frame (tracks_of files) s) p.out) (map (step files hs s g taken) (flat_map (λ p. p) ps))) where
+  module _ (ps : List (List (PieceStep files hs s))) (e : Each (λ p. HoldsAt d (p.first * album_frame (tracks_of files) s) p.out) (map (step files hs s g taken) (flat_map (λ p. p) ps))) where
     track_meets : (kind : HeaderKind) (k : ℕ) → k < length files → TrackWritten ps kind k (file_of files s kind (track_data (tracks_of files) s k))
     unfolding track_data
     track_meets kind k h =
@@ -204,7 +203,6 @@ module _ (files : List (List ℕ)) (hs : List Head) (s : Settings) (g : HeadsOf 
         rw (mark_is files hs s g taken k, mark_is files hs s g taken (k + 1)) (meets kind low high ends ps e)
 
     all_of_it : (high : ℕ) → high ≡ length d → part 0 high d ≡ d
-    unfolding part
     all_of_it high e = rw (e, sub-zero (length d)) (take-length d)
 
     all_meets : (kind : HeaderKind) → AllWritten ps kind (file_of files s kind d)

@@ -24,7 +24,7 @@ use Rattle.tracks.proofs.OneTrack.{one_track, one_opened}
 use Rattle.tracks.proofs.TracksToFiles.{album_long}
 use Rattle.tracks_to_files.specs.Heads.{tracks_of}
 use Rattle.tracks_to_files.specs.PlanToFiles.{AllWritten}
-use Rattle.tracks_to_files.specs.OneFile.{TakenFile, file_converter, file_samples, PlanToFile}
+use Rattle.tracks_to_files.specs.OneFile.{TakenFile, file_converter, file_sample_bytes, PlanToFile}
 use Rattle.tracks_to_files.proofs.PlanToFiles.{plan_to_files}
 
 -- whole frames are an even number of bytes
@@ -43,11 +43,11 @@ module _ (file : List ℕ) (s : Settings) (taken : TakenFile file s) where
   some_channel = some (head_of file ∷ []) s (is_opened (head_of file ∷ []) s opened)
 
   -- the album's data are the file's
-  pub data_is : album_data (tracks_of (file ∷ [])) s ≡ file_samples file s
+  pub data_is : album_data (tracks_of (file ∷ [])) s ≡ file_sample_bytes file s
   unfolding tracks_channels
   data_is = ap (λ (r : Run). s24le (samples (file_converter file s) r)) (one_track file some_channel)
 
-  even_data : length (file_samples file s) % 2 ≡ 0
+  even_data : length (file_sample_bytes file s) % 2 ≡ 0
   even_data = rw (← data_is, album_long (tracks_of (file ∷ [])) s opened) (even s.rate (tracks_frames (heads (tracks_of (file ∷ [])))) (tracks_channels (heads (tracks_of (file ∷ [])))))
 
   stats_are : stats (file_converter file s) (tracks_run (channels file) (track_of file ∷ [])) ≡ stats (file_converter file s) (file_run file)
@@ -57,10 +57,11 @@ pub plan_to_file : PlanToFile
 unfolding tracks_channels tracks_type
 plan_to_file file h s jobs ps g taken more most e =
     let gives = plan_to_files (file ∷ []) (h ∷ []) s jobs ps (g, tt) (opened file s taken) more most e in
-    let written : (kind : HeaderKind) (out : List ℕ) → AllWritten ps kind out → out ≡ wave_file kind s.rate (channels file) (channel_type file) (file_samples file s) = λ kind out w. gives.all kind out w ∙ ap (wave_file kind s.rate (channels file) (channel_type file)) (data_is file s taken) in
+    let written : (kind : HeaderKind) (out : List ℕ) → AllWritten ps kind out → out ≡ wave_file kind s.rate (channels file) (channel_type file)
+    (file_sample_bytes file s) = λ kind out w. gives.all kind out w ∙ ap (wave_file kind s.rate (channels file) (channel_type file)) (data_is file s taken) in
     record {
       taken = gives.taken;
       written = written;
-      plain = λ out w. written Plain out w ∙ plain_file s.rate (channels file) (channel_type file) (file_samples file s) (even_data file s taken);
+      plain = λ out w. written Plain out w ∙ plain_file s.rate (channels file) (channel_type file) (file_sample_bytes file s) (even_data file s taken);
       told = gives.told ∙ stats_are file s taken;
     }

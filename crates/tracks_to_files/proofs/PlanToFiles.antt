@@ -10,19 +10,20 @@ use Rattle.reference.specs.Refusals.{decide, accepted}
 use Rattle.reference.specs.Statistics.{all_joined}
 use Rattle.reference.specs.declared.Settings.{Settings}
 use Rattle.reference.specs.declared.ConvertStats.{ConvertStats}
+use Rattle.text.specs.Lists.{part}
 use Rattle.sheet.specs.Sheet.{sheet}
 use Rattle.wav_format.specs.Wav.{frame_size}
 use Rattle.wave_headers.specs.Speakers.{mask}
-use Rattle.wave_headers.specs.Headers.{header_length, pad, header, padded, wave_file}
+use Rattle.wave_headers.specs.Headers.{header_length, pad, kind_header, padded, wave_file}
 use Rattle.wave_headers.specs.declared.HeaderKind.{HeaderKind}
 use Rattle.wave_headers.proofs.Laws.{length_header}
-use Rattle.tracks.specs.Tracks.{Head, heads, tracks_channels, tracks_type, tracks_frames, open_places, data_start, part, album_data, track_data}
-use Rattle.tracks.specs.TracksToFiles.{album_frame, Step, Holds, clip, Holding, Gives}
+use Rattle.tracks.specs.Tracks.{Head, heads, tracks_channels, tracks_type, tracks_frames, open_places, data_start, album_data, track_data}
+use Rattle.tracks.specs.TracksToFiles.{album_frame, Step, HoldsAt, clip, Holding, Gives}
 use Rattle.tracks.specs.Windows.{HeadsOf}
 use Rattle.tracks.proofs.Parts.{length_part}
 use Rattle.tracks.proofs.TracksToFiles.{tracks_to_files, album_long, track_within, step_long}
 use Rattle.tracks_to_files.specs.Heads.{tracks_of}
-use Rattle.tracks_to_files.specs.Calls.{PieceCall, stats_of}
+use Rattle.tracks_to_files.specs.Calls.{PieceStep, stats_of}
 use Rattle.tracks_to_files.specs.PlanToFiles.{write_for, FileWritten, TrackWritten, AllWritten, file_of, all_told, PlanGives, PlanToFiles}
 use Rattle.tracks_to_files.proofs.Calls.{place_is, within, step_of, bytes_are, parts_taken, calls_cut, parts_are_all}
 use Rattle.tracks_to_files.proofs.Steps.{told, opened}
@@ -36,26 +37,26 @@ module _ (files : List (List ℕ)) (hs : List Head) (s : Settings) (g : HeadsOf 
   abbrev n' : ℕ
   n' = tracks_channels (heads (tracks_of files))
 
-  abbrev pub step : PieceCall files hs s → Step (tracks_of files) s
+  abbrev pub step : PieceStep files hs s → Step (tracks_of files) s
   step = step_of files hs s g taken
 
   pub size_is : frame_size s.rate n ≡ album_frame (tracks_of files) s
   size_is = ap (frame_size s.rate) (told files hs s g taken).channels
 
-  pub place_of : (c : PieceCall files hs s) → c.piece.place ≡ c.piece.first * album_frame (tracks_of files) s
+  pub place_of : (c : PieceStep files hs s) → c.piece.place ≡ c.piece.first * album_frame (tracks_of files) s
   place_of c = place_is files hs s g taken c ∙ ap (λ (k : ℕ). c.piece.first * k) size_is
 
-  within_file : (c : PieceCall files hs s) → c.piece.first + c.piece.count ≤ tracks_frames (heads (tracks_of files))
+  within_file : (c : PieceStep files hs s) → c.piece.first + c.piece.count ≤ tracks_frames (heads (tracks_of files))
   within_file c = subst (λ (f : ℕ). c.piece.first + c.piece.count ≤ f) (told files hs s g taken).frames (within files hs s g taken c)
 
-  pub bytes_of : (c : PieceCall files hs s) → c.piece.bytes ≡ length c.out'
+  pub bytes_of : (c : PieceStep files hs s) → c.piece.bytes ≡ length c.out'
   unfolding step_of
   bytes_of c = bytes_are files hs s g taken c ∙ ap (λ (k : ℕ). c.piece.count * k) size_is ∙ sym (step_long (tracks_of files) s taken (step c) (within_file c))
 
   -- ---- a file
   module _ (kind : HeaderKind) (low high : ℕ) where
     abbrev pub front : List ℕ
-    front = header kind (hertz s.rate) n (mask (tracks_type hs)) (high - low)
+    front = kind_header kind (hertz s.rate) n (mask (tracks_type hs)) (high - low)
 
     abbrev pub behind : List ℕ
     behind = replicate (pad (high - low)) 0
@@ -64,28 +65,29 @@ module _ (files : List (List ℕ)) (hs : List Head) (s : Settings) (g : HeadsOf 
     front_long = length_header kind (hertz s.rate) n (mask (tracks_type hs)) (high - low)
 
     module _ (out : List ℕ) where
-      abbrev Told : PieceCall files hs s → Type 0
-      Told c = Holds out (header_length kind + (write_for low high c).at) (part (write_for low high c).begin (write_for low high c).end c.out')
+      abbrev Told : PieceStep files hs s → Type 0
+      Told c = HoldsAt out (header_length kind + (write_for low high c).at) (part (write_for low high c).begin (write_for low high c).end c.out')
 
-      held : (c : PieceCall files hs s) → Told c → Holds out (length front + (c.piece.first * album_frame (tracks_of files) s - low)) (clip low high (c.piece.first * album_frame (tracks_of files) s) c.out')
+      held : (c : PieceStep files hs s) → Told c
+          → HoldsAt out (length front + (c.piece.first * album_frame (tracks_of files) s - low)) (clip low high (c.piece.first * album_frame (tracks_of files) s) c.out')
       held c e = rw (front_long, ← place_of c) (told_held c.piece.place low high (header_length kind) c.out' out (rw (bytes_of c) at e))
 
-      each_both : (l m : List (PieceCall files hs s)) → Each Told l → Each Told m → Each Told (l ++ m)
+      each_both : (l m : List (PieceStep files hs s)) → Each Told l → Each Told m → Each Told (l ++ m)
       each_both [] m e d = d
       each_both (c ∷ l) m e d = (e.0, each_both l m e.1 d)
 
-      each_part : (ps : List (List (PieceCall files hs s))) → Each (λ p. Each Told p) ps → Each Told (flat_map (λ p. p) ps)
+      each_part : (ps : List (List (PieceStep files hs s))) → Each (λ p. Each Told p) ps → Each Told (flat_map (λ p. p) ps)
       unfolding flat_map
       each_part [] e = tt
       each_part (p ∷ ps) e = each_both p (flat_map (λ p. p) ps) e.0 (each_part ps e.1)
 
-      each_step : (cs : List (PieceCall files hs s)) → Each Told cs
-          → Each (λ p. Holds out (length front + (p.first * album_frame (tracks_of files) s - low)) (clip low high (p.first * album_frame (tracks_of files) s) p.out)) (map step cs)
+      each_step : (cs : List (PieceStep files hs s)) → Each Told cs
+          → Each (λ p. HoldsAt out (length front + (p.first * album_frame (tracks_of files) s - low)) (clip low high (p.first * album_frame (tracks_of files) s) p.out)) (map step cs)
       unfolding step_of
       each_step [] e = tt
       each_step (c ∷ cs) e = (held c e.0, each_step cs e.1)
 
-      holding : (ps : List (List (PieceCall files hs s))) → FileWritten ps kind low high out → Holding (map step (flat_map (λ p. p) ps)) low high front behind out
+      holding : (ps : List (List (PieceStep files hs s))) → FileWritten ps kind low high out → Holding (map step (flat_map (λ p. p) ps)) low high front behind out
       holding ps e = record {
         long = rw (front_long, length-replicate {A = ℕ} (pad (high - low)) 0) e.long;
         begins = e.headed;
@@ -109,7 +111,7 @@ module _ (files : List (List ℕ)) (hs : List Head) (s : Settings) (g : HeadsOf 
   length_files [] = refl
   length_files (f ∷ fs) = rw (length_files fs) refl
 
-  module _ (ps : List (List (PieceCall files hs s))) (gives : Gives (map step (flat_map (λ p. p) ps))) where
+  module _ (ps : List (List (PieceStep files hs s))) (gives : Gives (map step (flat_map (λ p. p) ps))) where
     track_is : (kind : HeaderKind) (k : ℕ) → k < length files → (out : List ℕ) → TrackWritten ps kind k out → out ≡ file_of files s kind (track_data (tracks_of files) s k)
     unfolding track_data
     track_is kind k h out e =
@@ -130,15 +132,15 @@ module _ (files : List (List ℕ)) (hs : List Head) (s : Settings) (g : HeadsOf 
         ∙ file_is kind 0 high (album_data (tracks_of files) s) (album_long (tracks_of files) s taken ∙ omega arith)
 
     -- ---- statistics
-    abbrev stats_in : List (PieceCall files hs s) → List ConvertStats
+    abbrev stats_in : List (PieceStep files hs s) → List ConvertStats
     stats_in = map (λ c. stats_of c.answer)
 
-    told_by_both : (l m : List (PieceCall files hs s)) → stats_in l ++ map (λ (p : Step (tracks_of files) s). p.told) (map step m) ≡ map (λ (p : Step (tracks_of files) s). p.told) (map step (l ++ m))
+    told_by_both : (l m : List (PieceStep files hs s)) → stats_in l ++ map (λ (p : Step (tracks_of files) s). p.told) (map step m) ≡ map (λ (p : Step (tracks_of files) s). p.told) (map step (l ++ m))
     unfolding step_of
     told_by_both [] m = refl
     told_by_both (c ∷ l) m = ap (λ (r : List ConvertStats). stats_of c.answer ∷ r) (told_by_both l m)
 
-    told_by_steps : (qs : List (List (PieceCall files hs s))) → flat_map (λ l. l) (map stats_in qs) ≡ map (λ (p : Step (tracks_of files) s). p.told) (map step (flat_map (λ p. p) qs))
+    told_by_steps : (qs : List (List (PieceStep files hs s))) → flat_map (λ l. l) (map stats_in qs) ≡ map (λ (p : Step (tracks_of files) s). p.told) (map step (flat_map (λ p. p) qs))
     unfolding flat_map
     told_by_steps [] = refl
     told_by_steps (q ∷ qs) = ap (λ (r : List ConvertStats). stats_in q ++ r) (told_by_steps qs) ∙ told_by_both q (flat_map (λ p. p) qs)

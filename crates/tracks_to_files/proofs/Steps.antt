@@ -19,22 +19,22 @@ use Rattle.tracks.specs.Tracks.{Head, heads, settings_for, tracks_channels, trac
 use Rattle.tracks.specs.Windows.{HeadsOf}
 use Rattle.tracks.proofs.Opened.{Opened, is_opened}
 use Rattle.tracks.proofs.Windows.{windowed_piece}
-use Rattle.tracks_open.specs.Open.{decision}
+use Rattle.tracks_open.specs.Open.{tracks_decision}
 use Rattle.tracks_open.specs.declared.Refused.{Refused}
 use Rattle.tracks_step.specs.Promises.{piece_places, frames_places, step_places, piece_run}
-use Rattle.tracks_to_files.specs.Heads.{tracks_of, Told}
+use Rattle.tracks_to_files.specs.Heads.{tracks_of, HeadsAgree}
 use Rattle.tracks_to_files.specs.Calls.{stats_of}
 use Rattle.tracks_to_files.specs.Steps.{TakenCall, CallIsStep}
 use Rattle.tracks_to_files.proofs.Heads.{heads_tell}
 
 -- ---- answers
-stats_are : (answer : Result ConvertStats Refused) {t : ConvertStats} → decision answer ≡ accepted → IfOk answer (λ x. x ≡ t) → stats_of answer ≡ t
+stats_are : (answer : Result ConvertStats Refused) {t : ConvertStats} → tracks_decision answer ≡ accepted → IfOk answer (λ x. x ≡ t) → stats_of answer ≡ t
 unfolding is_accepted
 stats_are (Ok x) d e = e
 stats_are (Err e) d n = absurd (true≢false (ap is_accepted (sym d) ∙ error_refuses e.error))
 
 module _ (files : List (List ℕ)) (hs : List Head) (s : Settings) (g : HeadsOf files hs) (taken : decide (open_places (heads (tracks_of files)) s) ≡ accepted) where
-  pub told : Told files hs s
+  pub told : HeadsAgree files hs s
   told = heads_tell files hs s g
 
   pub opens : decide (open_places hs s) ≡ accepted

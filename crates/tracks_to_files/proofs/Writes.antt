@@ -8,8 +8,8 @@ use lib.ListN.{length, take, drop, length-drop}
 use lib.Seq.{take_all}
 use borrow.Author.Tests.{lt-ltb}
 use Rattle.numbers.proofs.Lists.{below_or}
-use Rattle.tracks.specs.Tracks.{part}
-use Rattle.tracks.specs.TracksToFiles.{Holds, clip}
+use Rattle.text.specs.Lists.{part}
+use Rattle.tracks.specs.TracksToFiles.{HoldsAt, clip}
 use Rattle.tracks.proofs.Parts.{drop_take, length_clip}
 use Rattle.tracks_plan.specs.Writes.{write_of}
 use Rattle.tracks_plan.specs.declared.writing.Write.{Write}
@@ -32,7 +32,7 @@ module _ (place low high front : ℕ) (l out : List ℕ) where
   w = write_of place (length l) low high
 
   least : low - place < min (length l) (high - place) → part (low - place) (min (length l) (high - place)) l ≡ clip low high place l
-  unfolding part clip
+  unfolding clip
   least h =
       let d = drop (low - place) l in
       let size : length d ≡ length l - (low - place) = length-drop (low - place) l in
@@ -40,14 +40,14 @@ module _ (place low high front : ℕ) (l out : List ℕ) where
       sym (drop_take (low - place) (high - place) l ∙ take_least (high - place - (low - place)) d ∙ ap (λ (k : ℕ). take k d) e)
 
   -- those that are told, at the place that is told
-  pub told_held : Holds out (front + w.at) (part w.begin w.end l) → Holds out (front + (place - low)) (clip low high place l)
+  pub told_held : HoldsAt out (front + w.at) (part w.begin w.end l) → HoldsAt out (front + (place - low)) (clip low high place l)
   unfolding write_of
   told_held e = ⊎_elim some none (below_or (low - place) (min (length l) (high - place)))
     where
-      some : low - place < min (length l) (high - place) → Holds out (front + (place - low)) (clip low high place l)
+      some : low - place < min (length l) (high - place) → HoldsAt out (front + (place - low)) (clip low high place l)
       some h = rw (← least h) (rw (lt-ltb (low - place) (min (length l) (high - place)) h) at e)
 
-      none : min (length l) (high - place) ≤ low - place → Holds out (front + (place - low)) (clip low high place l)
+      none : min (length l) (high - place) ≤ low - place → HoldsAt out (front + (place - low)) (clip low high place l)
       none h =
           let z : clip low high place l ≡ [] = nothing (clip low high place l) (length_clip low high place l ∙ omega arith) in
           rw z (record { is = refl })

@@ -3,7 +3,7 @@ use Rattle.std.specs.Prelude.{◌≡◌, Result, Ok, Err, Some, List, [], ◌∷
 use Rattle.reference.specs.Statistics.{no_stats}
 use Rattle.reference.specs.declared.Settings.{Settings}
 use Rattle.reference.specs.declared.ConvertStats.{ConvertStats}
-use Rattle.album_parts.specs.Parts.{part}
+use Rattle.album_parts.specs.Parts.{job_part}
 use Rattle.tracks.specs.Tracks.{Head, tracks_channels, tracks_frames}
 use Rattle.tracks.specs.Windows.{WindowsOf}
 use Rattle.tracks_open.specs.Open.{album_of}
@@ -14,7 +14,7 @@ use Rattle.tracks_step.specs.Promises.{piece_windows, StepPromise}
 
 -- a call of `step` on piece i of the files with these heads, whatever it answered: the windows are the files' stretches
 -- that are told, and the lists that are lent are as long as is told
-pub record PieceCall (files : List (List ℕ)) (hs : List Head) (s : Settings) : Type 0 where
+pub record PieceStep (files : List (List ℕ)) (hs : List Head) (s : Settings) : Type 0 where
   pub i : ℕ
   pub piece : Piece
   pub planned : piece_at (album_of s.rate hs) i ≡ Some piece
@@ -36,11 +36,11 @@ stats_of (Ok t) = t
 stats_of (Err e) = no_stats
 
 -- calls on pieces a, …, b - 1
-abbrev pub Calls : {files : List (List ℕ)} {hs : List Head} {s : Settings} → ℕ → ℕ → List (PieceCall files hs s) → Type 0
+abbrev pub Calls : {files : List (List ℕ)} {hs : List Head} {s : Settings} → ℕ → ℕ → List (PieceStep files hs s) → Type 0
 Calls a b [] = a ≡ b
 Calls a b (c ∷ cs) = (c.i ≡ a) × Calls (a + 1) b cs
 
 -- the calls of parts j, …, jobs - 1, each from its first piece to its end
-abbrev pub Parts : {files : List (List ℕ)} {hs : List Head} {s : Settings} → ℕ → ℕ → List (List (PieceCall files hs s)) → Type 0
+abbrev pub Parts : {files : List (List ℕ)} {hs : List Head} {s : Settings} → ℕ → ℕ → List (List (PieceStep files hs s)) → Type 0
 Parts jobs j [] = j ≡ jobs
-Parts {files} {hs} jobs j (p ∷ ps) = Calls (part (tracks_frames hs) jobs j).first (part (tracks_frames hs) jobs j).end p × Parts jobs (j + 1) ps
+Parts {files} {hs} jobs j (p ∷ ps) = Calls (job_part (tracks_frames hs) jobs j).first (job_part (tracks_frames hs) jobs j).end p × Parts jobs (j + 1) ps

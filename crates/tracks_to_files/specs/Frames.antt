@@ -7,7 +7,7 @@ use Rattle.dsf.specs.Dsf.{channels}
 use Rattle.tracks.specs.Runs.{frames_from}
 use Rattle.tracks.specs.Tracks.{Head, heads, tracks_channels, tracks_frame}
 use Rattle.tracks.specs.Windows.{low, high, windowed_tracks, HeadsOf, WindowsOf}
-use Rattle.tracks_open.specs.Open.{decision}
+use Rattle.tracks_open.specs.Open.{tracks_decision}
 use Rattle.tracks_open.specs.declared.Album.{Album}
 use Rattle.tracks_open.specs.declared.Refused.{Refused}
 use Rattle.tracks_step.specs.Promises.{FramesPromise}
@@ -32,5 +32,5 @@ abbrev pub FramesOfFiles : Type 0
 FramesOfFiles =
     (files : List (List ℕ)) (hs : List Head) (s : Settings) (first count : ℕ) (w scratch scratch' : List ℕ) (answer : Result Album Refused)
     → HeadsOf files hs → WindowsOf files hs (tracks_channels hs) first count w
-    → FramesPromise hs s first count w scratch scratch' answer → decision answer ≡ accepted
+    → FramesPromise hs s first count w scratch scratch' answer → tracks_decision answer ≡ accepted
     → scratch' ≡ files_frames files first count

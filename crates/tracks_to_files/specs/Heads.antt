@@ -11,7 +11,7 @@ abbrev pub tracks_of : List (List ℕ) → List Track
 tracks_of files = map track_of files
 
 -- the same refusals, channels, frames and marks as whole files
-pub record Told (files : List (List ℕ)) (hs : List Head) (s : Settings) : Type 0 where
+pub record HeadsAgree (files : List (List ℕ)) (hs : List Head) (s : Settings) : Type 0 where
   pub opened : decide (open_places hs s) ≡ decide (open_places (heads (tracks_of files)) s)
   pub channels : tracks_channels hs ≡ tracks_channels (heads (tracks_of files))
   pub type : tracks_type hs ≡ tracks_type (heads (tracks_of files))
@@ -20,7 +20,7 @@ pub record Told (files : List (List ℕ)) (hs : List Head) (s : Settings) : Type
 
 -- proved in proofs/Heads, `heads_tell`
 abbrev pub HeadsTell : Type 0
-HeadsTell = (files : List (List ℕ)) (hs : List Head) (s : Settings) → HeadsOf files hs → Told files hs s
+HeadsTell = (files : List (List ℕ)) (hs : List Head) (s : Settings) → HeadsOf files hs → HeadsAgree files hs s
 
 -- the first 92 bytes of files end to end, and their lengths: heads of these files, where each has so many. Proved in
 -- proofs/Cut, `heads_cut`

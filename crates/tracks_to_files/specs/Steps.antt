@@ -7,7 +7,7 @@ use Rattle.reference.specs.declared.ConvertStats.{ConvertStats}
 use Rattle.tracks.specs.Tracks.{Head, heads, tracks_channels, open_places}
 use Rattle.tracks.specs.TracksToFiles.{Step}
 use Rattle.tracks.specs.Windows.{HeadsOf, WindowsOf}
-use Rattle.tracks_open.specs.Open.{decision}
+use Rattle.tracks_open.specs.Open.{tracks_decision}
 use Rattle.tracks_open.specs.declared.Refused.{Refused}
 use Rattle.tracks_step.specs.Promises.{StepPromise}
 use Rattle.tracks_to_files.specs.Heads.{tracks_of}
@@ -25,7 +25,7 @@ pub record TakenCall (files : List (List ℕ)) (hs : List Head) (s : Settings) :
   pub out' : List ℕ
   pub answer : Result ConvertStats Refused
   pub promise : StepPromise hs s first count windows scratch scratch' out out' answer
-  pub taken : decision answer ≡ accepted
+  pub taken : tracks_decision answer ≡ accepted
 
 pub record IsStep {files : List (List ℕ)} {hs : List Head} {s : Settings} (c : TakenCall files hs s) : Type 0 where
   pub step : Step (tracks_of files) s

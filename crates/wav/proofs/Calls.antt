@@ -1,4 +1,5 @@
--- What `ensures` says of a call of `convert_parts`, and of `convert` over the run record, is, word for word, the promise that the join theorem of files goes by.
+-- What `ensures` says of a call of `convert_parts`, and of `convert` over the run record, is, word for word, the
+-- promise that the join theorem of files goes by.
 use mathlib.Core.Path.{◌≡◌, refl}
 use seplogic.Ra.Ura.{Ura}
 use base.Logic.{SProp}

@@ -1,4 +1,5 @@
--- Demand 3 of files, from the join theorem of calls: each file made is a call of `convert` on the part behind the header.
+-- Demand 3 of files, from the join theorem of calls: each file made is a call of `convert` on the part behind the
+-- header.
 use mathlib.Core.Path.{◌≡◌, refl, sym, ap, ap₂, ◌∙◌}
 use mathlib.Core.List.{List, [], ◌∷◌, ◌++◌, map, flat_map}
 use mathlib.Core.Bool.{Bool, true, false, cond}

@@ -11,7 +11,8 @@ use Rattle.wav_format.specs.Wav.{wav_file}
 use Rattle.wav_checks.specs.Places.{wav_places}
 use Rattle.wav.specs.Promises.{WavPromise}
 
--- a call of the converting writer: what it was given, what the lent lists held at entry and at exit, its answer, and its promise
+-- a call of the converting writer: what it was given, what the lent lists held at entry and at exit, its answer, and
+-- its promise
 pub record WavCall (conv : Converter) : Type 0 where
   pub run : Run
   pub lent : Bool
@@ -44,7 +45,8 @@ pub record FilesJoinTo {conv : Converter} (r : Run) (calls : List (WavCall conv)
   pub bytes : flat_map (λ p. p.frames) (file_pieces calls) ≡ r.frames
   pub neighbours : AllAgree conv (sequence conv.channels r) 0 (file_pieces calls)
 
--- proved in proofs/Joined: the data of the files made is `convert`'s of the whole run, and so that of the whole run's file
+-- proved in proofs/Joined: the data of the files made is `convert`'s of the whole run, and so that of the whole run's
+-- file
 abbrev pub FilesJoin : Type 0
 FilesJoin = (conv : Converter) (r : Run) (calls : List (WavCall conv)) → AcceptedConverter conv → AcceptedRun conv r → FilesJoinTo r calls
     → (flat_map data_of (keep made calls) ≡ s24le (samples conv r))

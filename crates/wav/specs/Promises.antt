@@ -1,4 +1,5 @@
--- What the converting writer promises: `convert`'s promise, with the header in front of the bytes. A primed list is one at exit.
+-- What the converting writer promises: `convert`'s promise, with the header in front of the bytes. A primed list is one
+-- at exit.
 use Rattle.std.specs.Prelude.{◌≡◌, List, Bool, ℕ}
 use Rattle.reference.specs.Frames.{Run}
 use Rattle.reference.specs.Output.{samples, per_frame_clips, s24le}

@@ -1,4 +1,5 @@
--- Where the converting writer is turned down: `convert`'s places with the header's 44 bytes in the output, then 12, which carries nothing.
+-- Where the converting writer is turned down: `convert`'s places with the header's 44 bytes in the output, then 12,
+-- which carries nothing.
 use Rattle.std.specs.Prelude.{List, [], ◌∷◌, ◌++◌, Bool, not, ◌&&◌, ℕ, ◌+◌, ◌*◌, leb, length}
 use Rattle.reference.specs.Frames.{Run, frame_count}
 use Rattle.reference.specs.Output.{all_samples}

@@ -20,7 +20,7 @@ pub fn told(channels: u8, n: usize) -> Result<(), PcmError>
 }
 
 // All that the call tries.
-#[tactic(auto, using(refusals::proofs::Steps::stops, refusals::proofs::Steps::goes_on, refusals::proofs::Steps::few_enough, refusals::proofs::Steps::wrong_bytes, refusals::proofs::Steps::right_length), unfolding(crate::specs::Places::wav_places, crate::specs::Places::wav_lengths, crate::specs::Places::data_size, reference::specs::Output::all_samples, reference::specs::Output::channel_samples))]
+#[tactic(auto, using(refusals::proofs::Steps::stops, refusals::proofs::Steps::few_enough), unfolding(crate::specs::Places::wav_places))]
 pub fn call<'a>(
     conv: Converter,
     run: Run<'a>,

@@ -24,7 +24,7 @@ use Rattle.wav_header.proofs.ThreeParts.{length_header}
 use Rattle.wav_format.specs.Wav.{wav_file, frame_size, Right, Taken, right_data, is_file}
 use Rattle.wav_format.specs.Places.{at_rate, takes, read_places}
 use Rattle.wav_format.specs.Promises.{ReadPromise}
-use Rattle.wav_format.specs.Deciding.{rate_of, channels_of}
+use Rattle.wav_format.specs.inner.Deciding.{rate_of_byte, channels_of}
 use Rattle.std.specs.Prelude.{Ok, Err}
 use Rattle.text.specs.Lists.{same}
 use Rattle.text.proofs.Same.{and_left, and_right, and_not, and_false, and_both, no_true, same_self, same_is}
@@ -90,8 +90,8 @@ module _ (file : List ℕ) (rate : PcmRate) (channels : ℕ) where
     file_is = sym (take-append-drop 44 file) ∙ ap (λ (h : List ℕ). h ++ drop 44 file) (begin ∙ ap (header (hertz rate) channels) (sym (length-drop 44 file)))
 
   -- rate and channels read off the header
-  rate_byte : (r : PcmRate) (c n : ℕ) → rate_of (get_or (header (hertz r) c n) 24 0) ≡ r
-  unfolding header fields joined text bytes rate_of
+  rate_byte : (r : PcmRate) (c n : ℕ) → rate_of_byte (get_or (header (hertz r) c n) 24 0) ≡ r
+  unfolding header fields joined text bytes rate_of_byte
   rate_byte Hz88200 c n = refl
   rate_byte Hz176400 c n = refl
   rate_byte Hz352800 c n = refl
@@ -103,8 +103,8 @@ module _ (file : List ℕ) (rate : PcmRate) (channels : ℕ) where
   channels_byte h (suc (suc zero)) n s f = refl
   channels_byte h (suc (suc (suc c))) n s f = absurd (omega arith)
 
-  pub rate_is : is_file file rate channels ≡ true → rate_of (get_or file 24 0) ≡ rate
-  rate_is e = ap rate_of (sym (get_or-take 44 file 24 0 (omega arith)) ∙ ap (λ (l : List ℕ). get_or l 24 0) (begin e)) ∙ rate_byte rate channels (length file - 44)
+  pub rate_is : is_file file rate channels ≡ true → rate_of_byte (get_or file 24 0) ≡ rate
+  rate_is e = ap rate_of_byte (sym (get_or-take 44 file 24 0 (omega arith)) ∙ ap (λ (l : List ℕ). get_or l 24 0) (begin e)) ∙ rate_byte rate channels (length file - 44)
 
   pub channels_is : is_file file rate channels ≡ true → channels_of (get_or file 22 0) ≡ channels
   channels_is e =
@@ -148,7 +148,7 @@ found file e =
     (or_elim (at_rate file Hz88200) (at_rate file Hz176400 || at_rate file Hz352800) e)
 
 -- the rate and the channels that the two bytes tell
-pub reads : (file : List ℕ) → takes file ≡ true → is_file file (rate_of (get_or file 24 0)) (channels_of (get_or file 22 0)) ≡ true
+pub reads : (file : List ℕ) → takes file ≡ true → is_file file (rate_of_byte (get_or file 24 0)) (channels_of (get_or file 22 0)) ≡ true
 reads file e = let f = found file e in rw (rate_is file f.rate f.channels f.is, channels_is file f.rate f.channels f.is) f.is
 
 -- ---- the definition
@@ -225,7 +225,7 @@ module _ (file : List ℕ) where
       }
 
   -- rate and channels by the two bytes
-  module _ (rate : PcmRate) (channels : ℕ) (r : rate ≡ rate_of (get_or file 24 0)) (c : channels ≡ channels_of (get_or file 22 0)) where
+  module _ (rate : PcmRate) (channels : ℕ) (r : rate ≡ rate_of_byte (get_or file 24 0)) (c : channels ≡ channels_of (get_or file 22 0)) where
     not_file : is_file file rate channels ≡ false → ReadPromise file (Err NotWav)
     not_file n = refuses (λ e. no_true _ (rw (r, c) (reads file e)) n)
 

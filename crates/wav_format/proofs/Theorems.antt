@@ -1,5 +1,5 @@
--- Files written and read: the reader takes exactly the files of the definition, what is written is read back, what is read is written back; and a promise
--- leaves nothing free.
+-- Files written and read: the reader takes exactly the files of the definition, what is written is read back, what is
+-- read is written back; and a promise leaves nothing free.
 use mathlib.Core.Path.{◌≡◌, refl, sym, ap, subst, ◌∙◌}
 use mathlib.Core.List.{List}
 use mathlib.Core.Bool.{true}
@@ -9,7 +9,7 @@ use Rattle.reference.specs.Refusals.{accepted, decide}
 use Rattle.reference.specs.declared.PcmRate.{PcmRate}
 use Rattle.reference.specs.declared.PcmError.{PcmError}
 use Rattle.reference.proofs.Promises.{exit_accepted, decision_exact}
-use Rattle.wav_format.specs.Theorems.{format, TakesExactly, WrittenRead, WrittenBack, TakenWith, TakenWithIs}
+use Rattle.wav_format.specs.Theorems.{format, TakesExactly, WavWrittenRead, WrittenBack, TakenWith, TakenWithIs}
 use Rattle.wav_format.specs.Wav.{wav_file, Right, Taken, right_data}
 use Rattle.wav_format.specs.Places.{write_places}
 use Rattle.wav_format.specs.Promises.{ReadPromise, file_samples, WritePromise}
@@ -41,7 +41,7 @@ module _ (rate : PcmRate) (channels : ℕ) (l : List ℕ) (right : Right rate ch
   samples_back = sym (samples_there (wav_file rate channels l) (taken_takes _ the_file)) ∙ data_is rate channels l
 
 -- by the second entry
-pub written_read : WrittenRead
+pub written_read : WavWrittenRead
 written_read rate channels l out out' w a p =
     let ok : decide (write_places rate channels l (length out)) ≡ accepted = sym w.decided in
     let r = right_is rate channels (length l) (accepted_right rate channels l out ok) in
@@ -94,5 +94,6 @@ read_exact file (Ok f) b p q = let t = answered_taken file f p in p.told t ∙ s
 read_exact file (Err e) (Ok g) p q = let t = answered_taken file g q in p.told t ∙ sym (q.told t)
 read_exact file (Err e) (Err f) p q = ap Err (same_error e f (decision_exact (Err e) (Err f) (p.decided ∙ sym q.decided)))
 
-pub write_exact : (rate : PcmRate) (channels : ℕ) (l out o o' : List ℕ) (a b : Result (Unit {0}) PcmError) → WritePromise rate channels l out o a → WritePromise rate channels l out o' b → (a ≡ b) × (o ≡ o')
+pub write_exact : (rate : PcmRate) (channels : ℕ) (l out o o' : List ℕ) (a b : Result (Unit {0}) PcmError)
+    → WritePromise rate channels l out o a → WritePromise rate channels l out o' b → (a ≡ b) × (o ≡ o')
 write_exact rate channels l out o o' a b p q = (decision_exact a b (p.decided ∙ sym q.decided), p.written ∙ sym q.written)

@@ -1,5 +1,5 @@
 pub mod Wav
 pub mod Places
 pub mod Promises
-pub mod Deciding
 pub mod Theorems
+pub mod inner

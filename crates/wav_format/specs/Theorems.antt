@@ -19,8 +19,8 @@ TakesExactly =
     × ((Taken file → ⊥) → decide (read_places file) ≡ refused 12 [])
 
 -- what the second entry wrote is read back: rate, channels and sample bytes
-abbrev pub WrittenRead : Type 0
-WrittenRead =
+abbrev pub WavWrittenRead : Type 0
+WavWrittenRead =
     (rate : PcmRate) (channels : ℕ) (l out out' : List ℕ) → WritePromise rate channels l out out' (Ok tt)
     → (a : Result WavFormat PcmError) → ReadPromise out' a → (a ≡ Ok (format rate channels)) × (file_samples out' ≡ l)
 

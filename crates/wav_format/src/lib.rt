@@ -7,7 +7,7 @@ ghost use Rattle.reference.specs.Codes as codes;
 ghost use Rattle.wav_format.specs.Wav as wav;
 ghost use Rattle.wav_format.specs.Wav.{right_data};
 ghost use Rattle.wav_header.specs.Header.{header, most_data};
-ghost use Rattle.wav_format.specs.Deciding as deciding;
+ghost use Rattle.wav_format.specs.inner.Deciding as deciding;
 ghost use Rattle.wav_format.specs.Promises.{ReadPromise, file_samples, WritePromise};
 
 use reference::{MOST_FRAMES, PcmError, PcmRate};
@@ -45,9 +45,9 @@ pub fn right_data(format: WavFormat, n: usize) -> bool
 
 // The rate and the channels of the one header that can be right, from a byte of each: any other byte gives a header
 // that the file does not have, so these need no refusal and no `TryFrom`, which would name one.
-#[tactic(auto, unfolding(crate::specs::Deciding::rate_of))]
+#[tactic(auto, unfolding(crate::specs::inner::Deciding::rate_of_byte))]
 fn rate_of(x: u8) -> PcmRate
-    ensures { result ≡ deciding.rate_of x }
+    ensures { result ≡ deciding.rate_of_byte x }
 {
     match x {
         136 => PcmRate::Hz88200,
@@ -56,7 +56,7 @@ fn rate_of(x: u8) -> PcmRate
     }
 }
 
-#[tactic(auto, unfolding(crate::specs::Deciding::channels_of))]
+#[tactic(auto, unfolding(crate::specs::inner::Deciding::channels_of))]
 fn channels_of(x: u8) -> u8
     ensures { (result ≡ deciding.channels_of x) × (result ≤ 2) }
 {

@@ -5,7 +5,7 @@ ghost use Rattle.std.specs.Prelude.{◌≡◌, ◌++◌, ◌+◌, ◌*◌, ◌�
 ghost use Rattle.reference.specs.Codes.{hertz};
 ghost use Rattle.wav_header.specs.Header as headers;
 ghost use Rattle.wav_header.specs.Header.{most_data};
-ghost use Rattle.wav_header.specs.Parts as parts;
+ghost use Rattle.wav_header.specs.inner.Parts as parts;
 
 use reference::PcmRate;
 
@@ -22,7 +22,7 @@ pub fn riff(size: u64) -> [u8; 12]
 // `fmt `, its size, the tag, channels, rate, bytes a second, bytes of a sample of all channels, bits.
 pub fn format(rate: u64, channels: u64) -> [u8; 24]
     requires { (rate ≤ 352800) × (channels ≤ 6) }
-    ensures { result ≡ parts.format rate channels }
+    ensures { result ≡ parts.format_part rate channels }
 {
     let sample = 3 * channels;
     let second = rate * sample;

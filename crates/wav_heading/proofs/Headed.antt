@@ -24,13 +24,15 @@ module _ (rate : PcmRate) (n bytes : ℕ) (out : List ℕ) where
     pub head_wrong : length out ≢ 44 → HeaderPromise rate n bytes out out (Err (OutputBytes (length out) 44))
     unfolding head_places is_accepted
     head_wrong r =
-        let no : error_decision (OutputBytes (length out) 44) ≡ decide (head_places rate n bytes (length out)) = past_first (no_such_file rate n bytes) (lent_length 7 (length out) 44 ∷ []) d (wrong_bytes (length out) 44 [] r) in
+        let no : error_decision (OutputBytes (length out) 44) ≡ decide (head_places rate n bytes (length out)) =
+        past_first (no_such_file rate n bytes) (lent_length 7 (length out) 44 ∷ []) d (wrong_bytes (length out) 44 [] r) in
         record { decided = no; written = sym (exit_refused _ _ _ (ap is_accepted (sym no))) }
 
     pub head_written : {out' : List ℕ} → length out ≡ 44 → out' ≡ header (hertz rate) n bytes ++ drop 44 out → HeaderPromise rate n bytes out out' (Ok _)
     unfolding head_places
     head_written r w =
-        let yes : accepted ≡ decide (head_places rate n bytes (length out)) = past_first (no_such_file rate n bytes) (lent_length 7 (length out) 44 ∷ []) d (right_length (length out) 44 [] 7 r nothing) in
+        let yes : accepted ≡ decide (head_places rate n bytes (length out)) =
+        past_first (no_such_file rate n bytes) (lent_length 7 (length out) 44 ∷ []) d (right_length (length out) 44 [] 7 r nothing) in
         let none : drop 44 out ≡ [] = drop_of_length-le out {i = 44} (omega arith) in
         record { decided = yes; written = w ∙ rw (none, append-nil) (sym (exit_accepted _ _ _ (sym yes))) }
 

@@ -8,7 +8,8 @@ ghost use Rattle.wav_heading.specs.Heading.{no_such_file, HeaderPromise};
 use reference::{PcmError, PcmRate};
 use wav_format::WavFormat;
 
-// Whether there is a file with so many bytes of data: one or two channels, and whole frames, as many as the reader takes.
+// Whether there is a file with so many bytes of data: one or two channels, and whole frames, as many as the reader
+// takes.
 #[tactic(auto, using(reference::proofs::Refusals::at_first, reference::proofs::Refusals::at_next, reference::proofs::Refusals::at_end), unfolding(crate::specs::Heading::no_such_file))]
 fn such_file(rate: PcmRate, channels: u8, bytes: u64) -> Result<(), PcmError>
     ensures { decision result ≡ decide (no_such_file rate channels bytes ∷ []) }

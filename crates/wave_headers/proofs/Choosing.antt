@@ -7,7 +7,7 @@ use Rattle.std.specs.Prelude.{List, [], ◌∷◌, eqb, leb, length, sum}
 use borrow.Author.Tests.{leb-true, leb-false, le-leb, lt-leb, eqb-true}
 use Rattle.wave_headers.specs.Speakers.{loudspeakers, rising, InMaskOrder}
 use Rattle.wave_headers.specs.Headers.{pad, riff_size}
-use Rattle.wave_headers.specs.Choice.{most, holds, kind_of, few_for, placed, whole, writable}
+use Rattle.wave_headers.specs.Choice.{most_of_kind, holds, kind_of, few_for, placed, whole_samples, writable}
 use Rattle.wave_headers.specs.declared.Format.{Format}
 use Rattle.wave_headers.specs.declared.HeaderKind.{HeaderKind}
 use Rattle.wave_headers.specs.declared.HeaderKind.TheVariants.{Plain, Extensible, Rf64, Rf64Extensible}
@@ -15,11 +15,11 @@ use Rattle.wave_headers.specs.declared.HeaderKind.TheVariants.{Plain, Extensible
 -- ---- the most data
 
 -- the size of n bytes with a pad is told, where n is at most so much
-holds_most : (kind : HeaderKind) (n m : ℕ) → (n ≤ m → riff_size kind n ≤ most kind) → (riff_size kind n ≤ most kind → n ≤ m) → leb n m ≡ holds kind n
+holds_most : (kind : HeaderKind) (n m : ℕ) → (n ≤ m → riff_size kind n ≤ most_of_kind kind) → (riff_size kind n ≤ most_of_kind kind → n ≤ m) → leb n m ≡ holds kind n
 unfolding holds
 holds_most kind n m f g = go (leb n m) refl
   where
-    go : (b : Bool) → leb n m ≡ b → leb n m ≡ leb (riff_size kind n) (most kind)
+    go : (b : Bool) → leb n m ≡ b → leb n m ≡ leb (riff_size kind n) (most_of_kind kind)
     go true e = e ∙ sym (le-leb _ _ (f (leb-true n m e)))
     go false e = e ∙ sym (lt-leb _ _ (grind (arith, leb-false n m e, g)))
 
@@ -39,7 +39,7 @@ pub long_extensible_most : (n : ℕ) → leb n 18446744073709551518 ≡ holds Rf
 unfolding riff_size pad
 long_extensible_most n = holds_most Rf64Extensible n 18446744073709551518 (λ h. omega arith) (λ h. omega arith)
 
-pub held_size : (kind : HeaderKind) (n : ℕ) → holds kind n ≡ true → riff_size kind n ≤ most kind
+pub held_size : (kind : HeaderKind) (n : ℕ) → holds kind n ≡ true → riff_size kind n ≤ most_of_kind kind
 unfolding holds
 held_size kind n h = leb-true _ _ h
 
@@ -96,7 +96,7 @@ writable_placed asked channels type n e = left _ _ e
 
 pub writable_holds : (asked : Format) (channels type n : ℕ) → writable asked channels type n ≡ true → holds (kind_of asked channels n) n ≡ true
 unfolding writable
-writable_holds asked channels type n e = right (few_for asked channels) _ (right (whole channels n) _ (right (placed channels type) _ e))
+writable_holds asked channels type n e = right (few_for asked channels) _ (right (whole_samples channels n) _ (right (placed channels type) _ e))
 
 pub few_placed : (channels type : ℕ) → placed channels type ≡ true → (1 ≤ channels) × (channels ≤ 6)
 unfolding placed

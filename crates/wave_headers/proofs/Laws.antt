@@ -1,6 +1,6 @@
 -- Laws of the headers: the plain one is wav_header's, lengths, what a reader finds in the fields, what is accepted.
 use mathlib.Core.Path.{◌≡◌, refl, sym, ap, ◌∙◌}
-use mathlib.Core.List.{List, append-nil}
+use mathlib.Core.List.{List, [], ◌∷◌, append-nil}
 use mathlib.Core.Bool.{Bool, true, false, cond, not, ◌&&◌}
 use Prim.Native.Nat.{ℕ, ◌+◌, ◌-◌, ◌*◌, ◌%◌, ◌^◌, ◌≤◌, ◌<◌}
 use native.Mathlib.Nat.{mul-le-mul, mul-div_cancel, mul-mod_left, div-le_self}
@@ -12,29 +12,30 @@ use Rattle.text.specs.Text.{text, joined}
 use Rattle.text.specs.Bytes.{bytes, number_of, number_at}
 use Rattle.text.proofs.Bytes.{number_bytes}
 use Rattle.reference.specs.Codes.{hertz}
-use Rattle.reference.specs.Refusals.{decide, accepted}
+use Rattle.reference.specs.Refusals.{place, decide, accepted, refused}
 use Rattle.reference.specs.declared.PcmRate.{PcmRate}
 use Rattle.reference.proofs.Refusals.{at_next, at_end, pass}
 use Rattle.wav_header.specs.Header as wav
 use Rattle.wav_header.specs.Header.{sample_bytes}
 use Rattle.wav_format.specs.Wav.{wav_file}
 use Rattle.wave_headers.specs.Speakers.{mask}
-use Rattle.wave_headers.specs.Headers.{header_length, pad, riff_size, sample_count, elsewhere, riff, rf64, samples_told, plain_format, extensible_format, data_head, fields, header, padded, wave_file}
-use Rattle.wave_headers.specs.Choice.{most, holds, short, long, kind_of, few_for, placed, whole, writable, header_places}
+use Rattle.wave_headers.specs.Headers.{header_length, pad, riff_size, sample_count, elsewhere, riff_fields, rf64, samples_told}
+use Rattle.wave_headers.specs.Headers.{plain_format, extensible_format, data_fields, kind_fields, kind_header, padded, wave_file}
+use Rattle.wave_headers.specs.Choice.{most_of_kind, holds, short, long, kind_of, few_for, placed, whole_samples, writable, kind_places}
 use Rattle.wave_headers.specs.Fields.{format_at, FormatAt, LongSizes, SizesTold, SpeakersTold}
-use Rattle.wave_headers.specs.Laws.{PlainHeader, PlainFile, LengthHeader, ToldSize, AllFound, AutoAccepted, Rf64Accepted, WavAccepted}
+use Rattle.wave_headers.specs.Laws.{PlainHeader, PlainFile, LengthHeader, ToldSize, AllFound, AutoAccepted, Rf64Accepted, plain_takes, WavExactly, AutoKind}
 use Rattle.wave_headers.specs.declared.Format.{Format}
 use Rattle.wave_headers.specs.declared.Format.TheVariants as format
 use Rattle.wave_headers.specs.declared.HeaderKind.{HeaderKind}
 use Rattle.wave_headers.specs.declared.HeaderKind.TheVariants.{Plain, Extensible, Rf64, Rf64Extensible}
-use Rattle.wave_headers.proofs.Choosing.{few_placed, few_speakers, writable_placed, writable_holds, held_size, long_most, long_extensible_most}
+use Rattle.wave_headers.proofs.Choosing.{few_placed, few_speakers, writable_placed, writable_holds, held_size, plain_most, extensible_most, long_most, long_extensible_most}
 use Rattle.wave_headers.proofs.Writing as writing
 use Rattle.wave_headers.proofs.Writing.{hertz_small}
 
 -- ---- the plain one
 
 pub plain_header : PlainHeader
-unfolding header fields riff riff_size pad plain_format samples_told data_head wav.header wav.fields joined
+unfolding kind_header kind_fields riff_fields riff_size pad plain_format samples_told data_fields wav.header wav.fields joined
 plain_header rate channels speakers n e = let none : n + n % 2 ≡ n = omega arith in rw none refl
 
 pub plain_file : PlainFile
@@ -54,7 +55,7 @@ pub length_file : (kind : HeaderKind) (rate : PcmRate) (channels type : ℕ) (da
     → length (wave_file kind rate channels type data') ≡ header_length kind + (length data' + pad (length data'))
 unfolding wave_file
 length_file kind rate channels type data' =
-    length-append (header kind (hertz rate) channels (mask type) (length data')) (padded data')
+    length-append (kind_header kind (hertz rate) channels (mask type) (length data')) (padded data')
     ∙ rw (length_header kind (hertz rate) channels (mask type) (length data'), length_padded data') refl
 
 pub told_size : ToldSize
@@ -91,15 +92,15 @@ module _ (rate channels speakers n : ℕ) (slow : rate ≤ 352800) (few : channe
         bits_told = e ∙ number_bytes 2 24 (omega arith);
       }
 
-  format_found : (kind : HeaderKind) → FormatAt (header kind rate channels speakers n) (format_at kind) rate channels
-  unfolding header fields riff rf64 plain_format extensible_format samples_told data_head joined text bytes number_at
+  format_found : (kind : HeaderKind) → FormatAt (kind_header kind rate channels speakers n) (format_at kind) rate channels
+  unfolding kind_header kind_fields riff_fields rf64 plain_format extensible_format samples_told data_fields joined text bytes number_at
   format_found Plain = format_told refl refl refl refl refl
   format_found Extensible = format_told refl refl refl refl refl
   format_found Rf64 = format_told refl refl refl refl refl
   format_found Rf64Extensible = format_told refl refl refl refl refl
 
-speakers_found : (kind : HeaderKind) (rate channels speakers n : ℕ) → speakers < 256 ^ 4 → SpeakersTold kind (header kind rate channels speakers n) speakers
-unfolding header fields riff rf64 extensible_format samples_told data_head joined text bytes number_at
+speakers_found : (kind : HeaderKind) (rate channels speakers n : ℕ) → speakers < 256 ^ 4 → SpeakersTold kind (kind_header kind rate channels speakers n) speakers
+unfolding kind_header kind_fields riff_fields rf64 extensible_format samples_told data_fields joined text bytes number_at
 speakers_found Plain rate channels speakers n small = tt
 speakers_found Extensible rate channels speakers n small =
     record { added_told = number_bytes 2 22 (omega arith); valid_told = number_bytes 2 24 (omega arith); mask_told = number_bytes 4 speakers small }
@@ -130,15 +131,15 @@ module _ (rate channels speakers n : ℕ) (some : 1 ≤ channels) where
         table_told = f ∙ number_bytes 4 0 (omega arith);
       }
 
-  sizes_found : (kind : HeaderKind) → riff_size kind n ≤ most kind → SizesTold kind (header kind rate channels speakers n) channels n
-  unfolding header fields riff rf64 plain_format extensible_format samples_told data_head joined text bytes number_at riff_size
+  sizes_found : (kind : HeaderKind) → riff_size kind n ≤ most_of_kind kind → SizesTold kind (kind_header kind rate channels speakers n) channels n
+  unfolding kind_header kind_fields riff_fields rf64 plain_format extensible_format samples_told data_fields joined text bytes number_at riff_size
   sizes_found Plain h = record { all_told = number_bytes 4 (36 + (n + pad n)) (omega arith); data_told = number_bytes 4 n (omega arith) }
   sizes_found Extensible h = record { all_told = number_bytes 4 (60 + (n + pad n)) (omega arith); data_told = number_bytes 4 n (omega arith) }
   sizes_found Rf64 h = long_told Rf64 h refl refl refl refl refl refl
   sizes_found Rf64Extensible h = long_told Rf64Extensible h refl refl refl refl refl refl
 
 pub found : AllFound
-unfolding header_places
+unfolding kind_places
 found asked rate channels type n e =
     let w = not-false _ (pass _ _ e).0 in
     let p = few_placed channels type (writable_placed asked channels type n w) in
@@ -158,12 +159,12 @@ module _ (channels type m : ℕ) (there : placed channels type ≡ true) where
   abbrev n : ℕ
   n = m * (sample_bytes * channels)
 
-  whole_is : whole channels n ≡ true
-  unfolding whole
+  whole_is : whole_samples channels n ≡ true
+  unfolding whole_samples
   whole_is = eq-eqb _ _ (mul-mod_left m (sample_bytes * channels))
 
-  goes : (asked : Format) → few_for asked channels ≡ true → holds (kind_of asked channels n) n ≡ true → decide (header_places asked channels type n) ≡ accepted
-  unfolding header_places writable
+  goes : (asked : Format) → few_for asked channels ≡ true → holds (kind_of asked channels n) n ≡ true → decide (kind_places asked channels type n) ≡ accepted
+  unfolding kind_places writable
   goes asked f h = at_next _ _ (ap not (both _ _ there (both _ _ whole_is (both _ _ f h)))) ∙ at_end
 
 -- the long kinds hold what both hold
@@ -190,6 +191,28 @@ pub accepted_rf64 : Rf64Accepted
 unfolding kind_of
 accepted_rf64 channels type m there h = goes channels type m there format.Rf64 refl (long_holds channels _ h)
 
-pub accepted_wav : WavAccepted
-unfolding kind_of
-accepted_wav channels type m there few h = goes channels type m there format.Wav (le-leb _ _ few) h
+front : (a b c d : Bool) → a ≡ true → b ≡ true → (a && (b && (c && d))) ≡ (c && d)
+front a b c d h k = rw (h, k) refl
+
+decided : (b : Bool) → decide (place (not b) 12 [] ∷ []) ≡ cond b accepted (refused 12 [])
+unfolding decide
+decided true = refl
+decided false = refl
+
+pub wav_exactly : WavExactly
+unfolding kind_places writable kind_of
+wav_exactly channels type m there =
+    let n = m * (sample_bytes * channels) in
+    ap (λ (b : Bool). decide (place (not b) 12 [] ∷ []))
+    (front _ _ (leb channels 2) (holds Plain n) there (whole_is channels type m there) ∙ ap (λ (b : Bool). leb channels 2 && b) (sym (plain_most n)))
+    ∙ decided (plain_takes channels n)
+
+pub auto_kind : AutoKind
+unfolding kind_of short long
+auto_kind channels n = go (leb channels 2)
+  where
+    go : (b : Bool)
+        → cond (holds (cond b Plain Extensible) n) (cond b Plain Extensible) (cond b Rf64 Rf64Extensible)
+        ≡ cond b (cond (leb n 4294967258) Plain Rf64) (cond (leb n 4294967234) Extensible Rf64Extensible)
+    go true = sym (ap (λ (h : Bool). cond h Plain Rf64) (plain_most n))
+    go false = sym (ap (λ (h : Bool). cond h Extensible Rf64Extensible) (extensible_most n))

@@ -10,15 +10,15 @@ use Rattle.wave_headers.specs.declared.Format.{Format}
 use Rattle.wave_headers.specs.declared.Format.TheVariants as format
 
 -- the largest size that a kind's header tells: in four bytes, in eight
-abbrev pub most : HeaderKind → ℕ
-most Plain = 4294967295
-most Extensible = 4294967295
-most Rf64 = 18446744073709551615
-most Rf64Extensible = 18446744073709551615
+abbrev pub most_of_kind : HeaderKind → ℕ
+most_of_kind Plain = 4294967295
+most_of_kind Extensible = 4294967295
+most_of_kind Rf64 = 18446744073709551615
+most_of_kind Rf64Extensible = 18446744073709551615
 
 -- a kind's header tells n bytes of data
 unfoldable pub holds : HeaderKind → ℕ → Bool
-holds kind n = leb (riff_size kind n) (most kind)
+holds kind n = leb (riff_size kind n) (most_of_kind kind)
 
 -- of so many channels: one or two need no loudspeakers named
 unfoldable pub short : ℕ → HeaderKind
@@ -44,13 +44,13 @@ unfoldable pub placed : ℕ → ℕ → Bool
 placed channels type = leb 1 channels && eqb channels (length (loudspeakers type))
 
 -- whole samples of all channels
-unfoldable pub whole : ℕ → ℕ → Bool
-whole channels n = eqb (n % (sample_bytes * channels)) 0
+unfoldable pub whole_samples : ℕ → ℕ → Bool
+whole_samples channels n = eqb (n % (sample_bytes * channels)) 0
 
 -- there is a file in this format, of these channels of a type, with so many bytes of data
 unfoldable pub writable : Format → ℕ → ℕ → ℕ → Bool
-writable asked channels type n = placed channels type && (whole channels n && (few_for asked channels && holds (kind_of asked channels n) n))
+writable asked channels type n = placed channels type && (whole_samples channels n && (few_for asked channels && holds (kind_of asked channels n) n))
 
 -- 12: there is none
-unfoldable pub header_places : Format → ℕ → ℕ → ℕ → List Place
-header_places asked channels type n = place (not (writable asked channels type n)) 12 [] ∷ []
+unfoldable pub kind_places : Format → ℕ → ℕ → ℕ → List Place
+kind_places asked channels type n = place (not (writable asked channels type n)) 12 [] ∷ []

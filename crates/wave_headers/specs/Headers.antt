@@ -38,8 +38,8 @@ elsewhere = 4294967295
 -- ---- the fields in turn
 
 -- the file's chunk: the size of all that follows
-unfoldable pub riff : ℕ → List (List ℕ)
-riff size = text "RIFF" ∷ bytes 4 size ∷ text "WAVE" ∷ []
+unfoldable pub riff_fields : ℕ → List (List ℕ)
+riff_fields size = text "RIFF" ∷ bytes 4 size ∷ text "WAVE" ∷ []
 
 -- the same with `ds64`: its own size; the size of all that follows, the data's, samples of one channel; other chunks'
 -- sizes, none
@@ -68,19 +68,19 @@ extensible_format rate channels speakers =
     text "fmt " ∷ bytes 4 40 ∷ bytes 2 65534 ∷ (samples_told rate channels ++ (bytes 2 22 ∷ bytes 2 24 ∷ bytes 4 speakers ∷ pcm ∷ []))
 
 -- the head of the data's chunk
-unfoldable pub data_head : ℕ → List (List ℕ)
-data_head n = text "data" ∷ bytes 4 n ∷ []
+unfoldable pub data_fields : ℕ → List (List ℕ)
+data_fields n = text "data" ∷ bytes 4 n ∷ []
 
 -- samples a second, channels, the loudspeakers' mask, bytes of data
-unfoldable pub fields : HeaderKind → ℕ → ℕ → ℕ → ℕ → List (List ℕ)
-fields Plain rate channels speakers n = riff (riff_size Plain n) ++ (plain_format rate channels ++ data_head n)
-fields Extensible rate channels speakers n = riff (riff_size Extensible n) ++ (extensible_format rate channels speakers ++ data_head n)
-fields Rf64 rate channels speakers n = rf64 (riff_size Rf64 n) n (sample_count channels n) ++ (plain_format rate channels ++ data_head elsewhere)
-fields Rf64Extensible rate channels speakers n =
-    rf64 (riff_size Rf64Extensible n) n (sample_count channels n) ++ (extensible_format rate channels speakers ++ data_head elsewhere)
+unfoldable pub kind_fields : HeaderKind → ℕ → ℕ → ℕ → ℕ → List (List ℕ)
+kind_fields Plain rate channels speakers n = riff_fields (riff_size Plain n) ++ (plain_format rate channels ++ data_fields n)
+kind_fields Extensible rate channels speakers n = riff_fields (riff_size Extensible n) ++ (extensible_format rate channels speakers ++ data_fields n)
+kind_fields Rf64 rate channels speakers n = rf64 (riff_size Rf64 n) n (sample_count channels n) ++ (plain_format rate channels ++ data_fields elsewhere)
+kind_fields Rf64Extensible rate channels speakers n =
+    rf64 (riff_size Rf64Extensible n) n (sample_count channels n) ++ (extensible_format rate channels speakers ++ data_fields elsewhere)
 
-unfoldable pub header : HeaderKind → ℕ → ℕ → ℕ → ℕ → List ℕ
-header kind rate channels speakers n = joined (fields kind rate channels speakers n)
+unfoldable pub kind_header : HeaderKind → ℕ → ℕ → ℕ → ℕ → List ℕ
+kind_header kind rate channels speakers n = joined (kind_fields kind rate channels speakers n)
 
 -- ---- a file: header, data, and a zero byte behind odd data
 
@@ -90,4 +90,4 @@ padded data' = data' ++ replicate (pad (length data')) 0
 
 -- of a rate, channels, a channel type and sample bytes
 unfoldable pub wave_file : HeaderKind → PcmRate → ℕ → ℕ → List ℕ → List ℕ
-wave_file kind rate channels type data' = header kind (hertz rate) channels (mask type) (length data') ++ padded data'
+wave_file kind rate channels type data' = kind_header kind (hertz rate) channels (mask type) (length data') ++ padded data'

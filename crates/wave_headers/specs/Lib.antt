@@ -2,6 +2,6 @@ pub mod Speakers
 pub mod Headers
 pub mod Choice
 pub mod Promises
-pub mod Parts
 pub mod Fields
 pub mod Laws
+pub mod inner

@@ -11,8 +11,8 @@ front_right = 2
 abbrev pub centre : ℕ
 centre = 4
 
-abbrev pub low : ℕ
-low = 8
+abbrev pub low_frequency : ℕ
+low_frequency = 8
 
 abbrev pub back_left : ℕ
 back_left = 16
@@ -27,9 +27,9 @@ loudspeakers type =
     (cond (eqb type 2) (front_left ∷ front_right ∷ [])
     (cond (eqb type 3) (front_left ∷ front_right ∷ centre ∷ [])
     (cond (eqb type 4) (front_left ∷ front_right ∷ back_left ∷ back_right ∷ [])
-    (cond (eqb type 5) (front_left ∷ front_right ∷ centre ∷ low ∷ [])
+    (cond (eqb type 5) (front_left ∷ front_right ∷ centre ∷ low_frequency ∷ [])
     (cond (eqb type 6) (front_left ∷ front_right ∷ centre ∷ back_left ∷ back_right ∷ [])
-    (cond (eqb type 7) (front_left ∷ front_right ∷ centre ∷ low ∷ back_left ∷ back_right ∷ [])
+    (cond (eqb type 7) (front_left ∷ front_right ∷ centre ∷ low_frequency ∷ back_left ∷ back_right ∷ [])
     []))))))
 
 unfoldable pub mask : ℕ → ℕ

@@ -4,7 +4,7 @@
 
 ghost use Rattle.std.specs.Prelude.{◌≡◌, ◌+◌, ◌*◌, ◌≤◌, length};
 ghost use Rattle.text.specs.Text.{joined};
-ghost use Rattle.text.specs.Writing.{Prints};
+ghost use Rattle.text.specs.inner.Writing.{Prints};
 ghost use Rattle.wave_headers.specs.Speakers as speakers;
 ghost use Rattle.wave_headers.specs.Headers as headers;
 ghost use Rattle.wave_headers.specs.Choice as choice;
@@ -120,7 +120,7 @@ fn placed(channels: u64, channel_type: u64) -> bool
 }
 
 // Whether there is a file of these channels of a type, with so much data.
-#[tactic(auto, using(crate::proofs::Choosing::few_placed), unfolding(crate::specs::Choice::writable, crate::specs::Choice::whole, crate::specs::Choice::kind_of))]
+#[tactic(auto, using(crate::proofs::Choosing::few_placed), unfolding(crate::specs::Choice::writable, crate::specs::Choice::whole_samples, crate::specs::Choice::kind_of))]
 fn writable(format: Format, channels: u64, channel_type: u64, n: u64) -> bool
     ensures { result ≡ choice.writable format channels «channel_type» n }
 {

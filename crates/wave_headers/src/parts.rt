@@ -1,10 +1,10 @@
 // The parts of a header, and the header of its parts.
 ghost use Rattle.std.specs.Prelude.{◌≡◌, true, ◌++◌, ◌+◌, ◌≤◌, length};
 ghost use Rattle.text.specs.Text.{joined, with_text};
-ghost use Rattle.wav_header.specs.Parts as parts;
+ghost use Rattle.wav_header.specs.inner.Parts as parts;
 ghost use Rattle.wave_headers.specs.Headers as headers;
-ghost use Rattle.wave_headers.specs.Choice.{holds, most};
-ghost use Rattle.wave_headers.specs.Parts.{PutArgs};
+ghost use Rattle.wave_headers.specs.Choice.{holds, most_of_kind};
+ghost use Rattle.wave_headers.specs.inner.Parts.{HeaderArgs};
 
 use crate::HeaderKind;
 use text::Text;
@@ -42,7 +42,7 @@ fn extensible_format(rate: u64, channels: u64, mask: u32) -> [u8; 48]
 #[tactic(auto, using(crate::proofs::Choosing::held_size), unfolding(crate::specs::Headers::riff_size, crate::specs::Headers::pad))]
 fn riff_size(kind: HeaderKind, n: u64) -> u64
     requires { holds kind n ≡ true }
-    ensures { (result ≡ headers.riff_size kind n) × (result ≤ most kind) }
+    ensures { (result ≡ headers.riff_size kind n) × (result ≤ most_of_kind kind) }
 {
     kind.header_length() - 8 + n + n % 2
 }
@@ -60,8 +60,8 @@ fn put_three(first: &[u8], second: &[u8], size: u64, out: &mut [u8])
 
 // A header.
 pub fn put(kind: HeaderKind, rate: u64, channels: u64, mask: u32, n: u64, out: &mut [u8])
-    requires { PutArgs kind rate channels n (length out.old) }
-    ensures { out.new ≡ with_text out.old 0 (headers.header kind rate channels mask n) }
+    requires { HeaderArgs kind rate channels n (length out.old) }
+    ensures { out.new ≡ with_text out.old 0 (headers.kind_header kind rate channels mask n) }
 {
     let size = riff_size(kind, n);
     let count = n / (3 * channels);

@@ -4,12 +4,12 @@
 #![tactic(auto)]
 
 ghost use Rattle.std.specs.Prelude.{◌≡◌, ℕ, ◌+◌, ◌-◌, ◌*◌, ◌≤◌, pos, length};
-ghost use Rattle.numbers.specs.Lists.{Held};
+ghost use Rattle.numbers.specs.inner.Lists.{Held};
 ghost use Rattle.reference.specs.Taps.{S1_WIDE, F40, F80};
 ghost use Rattle.reference.specs.Stages.{u, y_wide};
 ghost use Rattle.reference.specs.declared.PcmRate.TheVariants.{Hz176400, Hz352800};
 ghost use Rattle.tables.specs.Tables.{ByteTables};
-ghost use Rattle.routes.specs.Routes.{halves_of};
+ghost use Rattle.routes.specs.inner.Routes.{halves_of};
 
 use stages::Buffers;
 
@@ -20,10 +20,17 @@ pub fn wide176(tables: &[i32], h: &[i64], bytes: &[u8], buffers: &mut Buffers, y
     requires h_value { h.now ≡ halves_of F80 }
     requires lengths { (length bytes.now ≡ 179) × (length y.old ≡ 84) }
     ensures others { (buffers.new.odd ≡ buffers.old.odd) × (buffers.new.kept ≡ buffers.old.kept) }
-    ensures held { (β : ℕ → ℕ) (n : ℕ) → 1000 ≤ n → Held 0 β (2 * n + 110) 179 bytes.now → Held (pos 0) (u S1_WIDE β) (2 * n - 116) 232 buffers.old.x → Held (pos 0) (y_wide Hz176400 β) n 84 y.new × Held (pos 0) (u S1_WIDE β) (2 * (n + 84) - 116) 232 buffers.new.x }
+    ensures held { (β : ℕ → ℕ) (n : ℕ) → 1000 ≤ n → Held 0 β (2 * n + 110) 179 bytes.now → Held (pos 0) (u S1_WIDE β) (2 * n - 116) 232 buffers.old.x
+        → Held (pos 0) (y_wide Hz176400 β) n 84 y.new × Held (pos 0) (u S1_WIDE β) (2 * (n + 84) - 116) 232 buffers.new.x }
 {
     buffers.bring_u(tables, bytes, 232, 168);
-    stages::halved(h, &buffers.x[..400], y);
+    stages::halved(
+        h,
+        &buffers.x[..400],
+        &mut buffers.lifted,
+        &mut buffers.second,
+        y,
+    );
     buffers.move_on(168, 232);
 }
 
@@ -34,9 +41,10 @@ pub fn wide352(tables: &[i32], h: &[i64], bytes: &[u8], buffers: &mut Buffers, y
     requires h_value { h.now ≡ F40 }
     requires lengths { (length bytes.now ≡ 347) × (length y.old ≡ 336) }
     ensures others { (buffers.new.odd ≡ buffers.old.odd) × (buffers.new.kept ≡ buffers.old.kept) }
-    ensures held { (β : ℕ → ℕ) (n : ℕ) → 1000 ≤ n → Held 0 β (n + 54) 347 bytes.now → Held (pos 0) (u S1_WIDE β) (n - 60) 120 buffers.old.x → Held (pos 0) (y_wide Hz352800 β) n 336 y.new × Held (pos 0) (u S1_WIDE β) (n + 336 - 60) 120 buffers.new.x }
+    ensures held { (β : ℕ → ℕ) (n : ℕ) → 1000 ≤ n → Held 0 β (n + 54) 347 bytes.now → Held (pos 0) (u S1_WIDE β) (n - 60) 120 buffers.old.x
+        → Held (pos 0) (y_wide Hz352800 β) n 336 y.new × Held (pos 0) (u S1_WIDE β) (n + 336 - 60) 120 buffers.new.x }
 {
     buffers.bring_u(tables, bytes, 120, 336);
-    filters::fir1(y, h, &buffers.x[..456]);
+    filters::fir1(y, h, &buffers.x[..456], &mut buffers.lifted);
     buffers.move_on(336, 120);
 }

@@ -8,17 +8,17 @@ use lib.IntN.{ℤ}
 use lib.ListN.{length, take, length-append}
 use lib.Seq.{take_at}
 use Rattle.numbers.specs.Sums.{at0}
-use Rattle.lanes.specs.Lanes.{Filled}
+use Rattle.lanes.specs.inner.Lanes.{Filled}
 use Rattle.filters.proofs.Signals.{is_even, is_odd}
-use Rattle.routes.specs.Routes.{FirstTables, last_of, halves_of, lent_taps}
+use Rattle.routes.specs.inner.Routes.{FirstTables, last_of, halves_of, lent_taps}
 use mathlib.Core.Logic.{◌⊎◌, inl, inr}
 use Rattle.reference.specs.Taps.{S1}
 use Rattle.reference.specs.declared.Cutoff.{Cutoff}
 use Rattle.reference.specs.declared.Cutoff.TheVariants.{Standard, Low}
 use Rattle.tables.specs.Tables.{ByteTables}
 use Rattle.reference.specs.declared.Converter.{Converter}
-use Rattle.blocks.specs.Blocks.{Ready}
-use Rattle.workspace.specs.Accepted.{Accepted}
+use Rattle.blocks.specs.inner.Blocks.{Ready}
+use Rattle.workspace.specs.inner.Accepted.{Accepted}
 
 -- the even ones, and then the odd ones after them
 pub halves_bound : (f rest : List ℤ) (e : ℕ) {old new old' new' : List ℤ} → e ≡ (length f + 1) / 2 → Filled (λ k. at0 f (2 * k + 0)) old new → length old ≡ e
@@ -37,5 +37,6 @@ unfolding FirstTables
 narrow_tables cutoff tables is t = elim is [ inl e ↦ rw e t | inr e ↦ rw e t ]
 
 -- the tables and the taps that are bound are the route's
-pub made_ready : {conv : Converter} {n : ℕ} {b f a : List ℕ} {tables taps : List ℤ} → Accepted conv n b f a → FirstTables conv.cutoff tables → taps ≡ lent_taps conv.rate conv.cutoff (last_of conv) → Ready conv n b f a tables taps
+pub made_ready : {conv : Converter} {n : ℕ} {b f a : List ℕ} {tables taps : List ℤ} → Accepted conv n b f a
+    → FirstTables conv.cutoff tables → taps ≡ lent_taps conv.rate conv.cutoff (last_of conv) → Ready conv n b f a tables taps
 made_ready x t e = record { slices = x.slices; first = t; last = record { last = x.last; lent = e }; factor = x.factor }

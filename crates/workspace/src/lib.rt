@@ -4,12 +4,12 @@
 ghost use Rattle.std.specs.Prelude.{◌≡◌, ◌*◌, ◌≤◌, length};
 ghost use Rattle.reference.specs.Stages.{taps_of};
 ghost use Rattle.reference.specs.Output.{samples_per_frame};
-ghost use Rattle.channel_bytes.specs.Runs.{run_of};
-ghost use Rattle.routes.specs.Routes.{last_of, halves_of, lent_taps};
-ghost use Rattle.output.specs.Fills.{Room};
-ghost use Rattle.runs.specs.Loops.{Ran};
-ghost use Rattle.workspace.specs.Accepted.{Accepted};
-ghost use Rattle.workspace.specs.Bound.{bound};
+ghost use Rattle.channel_bytes.specs.inner.Runs.{slices_run};
+ghost use Rattle.routes.specs.inner.Routes.{last_of, halves_of, lent_taps};
+ghost use Rattle.output.specs.inner.Fills.{Room};
+ghost use Rattle.runs.specs.inner.Loops.{Ran};
+ghost use Rattle.workspace.specs.inner.Accepted.{Accepted};
+ghost use Rattle.workspace.specs.inner.Bound.{bound};
 
 use blocks::Job;
 use channel_bytes::Slices;
@@ -45,7 +45,7 @@ fn halves(f: &[i32]) -> Taps
 }
 
 // The taps as the route's function takes them.
-#[tactic(auto, unfolding(routes::specs::Routes::lent_taps))]
+#[tactic(auto, unfolding(routes::specs::inner::Routes::lent_taps))]
 fn lent(rate: PcmRate, cutoff: Cutoff, f: &[i32]) -> Taps
     requires { length f.now ≤ 117 }
     ensures { bound result ≡ lent_taps rate cutoff f.now }
@@ -57,7 +57,7 @@ fn lent(rate: PcmRate, cutoff: Cutoff, f: &[i32]) -> Taps
 }
 
 // The taps of a route's last filter. Wide at 88,200 is refused before.
-#[tactic(auto, using(reference::proofs::Filters::built_in_taps), unfolding(routes::specs::Routes::last_taps))]
+#[tactic(auto, using(reference::proofs::Filters::built_in_taps), unfolding(routes::specs::inner::Routes::last_taps))]
 fn last_taps(conv: &Converter) -> Taps
     ensures { bound result ≡ lent_taps conv.now.rate conv.now.cutoff (last_of conv.now) }
 {
@@ -83,7 +83,7 @@ pub fn convert_slices<'a, P: Place>(
     requires same { slices.channels ≡ conv.channels }
     requires room { Room P.layout (slices.count * samples_per_frame conv.rate * conv.channels) out.old }
     requires few { length counts.old ≤ slices.count }
-    ensures { Ran P.layout conv (run_of slices.entry) result out.new counts.old counts.new }
+    ensures { Ran P.layout conv (slices_run slices.entry) result out.new counts.old counts.new }
 {
     let bound = last_taps(&conv);
     let taps = bound.as_slice();

@@ -1,5 +1,5 @@
 use Rattle.std.proofs.Common.{rules, arith, ◌+◌, ◌-◌, ◌^◌}
-use Rattle.lanes.specs.Lanes.{Lanes}
+use Rattle.lanes.specs.inner.Lanes.{Lanes}
 use Rattle.band.proofs.Bands.{centre_fits, lane_sums, whole_sums, rounded_is, hold_lanes, written_as}
 use Rattle.band.proofs.block.Goals as goal
 

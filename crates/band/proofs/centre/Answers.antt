@@ -1,5 +1,5 @@
 use Rattle.std.proofs.Common.{rules, arith, ◌+◌}
-use Rattle.filters.specs.Lifts.{lifted}
+use Rattle.filters.specs.inner.Lifts.{lifted}
 use Rattle.lanes.proofs.Places.{written_more}
 use Rattle.band.proofs.Bands.{written_hold}
 use Rattle.band.proofs.centre.Goals as goal

@@ -1,6 +1,6 @@
 use Rattle.std.proofs.Common.{◌≡◌, ◌+◌, pos, ◌*ℤ◌, length}
-use Rattle.lanes.specs.Lanes.{Written}
-use Rattle.filters.specs.Lifts.{lifted}
+use Rattle.lanes.specs.inner.Lanes.{Written}
+use Rattle.filters.specs.inner.Lifts.{lifted}
 use Rattle.band.proofs.centre.Given as goal
 
 abbrev pub invariant-loop-l : goal.invariant-loop-l

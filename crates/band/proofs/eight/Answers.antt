@@ -1,10 +1,11 @@
--- `eight` meets its contract: four times two taps, two places apart, are all eight; each time the lanes have room for them.
+-- `eight` meets its contract: four times two taps, two places apart, are all eight; each time the lanes have room for
+-- them.
 use Rattle.std.proofs.Common.{rules, arith, ◌≡◌, ◌+◌, ◌-◌, ◌*◌, ◌^◌, ◌≤◌, ◌<◌, ℕ, List, true, false, get_or, refl, ◌∙◌}
 use Rattle.reference.specs.Taps.{HB}
-use Rattle.lanes.specs.Lanes.{raised, Lanes}
+use Rattle.lanes.specs.inner.Lanes.{raised, Lanes}
 use Rattle.lanes.proofs.Places.{added_then}
-use Rattle.filters.specs.Filters.{odd_taps}
-use Rattle.band.specs.Bands.{odd_sizes}
+use Rattle.filters.specs.inner.Filters.{odd_taps}
+use Rattle.band.specs.inner.Bands.{odd_sizes}
 use Rattle.band.proofs.Turns.{in_turn, size_fits, two_is, two_lanes, all_eight, four}
 use Rattle.band.proofs.eight.Goals as goal
 
@@ -21,24 +22,30 @@ pub two-b-requires : goal.two-b-requires
 two-b-requires g c =
     let b = c.args.band in
     let i = c.args.i in
-    let l1 : Lanes g.row.L (3 * 2 ^ 56) c.two-a.result = two_lanes (2 ^ 55) (3 * 2 ^ 56) false _ _ (i + 5) (i + 8) (fits b.odd 0 (omega arith)) (fits b.odd 2 (omega arith)) b.low c.requires.lanes c.two-a.ensures (omega arith) in
+    let l1 : Lanes g.row.L (3 * 2 ^ 56) c.two-a.result = two_lanes (2 ^ 55) (3 * 2 ^ 56) false _ _ (i + 5) (i + 8)
+    (fits b.odd 0 (omega arith)) (fits b.odd 2 (omega arith)) b.low c.requires.lanes c.two-a.ensures (omega arith) in
     (search rules, ((omega arith, omega arith, fits b.odd 1 (omega arith), fits b.odd 3 (omega arith)), (b.low, record { size = λ l m. omega (arith, l1.size l m) })))
 
 pub two-c-requires : goal.two-c-requires
 two-c-requires g c =
     let b = c.args.band in
     let i = c.args.i in
-    let l1 : Lanes g.row.L (3 * 2 ^ 56) c.two-a.result = two_lanes (2 ^ 55) (3 * 2 ^ 56) false _ _ (i + 5) (i + 8) (fits b.odd 0 (omega arith)) (fits b.odd 2 (omega arith)) b.low c.requires.lanes c.two-a.ensures (omega arith) in
-    let l2 : Lanes g.row.L (5 * 2 ^ 56) c.two-b.result = two_lanes (3 * 2 ^ 56) (5 * 2 ^ 56) true _ _ (i + 4) (i + 9) (fits b.odd 1 (omega arith)) (fits b.odd 3 (omega arith)) b.low l1 c.two-b.ensures (omega arith) in
+    let l1 : Lanes g.row.L (3 * 2 ^ 56) c.two-a.result = two_lanes (2 ^ 55) (3 * 2 ^ 56) false _ _ (i + 5) (i + 8)
+    (fits b.odd 0 (omega arith)) (fits b.odd 2 (omega arith)) b.low c.requires.lanes c.two-a.ensures (omega arith) in
+    let l2 : Lanes g.row.L (5 * 2 ^ 56) c.two-b.result = two_lanes (3 * 2 ^ 56) (5 * 2 ^ 56) true _ _ (i + 4)
+    (i + 9) (fits b.odd 1 (omega arith)) (fits b.odd 3 (omega arith)) b.low l1 c.two-b.ensures (omega arith) in
     (search rules, ((omega arith, omega arith, fits b.odd 4 (omega arith), fits b.odd 6 (omega arith)), (b.low, record { size = λ l m. omega (arith, l2.size l m) })))
 
 pub two-requires : goal.two-requires
 two-requires g c =
     let b = c.args.band in
     let i = c.args.i in
-    let l1 : Lanes g.row.L (3 * 2 ^ 56) c.two-a.result = two_lanes (2 ^ 55) (3 * 2 ^ 56) false _ _ (i + 5) (i + 8) (fits b.odd 0 (omega arith)) (fits b.odd 2 (omega arith)) b.low c.requires.lanes c.two-a.ensures (omega arith) in
-    let l2 : Lanes g.row.L (5 * 2 ^ 56) c.two-b.result = two_lanes (3 * 2 ^ 56) (5 * 2 ^ 56) true _ _ (i + 4) (i + 9) (fits b.odd 1 (omega arith)) (fits b.odd 3 (omega arith)) b.low l1 c.two-b.ensures (omega arith) in
-    let l3 : Lanes g.row.L (7 * 2 ^ 56) c.two-c.result = two_lanes (5 * 2 ^ 56) (7 * 2 ^ 56) false _ _ (i + 1) (i + 12) (fits b.odd 4 (omega arith)) (fits b.odd 6 (omega arith)) b.low l2 c.two-c.ensures (omega arith) in
+    let l1 : Lanes g.row.L (3 * 2 ^ 56) c.two-a.result = two_lanes (2 ^ 55) (3 * 2 ^ 56) false _ _ (i + 5) (i + 8)
+    (fits b.odd 0 (omega arith)) (fits b.odd 2 (omega arith)) b.low c.requires.lanes c.two-a.ensures (omega arith) in
+    let l2 : Lanes g.row.L (5 * 2 ^ 56) c.two-b.result = two_lanes (3 * 2 ^ 56) (5 * 2 ^ 56) true _ _ (i + 4)
+    (i + 9) (fits b.odd 1 (omega arith)) (fits b.odd 3 (omega arith)) b.low l1 c.two-b.ensures (omega arith) in
+    let l3 : Lanes g.row.L (7 * 2 ^ 56) c.two-c.result = two_lanes (5 * 2 ^ 56) (7 * 2 ^ 56) false _ _ (i + 1)
+    (i + 12) (fits b.odd 4 (omega arith)) (fits b.odd 6 (omega arith)) b.low l2 c.two-c.ensures (omega arith) in
     (search rules, ((omega arith, omega arith, fits b.odd 5 (omega arith), fits b.odd 7 (omega arith)), (b.low, record { size = λ l m. omega (arith, l3.size l m) })))
 
 pub returns : goal.returns

@@ -1,11 +1,7 @@
 use Rattle.std.proofs.Common.{arith, ap, ◌∙◌, length}
-use Rattle.filters.proofs.Places.{low_zeros}
 use Rattle.band.proofs.Turns.{eight_sizes}
 use Rattle.band.proofs.Bands.{band_whole, band_rounded}
 use Rattle.band.proofs.half.Goals as goal
-
-pub raise-requires-clause-low : goal.raise-requires-clause-low
-raise-requires-clause-low c = low_zeros 247
 
 pub invariant_of-places : goal.invariant_of-places
 invariant_of-places c = record { eight = ap length c.requires.lent ∙ eight_sizes; odd = c.requires.lent; low = c.raise.ensures.low }
@@ -13,5 +9,5 @@ invariant_of-places c = record { eight = ap length c.requires.lent ∙ eight_siz
 pub places-requires-clause-whole : goal.places-requires-clause-whole
 places-requires-clause-whole c = band_whole c.args.y.now c.args.xo.now _ (omega arith) c.raise.ensures c.requires.fit
 
-pub returns : goal.returns
-returns c = band_rounded c.args.y.now c.args.xo.now _ (omega arith) c.raise.ensures c.places.ensures
+pub returns-clause-filled : goal.returns-clause-filled
+returns-clause-filled c = band_rounded c.args.y.now c.args.xo.now _ (omega arith) c.raise.ensures c.places.ensures

@@ -1,8 +1,8 @@
 use Rattle.std.proofs.Common.{refl}
 use Rattle.numbers.specs.Lists.{tabulate}
 use Rattle.reference.specs.Taps.{HB}
-use Rattle.filters.specs.Filters.{odd_taps}
-use Rattle.band.specs.Bands.{odd_sizes}
+use Rattle.filters.specs.inner.Filters.{odd_taps}
+use Rattle.band.specs.inner.Bands.{odd_sizes}
 use Rattle.band.proofs.half_sizes.Goals as goal
 
 pub returns : goal.returns

@@ -1,12 +1,9 @@
 use Rattle.std.proofs.Common.{rules, arith, ◌^◌, pos, ap, ◌∙◌, length}
-use Rattle.lanes.specs.Lanes.{Filled}
-use Rattle.filters.proofs.Places.{low_zeros, filled_small, filled_again}
+use Rattle.lanes.specs.inner.Lanes.{Filled}
+use Rattle.filters.proofs.Places.{filled_small, filled_again}
 use Rattle.band.proofs.Turns.{eight_sizes}
 use Rattle.band.proofs.Bands.{middle_whole, middle_rounded}
 use Rattle.band.proofs.interp.Goals as goal
-
-pub raise-requires-clause-low : goal.raise-requires-clause-low
-raise-requires-clause-low c = low_zeros 256
 
 pub invariant_of-places : goal.invariant_of-places
 invariant_of-places c = record { eight = ap length c.requires.lent ∙ eight_sizes; odd = c.requires.lent; low = c.raise.ensures.low }
@@ -21,7 +18,7 @@ places-requires-clause-whole c =
     let zeros : Filled (λ k. pos 0) c.args.y.now c.fill.new.self = record { same = c.fill.ensures.len; is = λ k m. search rules } in
     middle_whole c.fill.new.self c.args.x.now _ (omega arith) c.raise.ensures (λ k m. zeros.is k (omega (arith, zeros.same))) (rw zeros.same c.requires.fit)
 
-pub returns : goal.returns
-returns c =
+pub returns-clause-filled : goal.returns-clause-filled
+returns-clause-filled c =
     let zeros : Filled (λ k. pos 0) c.args.y.now c.fill.new.self = record { same = c.fill.ensures.len; is = λ k m. search rules } in
     filled_again zeros (middle_rounded c.fill.new.self c.args.x.now _ (omega arith) c.raise.ensures (λ k m. zeros.is k (omega (arith, zeros.same))) c.places.ensures)

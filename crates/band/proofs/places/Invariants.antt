@@ -1,7 +1,7 @@
 use Rattle.std.proofs.Common.{◌*◌, ◌^◌, pos, ◌-ℤ◌}
 use Rattle.reference.specs.Rounding.{R}
-use Rattle.lanes.specs.Lanes.{Written}
-use Rattle.band.specs.Bands.{band_sum}
+use Rattle.lanes.specs.inner.Lanes.{Written}
+use Rattle.band.specs.inner.Bands.{band_sum}
 use Rattle.band.proofs.places.Given as goal
 
 abbrev pub invariant-loop-b : goal.invariant-loop-b

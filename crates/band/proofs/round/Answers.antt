@@ -1,5 +1,5 @@
 use Rattle.std.proofs.Common.{rules, arith, ◌≡◌, ◌+◌, ◌-◌, rules}
-use Rattle.filters.specs.Lifts.{rounded}
+use Rattle.filters.specs.inner.Lifts.{rounded}
 use Rattle.lanes.proofs.Places.{written_more}
 use Rattle.band.proofs.round.Goals as goal
 

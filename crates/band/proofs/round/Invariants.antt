@@ -1,6 +1,6 @@
 use Rattle.std.proofs.Common.{◌+◌, ◌-◌}
-use Rattle.lanes.specs.Lanes.{Written}
-use Rattle.filters.specs.Lifts.{rounded}
+use Rattle.lanes.specs.inner.Lanes.{Written}
+use Rattle.filters.specs.inner.Lifts.{rounded}
 use Rattle.band.proofs.round.Given as goal
 
 abbrev pub invariant-loop-l : goal.invariant-loop-l

@@ -2,8 +2,8 @@ use Rattle.std.proofs.Common.{rules, arith, ◌≡◌, ◌+◌, ◌≤◌, ◌^�
 use lib.IntN.{+ℤ_assoc}
 use Rattle.numbers.specs.Sums.{at0}
 use Rattle.numbers.proofs.Integers.{abs_add}
-use Rattle.lanes.specs.Lanes.{raised}
-use Rattle.band.specs.Bands.{signed}
+use Rattle.lanes.specs.inner.Lanes.{raised}
+use Rattle.band.specs.inner.Bands.{signed}
 use Rattle.band.proofs.Turns.{signed_size}
 use Rattle.lanes.proofs.Pairs.{raised_size, pair_size}
 use Rattle.lanes.proofs.Places.{written_more}

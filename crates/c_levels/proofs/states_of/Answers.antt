@@ -1,7 +1,7 @@
 use Rattle.std.proofs.Common.{rules, ap, ◌≡◌, true, Some, List}
 use Rattle.numbers.proofs.Arrays.{made_array}
 use Rattle.overs.specs.Overs.{Progress, none}
-use Rattle.codes.specs.Codes.{if_known}
+use Rattle.codes.specs.inner.Codes.{if_known}
 use Rattle.c_levels.specs.Standings.{known_standings, held_standings}
 use Rattle.c_levels.proofs.states_of.Goals as goal
 

@@ -2,7 +2,7 @@ use Rattle.std.proofs.Common.{rules, ap, ◌≡◌, true, Some, List}
 use Rattle.numbers.proofs.Arrays.{made_array}
 use Rattle.reference.specs.Statistics.{no_samples}
 use Rattle.reference.specs.declared.ChannelStats.{ChannelStats}
-use Rattle.codes.specs.Codes.{if_known}
+use Rattle.codes.specs.inner.Codes.{if_known}
 use Rattle.c_stats.specs.Stats.{known_stats, held_stats}
 use Rattle.c_stats.proofs.stats_of.Goals as goal
 

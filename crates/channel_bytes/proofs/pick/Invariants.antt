@@ -1,5 +1,5 @@
 use Rattle.std.proofs.Common.{◌+◌, ◌*◌, get_or}
-use Rattle.numbers.specs.Lists.{Held}
+use Rattle.numbers.specs.inner.Lists.{Held}
 use Rattle.channel_bytes.proofs.pick.Given as goal
 
 abbrev pub invariant-loop-j : goal.invariant-loop-j

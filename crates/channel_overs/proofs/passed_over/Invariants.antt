@@ -1,5 +1,5 @@
 use Rattle.std.proofs.Common.{◌-◌, ◌*◌, ◌+◌, ◌≤◌, get_or, pos}
-use Rattle.channel_overs.specs.Passed.{Passed}
+use Rattle.channel_overs.specs.inner.Passed.{Passed}
 use Rattle.channel_overs.proofs.passed_over.Given as goal
 
 abbrev pub invariant-loop-at : goal.invariant-loop-at

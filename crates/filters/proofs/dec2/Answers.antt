@@ -1,19 +1,13 @@
 use Rattle.std.proofs.Common.{rules, arith, ◌≡◌, ◌+◌, ◌-◌, ◌*◌, ◌^◌, length, to_z, of_z, w64}
 use Rattle.numbers.specs.Sums.{at0}
 use Rattle.reference.specs.Stages.{tap}
-use Rattle.lanes.specs.Lanes.{Small}
-use Rattle.filters.specs.Filters.{half_rate, seconds}
-use Rattle.filters.specs.Lifts.{Raised}
+use Rattle.lanes.specs.inner.Lanes.{Small}
+use Rattle.filters.specs.inner.Filters.{half_rate, seconds}
+use Rattle.filters.specs.inner.Lifts.{Raised}
 use Rattle.filters.proofs.Bias.{half_sums, filled_sums, filled_round}
 use Rattle.lanes.proofs.Pairs.{raised_size, centre_size, arms_size}
-use Rattle.filters.proofs.Places.{low_zeros, filled_small, gained_small, length_seconds}
+use Rattle.filters.proofs.Places.{filled_small, gained_small, length_seconds}
 use Rattle.filters.proofs.dec2.Goals as goal
-
-pub raise_second-requires-clause-low : goal.raise_second-requires-clause-low
-raise_second-requires-clause-low c = low_zeros 200
-
-pub raise_second-requires-2-clause-low : goal.raise_second-requires-2-clause-low
-raise_second-requires-2-clause-low c = low_zeros 200
 
 pub add-requires-clause-small : goal.add-requires-clause-small
 add-requires-clause-small c =
@@ -41,11 +35,12 @@ all-requires c =
     let e : to_z w64 (of_z w64 (at0 he 0)) ≡ tap he 0 = search rules in
     let even : Raised (length (seconds f x)) (seconds f x) c.raise_second.new.v = rw (length_seconds f x) c.raise_second.ensures in
     let odd : Raised (length (seconds g x)) (seconds g x) c.raise_second-2.new.v = rw (length_seconds g x) c.raise_second-2.ensures in
-    let sums = half_sums he ho (seconds f x) (seconds g x) _ _ (omega (arith, length_seconds f x)) (omega (arith, length_seconds g x)) even odd c.requires.phases (rw e at c.centre.ensures) c.add.ensures c.add-2.ensures in
+    let sums = half_sums he ho (seconds f x) (seconds g x) _ _ (omega (arith, length_seconds f x))
+    (omega (arith, length_seconds g x)) even odd c.requires.phases (rw e at c.centre.ensures) c.add.ensures c.add-2.ensures in
     (omega arith, omega arith, filled_sums (half_rate he ho (seconds f x) (seconds g x)) sums _ (omega (arith, sums.same)) c.requires.fit)
 
-pub returns : goal.returns
-returns c =
+pub returns-clause-filled : goal.returns-clause-filled
+returns-clause-filled c =
     let he = c.args.he.now in
     let ho = c.args.ho.now in
     let x = c.args.x.now in
@@ -54,5 +49,6 @@ returns c =
     let e : to_z w64 (of_z w64 (at0 he 0)) ≡ tap he 0 = search rules in
     let even : Raised (length (seconds f x)) (seconds f x) c.raise_second.new.v = rw (length_seconds f x) c.raise_second.ensures in
     let odd : Raised (length (seconds g x)) (seconds g x) c.raise_second-2.new.v = rw (length_seconds g x) c.raise_second-2.ensures in
-    let sums = half_sums he ho (seconds f x) (seconds g x) _ _ (omega (arith, length_seconds f x)) (omega (arith, length_seconds g x)) even odd c.requires.phases (rw e at c.centre.ensures) c.add.ensures c.add-2.ensures in
+    let sums = half_sums he ho (seconds f x) (seconds g x) _ _ (omega (arith, length_seconds f x))
+    (omega (arith, length_seconds g x)) even odd c.requires.phases (rw e at c.centre.ensures) c.add.ensures c.add-2.ensures in
     filled_round (half_rate he ho (seconds f x) (seconds g x)) sums 24 c.all.ensures

@@ -1,14 +1,11 @@
 use Rattle.std.proofs.Common.{rules, arith, ◌≡◌, ◌+◌, ◌-◌, ◌*◌, ◌^◌, length, to_z, of_z, w64}
 use Rattle.numbers.specs.Sums.{at0}
 use Rattle.reference.specs.Stages.{tap}
-use Rattle.filters.specs.Filters.{same_rate}
+use Rattle.filters.specs.inner.Filters.{same_rate}
 use Rattle.filters.proofs.Bias.{same_sums, filled_sums, filled_round}
 use Rattle.lanes.proofs.Pairs.{centre_size}
-use Rattle.filters.proofs.Places.{low_zeros, filled_small}
+use Rattle.filters.proofs.Places.{filled_small}
 use Rattle.filters.proofs.fir1.Goals as goal
-
-pub raise-requires-clause-low : goal.raise-requires-clause-low
-raise-requires-clause-low c = low_zeros 456
 
 pub add-requires-clause-small : goal.add-requires-clause-small
 add-requires-clause-small c =
@@ -24,8 +21,8 @@ all-requires c =
     let sums = same_sums h x _ c.requires.filter (omega arith) c.raise.ensures (rw e at c.centre.ensures) c.add.ensures in
     (omega arith, omega arith, filled_sums (same_rate h x) sums _ (omega (arith, sums.same)) c.requires.fit)
 
-pub returns : goal.returns
-returns c =
+pub returns-clause-filled : goal.returns-clause-filled
+returns-clause-filled c =
     let h = c.args.h.now in
     let x = c.args.x.now in
     let e : to_z w64 (of_z w64 (at0 h 0)) ≡ tap h 0 = search rules in

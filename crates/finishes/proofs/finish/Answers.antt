@@ -38,7 +38,12 @@ loop-b-preserved c =
     let own = c.place-in-loop-b.ensures in
     let more = (l.invariant.2.album l.b c.loop-b-test.true).framed in
     elim c.if-place.branch [
-      | then-place w ↦ (w.sum-is ∙ ap (λ k. l.sum + k) w.turns-sum.ensures.0 ∙ counted s a.a l.b l.sum l.invariant.0 (omega (arith, own, other, w.if-place.true)) more, omega (arith, w.turns-sum.ensures.1, w.sum-is), l.invariant.2)
+      | then-place w ↦ (
+        w.sum-is ∙ ap (λ k. l.sum + k) w.turns-sum.ensures.0
+            ∙ counted s a.a l.b l.sum l.invariant.0 (omega (arith, own, other, w.if-place.true)) more,
+        omega (arith, w.turns-sum.ensures.1, w.sum-is),
+        l.invariant.2,
+      )
       | else-place w ↦ (w.sum-is ∙ passed s a.a l.b l.sum l.invariant.0 (omega (arith, own, other, w.if-place.false)), omega (arith, w.sum-is), l.invariant.2)
     ]
 

@@ -2,7 +2,7 @@ use Rattle.std.proofs.Common.{arith, ◌≡◌, ◌+◌, ◌*◌, ap, ◌∙◌}
 use lib.ListN.{set, length-set}
 use Rattle.numbers.proofs.Lists.{held_more}
 use Rattle.numbers.proofs.Machine.{t, val}
-use Rattle.first_stage.specs.Windows.{window_sum}
+use Rattle.first_stage.specs.inner.Windows.{window_sum}
 use Rattle.first_stage.proofs.first_stage.Goals as goal
 
 pub loop-turn-preserved : goal.loop-turn-preserved

@@ -1,6 +1,6 @@
 use Rattle.std.proofs.Common.{◌+◌, ◌*◌, pos}
-use Rattle.numbers.specs.Lists.{Held}
-use Rattle.first_stage.specs.Windows.{window_sum}
+use Rattle.numbers.specs.inner.Lists.{Held}
+use Rattle.first_stage.specs.inner.Windows.{window_sum}
 use Rattle.first_stage.proofs.first_stage.Given as goal
 
 abbrev pub invariant-loop-turn : goal.invariant-loop-turn

@@ -2,8 +2,9 @@ use Rattle.std.proofs.Common.{arith, rules, ◌≡◌, ◌∙◌, ◌*◌, ◌+�
 use lib.Seq.{length-take-le}
 use Rattle.reference.specs.declared.PcmRate.TheVariants.{Hz88200, Hz176400, Hz352800}
 use Rattle.reference.specs.declared.Cutoff.TheVariants.{Standard, Wide}
-use Rattle.routes.specs.Routes.{FirstTables, block_length}
-use Rattle.kernel.proofs.Blocks.{Narrow, blocked_front, blocked_88, blocked_176, blocked_352, blocked_wide176, blocked_wide352, either_tables, either_fresh, either_taps, either_blocked, fresh_few, halved_taps, plain_176, plain_352, no_wide_88, wide_176, wide_352}
+use Rattle.routes.specs.inner.Routes.{FirstTables, block_length}
+use Rattle.kernel.proofs.Blocks.{Narrow, blocked_front, blocked_88, blocked_176, blocked_352, blocked_wide176, blocked_wide352, either_tables}
+use Rattle.kernel.proofs.Blocks.{either_fresh, either_taps, either_blocked, fresh_few, halved_taps, plain_176, plain_352, no_wide_88, wide_176, wide_352}
 use Rattle.kernel.proofs.block.Goals as goal
 
 -- ---- Standard and Low. `search` finds what the arm says of the cutoff: no proof here goes by an arm's name

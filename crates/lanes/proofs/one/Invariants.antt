@@ -1,6 +1,6 @@
 use Rattle.std.proofs.Common.{◌≡◌, ◌+◌, ◌+ℤ◌, ◌*ℤ◌, length}
 use Rattle.numbers.specs.Sums.{at0}
-use Rattle.lanes.specs.Lanes.{raised, Written}
+use Rattle.lanes.specs.inner.Lanes.{raised, Written}
 use Rattle.lanes.proofs.one.Given as goal
 
 abbrev pub invariant-loop-l : goal.invariant-loop-l

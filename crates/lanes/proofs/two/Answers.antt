@@ -2,7 +2,7 @@ use Rattle.std.proofs.Common.{rules, arith, ◌≡◌, ◌+◌, ◌≤◌, ◌^�
 use lib.IntN.{+ℤ_assoc}
 use Rattle.numbers.specs.Sums.{at0}
 use Rattle.numbers.proofs.Integers.{abs_add}
-use Rattle.lanes.specs.Lanes.{raised}
+use Rattle.lanes.specs.inner.Lanes.{raised}
 use Rattle.lanes.proofs.Pairs.{raised_size, pair_size}
 use Rattle.lanes.proofs.Places.{written_more}
 use Rattle.lanes.proofs.two.Goals as goal

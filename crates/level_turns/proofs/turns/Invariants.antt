@@ -1,7 +1,7 @@
 -- `turns`: each turn counts a frame, and what has come so far is told.
 use Rattle.std.proofs.Common.{◌≡◌, ◌*◌, ◌≤◌}
 use Rattle.reference.specs.Frames.{frame_length}
-use Rattle.level_turns.specs.Turns.{moment}
+use Rattle.level_turns.specs.inner.Turns.{moment}
 use Rattle.level_turns.proofs.Whole.{Come}
 use Rattle.level_turns.proofs.turns.Given as goal
 

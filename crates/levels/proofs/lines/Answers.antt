@@ -5,7 +5,7 @@ use Rattle.text.specs.Text.{joined}
 use Rattle.level_lines.specs.Lines.{level_line}
 use Rattle.text.proofs.Printing.{none_printed, more}
 use Rattle.overs.specs.Overs.{none}
-use Rattle.channel_levels.specs.Channels.{level_of}
+use Rattle.channel_levels.specs.inner.Channels.{level_of}
 use Rattle.levels.proofs.States.{states_none, states_more}
 use Rattle.levels.proofs.lines.Goals as goal
 
@@ -20,5 +20,6 @@ loop-c-preserved c =
     let a = c.args in (
       omega (arith, c.level_line-at.ensures.upper_bound),
       rw l.invariant.1 (states_more a.samples.now a.ch a.states l.c (omega arith) c.level-next.ensures.next_value),
-      more (λ c. level_line a.number c (level_of (channel_of a.stats c).clipped a.samples.now a.ch c (slice_index_or a.states c none))) l.c l.invariant.2 c.level_line-at.ensures.printed (ap (level_line a.number l.c) c.level-next.ensures.level_value),
+      more (λ c. level_line a.number c (level_of (channel_of a.stats c).clipped a.samples.now a.ch c (slice_index_or a.states c none)))
+          l.c l.invariant.2 c.level_line-at.ensures.printed (ap (level_line a.number l.c) c.level-next.ensures.level_value),
     )

@@ -4,7 +4,7 @@ use Rattle.reference.specs.Statistics.{channel_of}
 use Rattle.text.specs.Text.{joined, Printed}
 use Rattle.level_lines.specs.Lines.{level_line}
 use Rattle.overs.specs.Overs.{none}
-use Rattle.channel_levels.specs.Channels.{level_of}
+use Rattle.channel_levels.specs.inner.Channels.{level_of}
 use Rattle.levels.specs.Levels.{states_after}
 use Rattle.levels.proofs.lines.Given as goal
 

@@ -11,7 +11,7 @@ returns c =
     let few = c.requires.low_pass.few in
     let whole = c.bring_v.ensures.held β (n / 2 + 176 - k - M h) (omega arith) (held_at _ (omega arith) bytes) margin in
     let kept = c.newest.ensures.held β (n / 2 - 8) (omega arith) (held_at _ (omega arith) whole) (rw c.bring_v.ensures.kept old) in (
-      c.between.ensures h β n (omega arith) even kept,
+      c.between.ensures.held h β n (omega arith) even kept,
       held_at _ (omega arith) (c.move_on.ensures.held (v β) _ whole),
       held_at _ (omega arith) (shifted {a = n / 2 - 8} {n = 184} 168 16 (omega arith) c.shift.ensures.by_index (rw c.move_on.ensures.others.1 kept)),
     )

@@ -1,6 +1,6 @@
 use Rattle.std.proofs.Common.{ℕ, ◌+◌, ℤ, pos, length}
-use Rattle.numbers.specs.Lists.{Held}
-use Rattle.output.specs.Fills.{Drawn}
+use Rattle.numbers.specs.inner.Lists.{Held}
+use Rattle.output.specs.inner.Fills.{Drawn}
 use Rattle.output.proofs.store.Given as goal
 
 abbrev pub invariant-loop-k : goal.invariant-loop-k

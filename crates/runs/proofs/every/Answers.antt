@@ -1,7 +1,7 @@
 use Rattle.std.proofs.Common.{◌≡◌, refl, arith}
 use Rattle.numbers.proofs.Lists.{part_end}
 use Rattle.reference.specs.Statistics.{no_stats}
-use Rattle.blocks.specs.Jobs.{in_frame}
+use Rattle.blocks.specs.inner.Jobs.{in_frame}
 use Rattle.blocks.proofs.Sums.{even_frames}
 use Rattle.runs.proofs.Sums.{frames_none, frames_past, frames_more, run_done}
 use Rattle.runs.proofs.every.Goals as goal

@@ -4,7 +4,7 @@ use Rattle.text.specs.Text.{joined, text}
 use Rattle.text.proofs.Numerals.{one_digit}
 use Rattle.text.proofs.Writing.{both}
 use Rattle.columns.specs.Columns.{line}
-use Rattle.sheet.specs.Sheet.{figures}
+use Rattle.sheet.specs.Sheet.{channel_cells}
 use Rattle.sheet.proofs.Widths.{clips_fit, lowest_fits, highest_fits}
 use Rattle.sheet.proofs.Lines as lines
 use Rattle.sheet.proofs.put_channel.Goals as goal
@@ -36,7 +36,7 @@ put_level-requires-2 c = (
 )
 
 pub returns-clause-printed : goal.returns-clause-printed
-unfolding line figures joined text
+unfolding line channel_cells joined text
 returns-clause-printed c =
     let low = rw c.lowest.ensures at c.put_level.ensures.printed in
     let high = rw c.highest.ensures at c.put_level-2.ensures.printed in

@@ -1,7 +1,7 @@
 use Rattle.std.proofs.Common.{◌≡◌, ◌+◌, ◌*◌}
 use Rattle.numbers.specs.Lists.{tabulate}
 use Rattle.text.specs.Text.{joined}
-use Rattle.text.specs.Writing.{Prints}
+use Rattle.text.specs.inner.Writing.{Prints}
 use Rattle.columns.specs.Columns.{line}
 use Rattle.sheet.specs.Sheet.{channel_line}
 use Rattle.sheet.proofs.put_channels.Given as goal

@@ -2,7 +2,7 @@
 use Rattle.std.proofs.Common.{◌≡◌, List, ℕ, ℤ, ◌+◌, ◌-◌, ◌*◌, ◌<◌, length, ap, arith}
 use Rattle.reference.specs.Rounding.{R}
 use Rattle.reference.specs.Stages.{M}
-use Rattle.filters.specs.Filters.{even_taps, odd_taps, same_rate, half_rate, seconds}
+use Rattle.filters.specs.inner.Filters.{even_taps, odd_taps, same_rate, half_rate, seconds}
 use Rattle.filters.proofs.Places.{filled_as}
 use Rattle.filters.proofs.Signals.{split_halves, halves_phases}
 use Rattle.filters.proofs.Seconds.{decimated}
@@ -28,8 +28,9 @@ dec2-requires-clause-fit c =
       fits = λ i m. rw (sum_is f.F c.args.x.now (even_half f.F f.halved) (odd_half f.F f.halved) i (omega (arith, long)) (omega (arith, long))) (fit.fits (2 * i) (omega arith));
     }
 
-pub returns : goal.returns
-returns c =
+pub returns-clause-filled : goal.returns-clause-filled
+returns-clause-filled c =
     λ F halved.
     let long = halves_length F halved in
-    filled_as c.dec2.ensures (λ i m. ap (λ (z : ℤ). R z 24) (sum_is F c.args.x.now (even_half F halved) (odd_half F halved) i (omega (arith, c.requires, long)) (omega (arith, c.requires, long))))
+    filled_as c.dec2.ensures.filled
+    (λ i m. ap (λ (z : ℤ). R z 24) (sum_is F c.args.x.now (even_half F halved) (odd_half F halved) i (omega (arith, c.requires, long)) (omega (arith, c.requires, long))))

@@ -1,6 +1,6 @@
 use Rattle.std.proofs.Common.{◌*◌, pos}
-use Rattle.numbers.specs.Lists.{Held}
-use Rattle.numbers.specs.Parts.{woven}
+use Rattle.numbers.specs.inner.Lists.{Held}
+use Rattle.numbers.specs.inner.Parts.{woven}
 use Rattle.stages.proofs.weave.Given as goal
 
 abbrev pub invariant-loop-k : goal.invariant-loop-k

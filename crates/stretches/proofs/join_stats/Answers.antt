@@ -18,4 +18,5 @@ pub returns : goal.returns
 unfolding joined_stats
 returns c =
     let l = c.loop-c in
-    ap (λ m. record { channels = m }) (is_tabulate (λ k. joined_channel (channel_of c.args.a k) (channel_of c.args.b k)) 0 6 no_samples l.channels l.invariant.0 (λ k s. l.invariant.1.is k (omega arith)))
+    ap (λ m. record { channels = m })
+    (is_tabulate (λ k. joined_channel (channel_of c.args.a k) (channel_of c.args.b k)) 0 6 no_samples l.channels l.invariant.0 (λ k s. l.invariant.1.is k (omega arith)))

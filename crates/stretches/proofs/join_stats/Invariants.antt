@@ -1,5 +1,5 @@
 use Rattle.std.proofs.Common.{◌≡◌, length}
-use Rattle.numbers.specs.Lists.{Held}
+use Rattle.numbers.specs.inner.Lists.{Held}
 use Rattle.reference.specs.Statistics.{no_samples, joined_channel, channel_of}
 use Rattle.stretches.proofs.join_stats.Given as goal
 

@@ -1,8 +1,8 @@
 use Rattle.std.proofs.Common.{length}
 use Rattle.tracks.specs.Tracks.{heads_of, all_length}
 use Rattle.tracks.specs.Windows.{windowed}
-use Rattle.tracks_open.specs.Trying.{heads_from}
-use Rattle.tracks_gather.specs.Gathering.{with_tracks}
+use Rattle.tracks_open.specs.inner.Trying.{heads_from}
+use Rattle.tracks_gather.specs.inner.Gathering.{with_tracks}
 use Rattle.tracks_gather.proofs.Going.{Going}
 use Rattle.tracks_gather.proofs.gather.Given as goal
 

@@ -21,7 +21,8 @@ spread-requires c =
     let g = within c.requires l.q stop l.invariant.0 (omega arith) (omega arith) (omega arith) in
     let b = above c.requires l.q stop l.invariant.0 (omega arith) (omega arith) (omega arith) in (
       omega (arith, c.requires.channel),
-      rw (l.invariant.3.same, l.invariant.2) (piece_fits c.requires l.q stop l.invariant.0 (omega arith) (omega arith) (omega arith) c.args.window.now.bytes.now c.args.table.now refl _ (omega (arith, g, b))),
+      rw (l.invariant.3.same, l.invariant.2)
+          (piece_fits c.requires l.q stop l.invariant.0 (omega arith) (omega arith) (omega arith) c.args.window.now.bytes.now c.args.table.now refl _ (omega (arith, g, b))),
       omega (arith, c.requires.room, l.invariant.3.same),
     )
 

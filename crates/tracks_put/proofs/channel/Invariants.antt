@@ -1,6 +1,6 @@
 use Rattle.std.proofs.Common.{◌≡◌, ◌+◌, ◌-◌, ◌*◌, ◌≤◌}
-use Rattle.dsf_columns.specs.Columns.{Strided}
-use Rattle.tracks_put.specs.Putting.{table_byte}
+use Rattle.dsf_columns.specs.inner.Columns.{Strided}
+use Rattle.tracks_put.specs.inner.Putting.{table_byte}
 use Rattle.tracks_put.proofs.channel.Given as goal
 
 abbrev pub invariant-loop-q : goal.invariant-loop-q

@@ -1,5 +1,5 @@
 use Rattle.std.proofs.Common.{◌-◌}
-use Rattle.numbers.specs.Lists.{Wrote}
+use Rattle.numbers.specs.inner.Lists.{Wrote}
 use Rattle.reference.specs.Frames.{idle}
 use Rattle.tracks_put.proofs.fill.Given as goal
 

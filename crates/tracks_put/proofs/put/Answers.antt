@@ -1,5 +1,5 @@
 use Rattle.std.proofs.Common.{◌≡◌, refl, arith}
-use Rattle.tracks_put.specs.Putting.{table_byte}
+use Rattle.tracks_put.specs.inner.Putting.{table_byte}
 use Rattle.tracks_put.proofs.Buffers.{placed_none, placed_more, channel_args, stretch_is}
 use Rattle.tracks_put.proofs.put.Goals as goal
 

@@ -1,5 +1,5 @@
 use Rattle.std.proofs.Common.{◌-◌}
-use Rattle.tracks_put.specs.Putting.{table_byte, Placed}
+use Rattle.tracks_put.specs.inner.Putting.{table_byte, Placed}
 use Rattle.tracks_put.proofs.put.Given as goal
 
 abbrev pub invariant-loop-number : goal.invariant-loop-number

@@ -1,5 +1,5 @@
 use Rattle.std.proofs.Common.{◌≤◌, arith}
-use Rattle.tracks_reads.specs.Reading.{ReadArgs, read_to}
+use Rattle.tracks_reads.specs.inner.Reading.{ReadArgs, read_to}
 use Rattle.tracks_reads.proofs.Stretches.{in_order, bounded}
 use Rattle.tracks_reads.proofs.Ahead.{begin, short, go_on, ended}
 use Rattle.tracks_reads.proofs.windows.Goals as goal

@@ -13,7 +13,8 @@ has_header-requires c =
 
 pub returns-then-has_header : goal.returns-then-has_header
 returns-then-has_header c =
-    is_told c.args.file.now c.rate_of-rate.result c.channels_of-channels.result c.rate_of-rate.ensures c.channels_of-channels.ensures.0 c.has_header.ensures c.right_data.ensures c.if-right_data.true c.if-has_header.true
+    is_told c.args.file.now c.rate_of-rate.result c.channels_of-channels.result c.rate_of-rate.ensures
+    c.channels_of-channels.ensures.0 c.has_header.ensures c.right_data.ensures c.if-right_data.true c.if-has_header.true
 
 pub returns : goal.returns
 returns c =

@@ -1,7 +1,7 @@
 use Rattle.std.proofs.Common.{ap, refl, ◌∙◌, take}
 use Rattle.text.specs.Text.{text, joined}
 use Rattle.text.specs.Bytes.{bytes}
-use Rattle.wav_header.specs.Parts.{data_head}
+use Rattle.wav_header.specs.inner.Parts.{data_head}
 use Rattle.text.proofs.Bytes.{low_bytes}
 use Rattle.wav_header.proofs.data_head.Goals as goal
 

@@ -1,7 +1,7 @@
 use Rattle.std.proofs.Common.{refl, ◌∙◌}
 use Rattle.text.specs.Text.{text, joined}
 use Rattle.text.specs.Bytes.{bytes}
-use Rattle.wav_header.specs.Parts.{riff}
+use Rattle.wav_header.specs.inner.Parts.{riff}
 use Rattle.text.proofs.Bytes.{four_bytes}
 use Rattle.wav_header.proofs.riff.Goals as goal
 

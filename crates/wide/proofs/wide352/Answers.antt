@@ -28,6 +28,6 @@ unfolding y_wide
 returns-clause-held c =
     λ β n l bytes margin.
     let whole = c.bring_u.ensures.held β (n - 60) (omega arith) (held_at _ (omega arith) bytes) margin in (
-      held_some 336 (omega arith) (fir1_gives whole 456 (omega arith) F40 n (omega (arith, F40_last)) (rw c.requires.h_value at c.fir1.ensures) (omega (arith, F40_last))),
+      held_some 336 (omega arith) (fir1_gives whole 456 (omega arith) F40 n (omega (arith, F40_last)) (rw c.requires.h_value at c.fir1.ensures.filled) (omega (arith, F40_last))),
       held_at _ (omega arith) (c.move_on.ensures.held (u S1_WIDE β) _ whole),
     )

@@ -1,6 +1,6 @@
 -- `convert_slices`: what its job goes by.
 use Rattle.std.proofs.Common.{◌∙◌}
-use Rattle.routes.specs.Routes.{FirstTables}
+use Rattle.routes.specs.inner.Routes.{FirstTables}
 use Rattle.workspace.proofs.Bound.{narrow_tables, made_ready}
 use Rattle.workspace.proofs.convert_slices.Goals as goal
 

@@ -12,4 +12,5 @@ returns c =
     let told = c.tell_conversion in
     let k = some_known _ _ _ (sym c.in-Some.ensures) in
     done_so (both_hold _ _ k.0 (search rules))
-    (samples_done k.1 c.run.ensures made.result (results a.stats.now a.«data».now a.decibels.now) (results told.new.stats told.new.«data» told.new.decibels) told.ensures.told_whole told.ensures.stats_after a.kind made.ensures)
+    (samples_done k.1 c.run.ensures made.result (results a.stats.now a.«data».now a.decibels.now)
+    (results told.new.stats told.new.«data» told.new.decibels) told.ensures.told_whole told.ensures.stats_after a.kind made.ensures)

@@ -1,5 +1,5 @@
 use mathlib.Core.Path.{refl, sym, ◌∙◌}
-use Rattle.codes.specs.Codes.{if_known}
+use Rattle.codes.specs.inner.Codes.{if_known}
 use Rattle.codes.proofs.Known.{some_known}
 use Rattle.c_converter.specs.Blocks.{settings_of}
 use Rattle.c_converter.proofs.Blocks.settings.Goals as goal

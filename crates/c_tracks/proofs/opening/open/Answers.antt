@@ -2,7 +2,8 @@ use Rattle.std.proofs.Common.{◌≡◌, ◌+◌, length, eqb, true, sym, ap, �
 use borrow.Author.Tests.{eq-eqb}
 use Rattle.codes.proofs.Calls.{done_so, both_hold}
 use Rattle.codes.proofs.Known.{some_known}
-use Rattle.c_tracks.specs.Asked.{as_asked, heads}
+use Rattle.c_tracks.specs.Asked.{asked_heads}
+use Rattle.c_tracks.specs.inner.Asked.{as_asked}
 use Rattle.c_tracks.specs.Calls.{outputs}
 use Rattle.c_tracks.proofs.Known.{lists_fit}
 use Rattle.c_tracks.proofs.Opened.{open_done}
@@ -22,4 +23,5 @@ returns c =
     let old = outputs a.album.now a.marks.now a.track.now a.«data».now a.decibels.now in
     let new = outputs c.tell_album.new.list c.put_marks.new.marks (c.named.result ∷ []) c.tell.new.«data» c.tell.new.decibels in
     done_so (both_hold _ _ k.0 room)
-    (rw k.1 (open_done (heads (as_asked a.asked)) c.in-Some.settings c.open-opened.result c.open-opened.ensures old new (rw c.reason.ensures at c.tell.ensures) (ap (λ (k : ℕ). k ∷ []) c.named.ensures) c.tell_album.ensures c.put_marks.ensures))
+    (rw k.1 (open_done (asked_heads (as_asked a.asked)) c.in-Some.settings c.open-opened.result c.open-opened.ensures old new
+    (rw c.reason.ensures at c.tell.ensures) (ap (λ (k : ℕ). k ∷ []) c.named.ensures) c.tell_album.ensures c.put_marks.ensures))

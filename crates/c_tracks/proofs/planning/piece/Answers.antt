@@ -2,7 +2,8 @@ use Rattle.std.proofs.Common.{◌≡◌, ◌*◌, length, eqb, true, sym}
 use borrow.Author.Tests.{eq-eqb}
 use Rattle.codes.proofs.Calls.{done_so, both_hold}
 use Rattle.codes.proofs.Known.{some_known}
-use Rattle.c_tracks.specs.Asked.{as_asked, heads}
+use Rattle.c_tracks.specs.Asked.{asked_heads}
+use Rattle.c_tracks.specs.inner.Asked.{as_asked}
 use Rattle.c_tracks.proofs.Known.{lists_fit}
 use Rattle.c_tracks.proofs.Opened.{plan_args, piece_told, piece_refused}
 use Rattle.c_tracks.proofs.planning.piece.Goals as goal
@@ -21,7 +22,8 @@ returns-in-Ok c =
     let k = some_known _ _ _ (sym c.in-Some.ensures) in
     let room : eqb (length a.reads.now) (2 * length a.asked.tracks.lengths.now) ≡ true = eq-eqb _ _ c.if-reads-asked.false in
     done_so (both_hold _ _ k.0 room)
-    (rw k.1 (piece_told (heads (as_asked a.asked)) c.in-Some.settings c.in-Ok.album c.in-Ok.ensures a.piece a.plan.now c.put_piece.new.plan a.reads.now c.put_piece.new.reads c.put_piece.ensures.written c.put_piece.ensures.asked))
+    (rw k.1 (piece_told (asked_heads (as_asked a.asked)) c.in-Some.settings c.in-Ok.album c.in-Ok.ensures a.piece
+    a.plan.now c.put_piece.new.plan a.reads.now c.put_piece.new.reads c.put_piece.ensures.written c.put_piece.ensures.asked))
 
 pub returns-in-Err : goal.returns-in-Err
 returns-in-Err c =
@@ -29,4 +31,4 @@ returns-in-Err c =
     let k = some_known _ _ _ (sym c.in-Some.ensures) in
     let room : eqb (length a.reads.now) (2 * length a.asked.tracks.lengths.now) ≡ true = eq-eqb _ _ c.if-reads-asked.false in
     done_so (both_hold _ _ k.0 room)
-    (rw k.1 (piece_refused (heads (as_asked a.asked)) c.in-Some.settings c.in-Err.refused c.in-Err.ensures a.piece a.plan.now a.reads.now c.number.ensures))
+    (rw k.1 (piece_refused (asked_heads (as_asked a.asked)) c.in-Some.settings c.in-Err.refused c.in-Err.ensures a.piece a.plan.now a.reads.now c.number.ensures))

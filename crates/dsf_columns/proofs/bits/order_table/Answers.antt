@@ -1,7 +1,7 @@
 use Rattle.std.proofs.Common.{◌≡◌, ◌+◌, arith, refl, ap, sym, ◌∙◌}
 use lib.ListN.{length-set}
 use Rattle.numbers.proofs.Lists.{held_none, held_more}
-use Rattle.dsf.specs.Orders.{ordered}
+use Rattle.dsf.specs.inner.Orders.{ordered}
 use Rattle.dsf_columns.proofs.bits.order_table.Goals as goal
 
 pub loop-x-init : goal.loop-x-init

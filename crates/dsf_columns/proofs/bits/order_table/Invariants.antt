@@ -1,6 +1,6 @@
 use Rattle.std.proofs.Common.{◌≡◌, length}
-use Rattle.numbers.specs.Lists.{Held}
-use Rattle.dsf.specs.Orders.{ordered}
+use Rattle.numbers.specs.inner.Lists.{Held}
+use Rattle.dsf.specs.inner.Orders.{ordered}
 use Rattle.dsf_columns.proofs.bits.order_table.Given as goal
 
 abbrev pub invariant-loop-x : goal.invariant-loop-x

@@ -1,5 +1,5 @@
 use Rattle.std.proofs.Common.{◌-◌, ◌≤◌}
-use Rattle.dsf_columns.specs.Columns.{Column, column_byte}
+use Rattle.dsf_columns.specs.inner.Columns.{Column, column_byte}
 use Rattle.dsf_columns.proofs.columns.column.Given as goal
 
 abbrev pub invariant-loop-q : goal.invariant-loop-q

@@ -1,5 +1,5 @@
 use Rattle.reference.specs.Frames.{idle}
-use Rattle.dsf_columns.specs.Columns.{Strided}
+use Rattle.dsf_columns.specs.inner.Columns.{Strided}
 use Rattle.dsf_columns.proofs.columns.idle_at.Given as goal
 
 abbrev pub invariant-loop-k : goal.invariant-loop-k

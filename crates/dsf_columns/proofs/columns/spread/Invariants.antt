@@ -1,5 +1,5 @@
 use Rattle.std.proofs.Common.{get_or}
-use Rattle.dsf_columns.specs.Columns.{Strided}
+use Rattle.dsf_columns.specs.inner.Columns.{Strided}
 use Rattle.dsf_columns.proofs.columns.spread.Given as goal
 
 abbrev pub invariant-loop-k : goal.invariant-loop-k

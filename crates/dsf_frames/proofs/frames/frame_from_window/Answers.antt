@@ -1,5 +1,5 @@
 use Rattle.std.proofs.Common.{◌≡◌, refl, ◌∙◌, arith}
-use Rattle.dsf_columns.specs.Columns.{column_byte}
+use Rattle.dsf_columns.specs.inner.Columns.{column_byte}
 use Rattle.dsf_frames.proofs.Windows.{column_args, next, frame_is}
 use Rattle.dsf_frames.proofs.frames.frame_from_window.Goals as goal
 

@@ -1,13 +1,13 @@
 use Rattle.std.proofs.Common.{ℕ, [], ◌∷◌, ap, refl, ◌∙◌}
 use Rattle.text.specs.Text.{text}
 use Rattle.text.specs.Bytes.{bytes}
-use Rattle.dsf.specs.Headers.{header}
+use Rattle.dsf.specs.Headers.{header_with}
 use Rattle.text.proofs.Bytes.{eight_bytes}
 use Rattle.dsf_write.proofs.Writing.{then, put_as, pair_is}
 use Rattle.dsf_write.proofs.header.put_header.Goals as goal
 
 pub returns : goal.returns
-unfolding header text bytes
+unfolding header_with text bytes
 returns c =
     let n = c.args.channels in
     let pair = put_as (ap (λ (t : ℕ). t ∷ 0 ∷ 0 ∷ 0 ∷ n ∷ 0 ∷ 0 ∷ 0 ∷ []) c.kind_of.ensures ∙ pair_is n c.requires.0 c.requires.1) c.put-4.ensures in

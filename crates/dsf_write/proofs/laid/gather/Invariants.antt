@@ -1,5 +1,5 @@
 use Rattle.std.proofs.Common.{◌+◌, ◌*◌, get_or}
-use Rattle.numbers.specs.Lists.{Wrote}
+use Rattle.numbers.specs.inner.Lists.{Wrote}
 use Rattle.dsf_write.proofs.laid.gather.Given as goal
 
 abbrev pub invariant-loop-k : goal.invariant-loop-k

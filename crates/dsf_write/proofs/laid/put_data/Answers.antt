@@ -1,5 +1,5 @@
 use Rattle.std.proofs.Common.{◌≡◌, ◌+◌, ◌*◌, length, arith, refl, subst}
-use Rattle.numbers.specs.Lists.{Wrote}
+use Rattle.numbers.specs.inner.Lists.{Wrote}
 use Rattle.dsf_write.specs.Written.{written_byte}
 use Rattle.numbers.proofs.Lists.{wrote_none}
 use Rattle.dsf_write.proofs.Writing.{wrote_then, whole_blocks, block_args}
@@ -16,7 +16,8 @@ loop-k-preserved c =
     let l = c.loop-k in
     let e : l.k * 4096 + 4096 ≡ (l.k + 1) * 4096 = omega arith in
     let z : l.k * 4096 ≡ 0 + l.k * 4096 = omega arith in
-    rw e at (wrote_then l.invariant (subst (λ at. Wrote 0 (λ i. written_byte c.args.channels c.args.frames.now (l.k * 4096 + i)) at 4096 l.out c.put_block.new.out) z c.put_block.ensures) (λ i h. refl))
+    rw e at (wrote_then l.invariant
+    (subst (λ at. Wrote 0 (λ i. written_byte c.args.channels c.args.frames.now (l.k * 4096 + i)) at 4096 l.out c.put_block.new.out) z c.put_block.ensures) (λ i h. refl))
 
 pub returns : goal.returns
 returns c =

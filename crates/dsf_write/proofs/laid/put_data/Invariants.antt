@@ -1,5 +1,5 @@
 use Rattle.std.proofs.Common.{◌*◌}
-use Rattle.numbers.specs.Lists.{Wrote}
+use Rattle.numbers.specs.inner.Lists.{Wrote}
 use Rattle.dsf_write.specs.Written.{written_byte}
 use Rattle.dsf_write.proofs.laid.put_data.Given as goal
 

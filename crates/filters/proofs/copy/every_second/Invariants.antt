@@ -1,5 +1,5 @@
 use Rattle.std.proofs.Common.{◌+◌, ◌*◌}
-use Rattle.lanes.specs.Lanes.{Written}
+use Rattle.lanes.specs.inner.Lanes.{Written}
 use Rattle.numbers.specs.Sums.{at0}
 use Rattle.filters.proofs.copy.every_second.Given as goal
 

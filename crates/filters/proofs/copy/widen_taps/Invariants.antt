@@ -1,4 +1,4 @@
-use Rattle.lanes.specs.Lanes.{Written}
+use Rattle.lanes.specs.inner.Lanes.{Written}
 use Rattle.numbers.specs.Sums.{at0}
 use Rattle.filters.proofs.copy.widen_taps.Given as goal
 

@@ -1,5 +1,5 @@
-use Rattle.lanes.specs.Lanes.{Written}
-use Rattle.filters.specs.Lifts.{rounded}
+use Rattle.lanes.specs.inner.Lanes.{Written}
+use Rattle.filters.specs.inner.Lifts.{rounded}
 use Rattle.filters.proofs.round.all.Given as goal
 
 abbrev pub invariant-loop-place : goal.invariant-loop-place

@@ -1,5 +1,5 @@
 use Rattle.std.proofs.Common.{rules, arith}
-use Rattle.lanes.specs.Lanes.{raised}
+use Rattle.lanes.specs.inner.Lanes.{raised}
 use Rattle.lanes.proofs.Places.{written_more}
 use Rattle.filters.proofs.start.centre.Goals as goal
 

@@ -1,5 +1,5 @@
 use Rattle.std.proofs.Common.{◌+◌, ◌*ℤ◌}
-use Rattle.lanes.specs.Lanes.{raised, Written}
+use Rattle.lanes.specs.inner.Lanes.{raised, Written}
 use Rattle.filters.proofs.start.centre.Given as goal
 
 abbrev pub invariant-loop-k : goal.invariant-loop-k

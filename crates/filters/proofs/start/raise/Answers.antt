@@ -1,5 +1,5 @@
 use Rattle.std.proofs.Common.{rules, arith, ◌≡◌, pos}
-use Rattle.filters.specs.Lifts.{lifted}
+use Rattle.filters.specs.inner.Lifts.{lifted}
 use Rattle.filters.proofs.Places.{raised_more}
 use Rattle.filters.proofs.start.raise.Goals as goal
 

@@ -1,4 +1,4 @@
-use Rattle.filters.specs.Lifts.{Raised}
+use Rattle.filters.specs.inner.Lifts.{Raised}
 use Rattle.filters.proofs.start.raise.Given as goal
 
 abbrev pub invariant-loop-k : goal.invariant-loop-k

@@ -1,5 +1,5 @@
-use Rattle.filters.specs.Filters.{seconds}
-use Rattle.filters.specs.Lifts.{Raised}
+use Rattle.filters.specs.inner.Filters.{seconds}
+use Rattle.filters.specs.inner.Lifts.{Raised}
 use Rattle.filters.proofs.start.raise_second.Given as goal
 
 abbrev pub invariant-loop-k : goal.invariant-loop-k

@@ -4,7 +4,8 @@ use lib.Ieee.{Float, binary64, add, mul, div, of_int, of_bits}
 use Rattle.reference.specs.Scaling.{whole, series}
 use Rattle.gain.proofs.db.series.Goals as goal
 
-series_step : (r : Float) (k : ℕ) (term sum : Float) → k < 26 → series r (26 - k) k term sum ≡ series r (26 - (k + 1)) (k + 1) (div binary64 (mul binary64 term r) (whole k)) (add binary64 sum (div binary64 (mul binary64 term r) (whole k)))
+series_step : (r : Float) (k : ℕ) (term sum : Float) → k < 26 → series r (26 - k) k term sum
+    ≡ series r (26 - (k + 1)) (k + 1) (div binary64 (mul binary64 term r) (whole k)) (add binary64 sum (div binary64 (mul binary64 term r) (whole k)))
 unfolding series
 series_step r k term sum h =
     let e : 26 - k ≡ suc (26 - (k + 1)) = omega arith in

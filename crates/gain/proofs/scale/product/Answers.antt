@@ -2,7 +2,7 @@
 use Rattle.std.proofs.Common.{refl}
 use mir.Syntax.{w64}
 use mir.ValLaws.{to_z-of_z}
-use Rattle.gain.specs.Scale.{unrounded}
+use Rattle.gain.specs.inner.Scale.{unrounded}
 use Rattle.gain.proofs.scale.product.Goals as goal
 
 pub returns : goal.returns

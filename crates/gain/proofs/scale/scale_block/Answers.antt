@@ -50,7 +50,7 @@ overflow_add-clipped c =
     let small : nat_abs y < 2 ^ 31 = c.requires.by_index c.loop-i.i (omega arith) in
     let back : to_z w64 (of_z w64 y) ≡ y = to_z-of_z {w = w64} (sfits_abs (omega arith)) in
     let short : to_z w32 (of_z w32 y) ≡ y = to_z-of_z {w = w32} (sfits_abs small) in
-    let told = rw (back, short, back) at c.scale-scaled.ensures in
+    let told = rw (back, short) at c.scale-scaled.ensures in
     let next = few_more p c.loop-i.i c.loop-i.invariant.counted (c.from-clipped.ensures ∙ byte_is c.scale-scaled.result.clipped ∙ ap (λ (b : Bool). cond b 1 0) told.is_clipped) in
     record { fits = omega (arith, count_few p 0 (c.loop-i.i + 1), next) }
 
@@ -64,7 +64,7 @@ loop-i-preserved c =
     let back : to_z w64 (of_z w64 y) ≡ y = to_z-of_z {w = w64} (sfits_abs (omega arith)) in
     let short : to_z w32 (of_z w32 y) ≡ y = to_z-of_z {w = w32} (sfits_abs small) in
     let once : to_z w32 (of_z w32 (to_z w64 (of_z w64 y))) ≡ y = rw back short in
-    let told = rw (back, short, back) at c.scale-scaled.ensures in
+    let told = rw (back, short) at c.scale-scaled.ensures in
     let v = to_z w32 (of_z w32 c.scale-scaled.result.sample) in
     let v_is : v ≡ clamp (f i) = ap (λ (z : ℤ). to_z w32 (of_z w32 z)) told.is_sample ∙ to_z-of_z (clamp_fits (f i)) in
     record {

@@ -1,6 +1,6 @@
 use Rattle.std.proofs.Common.{◌+◌, ◌-◌, ◌*◌, ◌+ℤ◌, length}
 use Rattle.numbers.specs.Sums.{at0}
-use Rattle.lanes.specs.Lanes.{raised, arms, Written}
+use Rattle.lanes.specs.inner.Lanes.{raised, arms, Written}
 use Rattle.lanes.proofs.Arms.add.Given as goal
 
 abbrev pub invariant-loop-b : goal.invariant-loop-b

@@ -1,7 +1,7 @@
 use Rattle.std.proofs.Common.{rules, arith, ◌≡◌, ◌+◌, ◌-◌, ◌*◌, ◌^◌, to_z, of_z, w64}
 use Rattle.numbers.specs.Sums.{at0}
 use Rattle.reference.specs.Stages.{tap}
-use Rattle.lanes.specs.Lanes.{raised}
+use Rattle.lanes.specs.inner.Lanes.{raised}
 use Rattle.lanes.proofs.Pairs.{raised_size, fourths_size, fourths_none, fourths_more}
 use Rattle.lanes.proofs.Places.{added_none, added_then, lanes_then}
 use Rattle.lanes.proofs.Arms.fourths.Goals as goal

@@ -1,5 +1,5 @@
 use Rattle.std.proofs.Common.{◌+◌, ◌-◌}
-use Rattle.lanes.specs.Lanes.{raised, fourths, Added}
+use Rattle.lanes.specs.inner.Lanes.{raised, fourths, Added}
 use Rattle.lanes.proofs.Arms.fourths.Given as goal
 
 abbrev pub invariant-loop-k : goal.invariant-loop-k

@@ -1,5 +1,5 @@
 use Rattle.std.proofs.Common.{rules, arith, ◌+◌, ◌-◌, ◌*◌, ◌/◌, ◌^◌, refl, length}
-use Rattle.lanes.specs.Lanes.{raised}
+use Rattle.lanes.specs.inner.Lanes.{raised}
 use Rattle.lanes.proofs.Pairs.{raised_size, fourths_size, by_fourths}
 use Rattle.lanes.proofs.Places.{added_then, lanes_then}
 use Rattle.lanes.proofs.Arms.pairs.Goals as goal

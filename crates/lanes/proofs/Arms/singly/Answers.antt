@@ -1,7 +1,7 @@
 use Rattle.std.proofs.Common.{rules, arith, ◌≡◌, ◌+◌, ◌-◌, ◌*◌, ◌^◌, length, to_z, of_z, w64}
 use Rattle.numbers.specs.Sums.{at0}
 use Rattle.reference.specs.Stages.{tap}
-use Rattle.lanes.specs.Lanes.{raised}
+use Rattle.lanes.specs.inner.Lanes.{raised}
 use Rattle.lanes.proofs.Pairs.{raised_size, arms_size, arms_none, arms_more}
 use Rattle.lanes.proofs.Places.{added_none, added_then, lanes_then}
 use Rattle.lanes.proofs.Arms.singly.Goals as goal

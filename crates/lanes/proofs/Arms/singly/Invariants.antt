@@ -1,5 +1,5 @@
 use Rattle.std.proofs.Common.{◌+◌, ◌-◌}
-use Rattle.lanes.specs.Lanes.{raised, arms, Added}
+use Rattle.lanes.specs.inner.Lanes.{raised, arms, Added}
 use Rattle.lanes.proofs.Arms.singly.Given as goal
 
 abbrev pub invariant-loop-j : goal.invariant-loop-j

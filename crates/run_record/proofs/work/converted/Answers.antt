@@ -2,7 +2,7 @@ use Rattle.std.proofs.Common.{◌≡◌, arith, rules}
 use Rattle.reference.specs.Frames.{frame_count}
 use Rattle.reference.specs.Output.{all_samples, channel_samples}
 use Rattle.reference.proofs.Refusals.{some_channel, stored_frame, stored_count}
-use Rattle.run_record.specs.Calls.{present}
+use Rattle.run_record.specs.inner.Calls.{present}
 use Rattle.run_record.proofs.Same.{lent, slices_accepted, ran_places, ran_stats, ran_counts}
 use Rattle.run_record.proofs.work.converted.Goals as goal
 

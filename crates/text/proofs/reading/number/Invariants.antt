@@ -1,5 +1,5 @@
 use Rattle.std.proofs.Common.{◌+◌, Some, take}
-use Rattle.text.specs.Reading.{NumberRead}
+use Rattle.text.specs.inner.Reading.{NumberRead}
 use Rattle.text.proofs.reading.number.Given as goal
 
 -- what was read so far is a number

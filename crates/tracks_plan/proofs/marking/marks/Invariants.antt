@@ -1,6 +1,6 @@
 -- The marks of the first k tracks are written, and the next track begins at `place`.
 use Rattle.std.proofs.Common.{◌≡◌}
-use Rattle.numbers.specs.Lists.{Held}
+use Rattle.numbers.specs.inner.Lists.{Held}
 use Rattle.tracks.specs.Tracks.{heads_of, offset, data_start}
 use Rattle.tracks_plan.proofs.marking.marks.Given as goal
 

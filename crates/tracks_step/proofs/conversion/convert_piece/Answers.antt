@@ -1,4 +1,4 @@
-use Rattle.tracks_step.specs.Slices.{sliced}
+use Rattle.tracks_step.specs.inner.Slices.{sliced}
 use Rattle.tracks_step.proofs.Slicing.{part_is, rest_is, converted}
 use Rattle.tracks_step.proofs.conversion.convert_piece.Goals as goal
 

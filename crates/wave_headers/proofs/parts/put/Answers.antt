@@ -1,5 +1,5 @@
 use Rattle.std.proofs.Common.{ap, ◌∙◌}
-use Rattle.wav_header.specs.Parts as parts
+use Rattle.wav_header.specs.inner.Parts as parts
 use Rattle.wave_headers.specs.Headers as headers
 use Rattle.wave_headers.proofs.Putting.{plain_is, extensible_is, long_is, long_extensible_is, made}
 use Rattle.wave_headers.proofs.parts.put.Goals as goal

@@ -2,11 +2,11 @@ use Rattle.std.proofs.Common.{ℕ, true, ◌≡◌, ◌+◌, ◌*◌, ◌/◌, �
 use lib.Dec.{eqb}
 use lib.Seq.{length-take-le}
 use Rattle.reference.proofs.Frames.{frame_samples}
-use Rattle.routes.specs.Routes.{stride, first_byte, margin_from, block_length}
+use Rattle.routes.specs.inner.Routes.{stride, first_byte, margin_from, block_length}
 use Rattle.routes.proofs.Routes.{a_frame}
 use Rattle.numbers.proofs.Lists.{part_end}
 use Rattle.blocks.specs.declared.job.Job.{Job}
-use Rattle.blocks.specs.Jobs.{bytes_of, in_frame, in_run}
+use Rattle.blocks.specs.inner.Jobs.{job_bytes, in_frame, in_run}
 use Rattle.blocks.proofs.Places.{whole_blocks, some_taps, few_taps, margin_fits, block_fits}
 use Rattle.blocks.proofs.Sums.{run_few, even_frame, staged_begins, staged_gives, staged_near, blocks_none, blocks_more, front_of, at_end, ready_of}
 use Rattle.blocks.proofs.job.Job.channel.Goals as goal
@@ -38,7 +38,7 @@ loop-b-init g c =
     let last = length job.taps.now - 1 in
     let from = c.start-at.ensures.0 ∙ ap (λ z. first_byte job.conv.cutoff (margin_from job.conv.rate job.conv.cutoff last true (z + c.args.n))) c.samples_per_frame-spf.ensures.0 in
     blocks_none
-    (staged_begins (ready_of job) (bytes_of job c.args.channel) c.args.n last refl c.requires.place.2 from c.gather-at.ensures.value c.gather-at.ensures.held c.margin.ensures.held)
+    (staged_begins (ready_of job) (job_bytes job c.args.channel) c.args.n last refl c.requires.place.2 from c.gather-at.ensures.value c.gather-at.ensures.held c.margin.ensures.held)
     c.none-told.ensures
 
 -- the block's place in its frame, and in the run
@@ -52,20 +52,26 @@ ends job b spf m n l e f h =
 pub gather-at-requires-in-loop-b : goal.gather-at-requires-in-loop-b
 gather-at-requires-in-loop-b g c =
     let job = c.args.self.now in
-    let near = staged_near (ready_of job) _ (c.args.n + c.loop-b.b * c.block_length-m.result) c.loop-b.invariant.staged (omega (arith, ends job c.loop-b.b c.samples_per_frame-spf.result c.block_length-m.result c.args.n c.loop-b-test.true c.samples_per_frame-spf.ensures.0 c.block_length-m.ensures.0 c.requires.place.1, frame_samples job.conv.rate)) in
+    let near = staged_near (ready_of job) _ (c.args.n + c.loop-b.b * c.block_length-m.result) c.loop-b.invariant.staged
+    (omega (
+      arith,
+      ends job c.loop-b.b c.samples_per_frame-spf.result c.block_length-m.result c.args.n c.loop-b-test.true
+          c.samples_per_frame-spf.ensures.0 c.block_length-m.ensures.0 c.requires.place.1,
+      frame_samples job.conv.rate,
+    )) in
     (c.requires.place.0, near, c.fresh-new.ensures.1, omega (arith, block_fits job.conv.rate job.conv.cutoff (eqb c.loop-b.b 0), ap (λ z. stride job.conv.cutoff * z) c.fresh-new.ensures.0))
 
 pub write-more-requires-clause-held : goal.write-more-requires-clause-held
 write-more-requires-clause-held g c =
     let job = c.args.self.now in
-    let worked = staged_gives (ready_of job) (bytes_of job c.args.channel) (c.args.n + c.loop-b.b * c.block_length-m.result) c.loop-b.invariant.staged c.fresh-new.ensures.0
+    let worked = staged_gives (ready_of job) (job_bytes job c.args.channel) (c.args.n + c.loop-b.b * c.block_length-m.result) c.loop-b.invariant.staged c.fresh-new.ensures.0
     c.gather-at-in-loop-b.ensures.held c.gather-at-in-loop-b.ensures.value c.block.ensures in
     front_of c.block_length-m.result (omega arith) worked.0
 
 pub loop-b-preserved : goal.loop-b-preserved
 loop-b-preserved g c =
     let job = c.args.self.now in
-    let worked = staged_gives (ready_of job) (bytes_of job c.args.channel) (c.args.n + c.loop-b.b * c.block_length-m.result) c.loop-b.invariant.staged c.fresh-new.ensures.0
+    let worked = staged_gives (ready_of job) (job_bytes job c.args.channel) (c.args.n + c.loop-b.b * c.block_length-m.result) c.loop-b.invariant.staged c.fresh-new.ensures.0
     c.gather-at-in-loop-b.ensures.held c.gather-at-in-loop-b.ensures.value c.block.ensures in
     let long : length (take c.block_length-m.result c.block.new.y) ≡ c.block_length-m.result = length-take-le c.block_length-m.result c.block.new.y (omega arith) in
     let near = ends job c.loop-b.b c.samples_per_frame-spf.result c.block_length-m.result c.args.n c.loop-b-test.true c.samples_per_frame-spf.ensures.0 c.block_length-m.ensures.0 c.requires.place.1 in

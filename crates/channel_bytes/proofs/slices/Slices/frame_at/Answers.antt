@@ -1,7 +1,7 @@
 use Rattle.std.proofs.Common.{◌≡◌, ◌+◌, ◌-◌, ◌*◌, ◌/◌, refl, arith}
 use borrow.Author.Tests.{eq-eqb, ne_eqb, le-leb, lt-leb}
 use Rattle.reference.specs.Frames.{frame}
-use Rattle.channel_bytes.specs.Lent.{frame_part}
+use Rattle.channel_bytes.specs.inner.Lent.{frame_part}
 use Rattle.channel_bytes.proofs.slices.Slices.frame_at.Goals as goal
 
 pub returns-then-q-eq0 : goal.returns-then-q-eq0

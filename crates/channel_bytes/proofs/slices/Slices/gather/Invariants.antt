@@ -1,6 +1,6 @@
 use Rattle.std.proofs.Common.{length, ◌-◌, ◌≤◌}
-use Rattle.numbers.specs.Lists.{Held}
-use Rattle.channel_bytes.specs.Lent.{byte_at}
+use Rattle.numbers.specs.inner.Lists.{Held}
+use Rattle.channel_bytes.specs.inner.Lent.{byte_at}
 use Rattle.channel_bytes.proofs.slices.Slices.gather.Given as goal
 
 abbrev pub invariant-loop-k : goal.invariant-loop-k

@@ -1,0 +1,2 @@
+pub mod Dsf
+pub mod Orders

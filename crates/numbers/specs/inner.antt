@@ -1,0 +1,3 @@
+pub mod Extremes
+pub mod Lists
+pub mod Parts
