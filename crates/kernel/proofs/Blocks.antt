@@ -1,6 +1,5 @@
 -- A block of each route, from what its function ensures to what `block` does; and what the functions ask of the taps.
-use mathlib.Core.Path.{◌≡◌, refl, sym, ◌∙◌, ap}
-use mathlib.Core.Logic.{◌⊎◌, ⊎_elim}
+use mathlib.Core.Path.{◌≡◌, sym, ◌∙◌, ap}
 use mathlib.Core.Bool.{Bool, true, false}
 use mathlib.Core.List.{List, ◌++◌}
 use Prim.Native.Nat.{ℕ, ◌+◌, ◌-◌, ◌*◌, ◌/◌, ◌%◌, ◌≤◌}
@@ -11,22 +10,16 @@ use lib.ListN.{length, take, get_or-append}
 use lib.Seq.{get_or-take}
 use Rattle.numbers.specs.inner.Lists.{Held}
 use Rattle.numbers.proofs.Lists.{held_none}
-use Rattle.reference.specs.Taps.{S1, S1_WIDE, F40, F80}
+use Rattle.reference.specs.Taps.{S1_WIDE, F40, F80}
 use Rattle.reference.specs.Stages.{M, u, v, w, y_narrow, y_wide}
-use Rattle.reference.specs.declared.PcmRate.{PcmRate}
 use Rattle.reference.specs.declared.PcmRate.TheVariants.{Hz88200, Hz176400, Hz352800}
-use Rattle.reference.specs.declared.Cutoff.{Cutoff}
-use Rattle.reference.specs.declared.Cutoff.TheVariants.{Standard, Low, Wide}
 use Rattle.reference.proofs.Locality.{F40_last, F80_last}
-use Rattle.routes.specs.inner.Routes.{LowPass, HalvedFilter, halves_of, LastFilter, FirstTables, lent_taps, RouteTaps, SomeTaps, filter_input}
+use Rattle.routes.specs.declared.Route.{Route}
+use Rattle.routes.specs.declared.Route.TheVariants.{Narrow88, Narrow176, Narrow352, Wide176, Wide352}
+use Rattle.routes.specs.inner.Routes.{LowPass, HalvedFilter, halves_of, LastFilter, lent_taps, RouteTaps, SomeTaps, filter_input}
 use Rattle.routes.specs.inner.Routes.{stride, around, first_byte, fresh, margin_from, block_length, y_of, Kept, State, Brought}
-use Rattle.tables.specs.Tables.{ByteTables}
 use Rattle.routes.proofs.Arrays.{held_at}
 use Rattle.routes.proofs.Filters.{halves_length}
-
--- the cutoff is Standard or Low
-abbrev pub Narrow : Cutoff → Type 0
-Narrow cutoff = (cutoff ≡ Standard) ⊎ (cutoff ≡ Low)
 
 -- ---- parts
 
@@ -39,8 +32,8 @@ module _ {A : Type 0} {d : A} {f : ℕ → A} {a n : ℕ} {l : List A} (held : H
   first_held rest s = record { is = λ k q. get_or-append l rest d k (omega arith) ∙ held.is k q }
 
 -- ---- what `margin` ensures
-abbrev pub Margined : Cutoff → ℕ → List ℕ → List ℤ → Type 0
-Margined cutoff n bytes x = (β : ℕ → ℕ) (i : ℕ) → 10 ≤ i → Held 0 β (first_byte cutoff i) (stride cutoff * n + around cutoff) bytes → Held (pos 0) (filter_input cutoff β) i n x
+abbrev pub Margined : Route → ℕ → List ℕ → List ℤ → Type 0
+Margined route n bytes x = (β : ℕ → ℕ) (i : ℕ) → 10 ≤ i → Held 0 β (first_byte route i) (stride route * n + around route) bytes → Held (pos 0) (filter_input route β) i n x
 
 -- ---- places at 352,800, for a filter whose last tap is at place m
 first_byte_352 : (n m : ℕ) → 1000 ≤ n → m ≤ 116 → 2 * (n / 2 - 8 - m + 2 * m) - 19 ≡ 2 * (n / 2 + 176 - 184 + m) - 19
@@ -62,41 +55,23 @@ next_kept_352 : (n : ℕ) → 1000 ≤ n → n / 2 + 160 ≡ (n + 336) / 2 - 8
 next_kept_352 n l = omega arith
 
 -- ---- what `block` ensures of a route
-abbrev pub Blocked : PcmRate → Cutoff → Bool → List ℤ → List ℕ → List ℤ → List ℤ → List ℤ → List ℤ → List ℤ → Type 0
-Blocked rate cutoff first h bytes x kept x' kept' y =
-    (F : List ℤ) (β : ℕ → ℕ) (n : ℕ) → RouteTaps rate cutoff F h → 1000 ≤ n → Brought rate cutoff F first β n bytes → State rate cutoff F first β n x kept
-    → Held (pos 0) (y_of rate cutoff F β) n (block_length rate cutoff) y × State rate cutoff F false β (n + block_length rate cutoff) x' kept'
+abbrev pub Blocked : Route → Bool → List ℤ → List ℕ → List ℤ → List ℤ → List ℤ → List ℤ → List ℤ → Type 0
+Blocked route first h bytes x kept x' kept' y =
+    (F : List ℤ) (β : ℕ → ℕ) (n : ℕ) → RouteTaps route F h → 1000 ≤ n → Brought route F first β n bytes → State route F first β n x kept
+    → Held (pos 0) (y_of route F β) n (block_length route) y × State route F false β (n + block_length route) x' kept'
 
 module _ {h : List ℤ} {bytes : List ℕ} {x kept x' kept' y : List ℤ} where
   -- y in front of what its array held
-  pub blocked_front : (rate : PcmRate) (cutoff : Cutoff) (first : Bool) (rest : List ℤ) → block_length rate cutoff ≤ length y
-      → Blocked rate cutoff first h bytes x kept x' kept' y → Blocked rate cutoff first h bytes x kept x' kept' (y ++ rest)
-  blocked_front rate cutoff first rest l g F β n t m b s =
+  pub blocked_front : (route : Route) (first : Bool) (rest : List ℤ) → block_length route ≤ length y
+      → Blocked route first h bytes x kept x' kept' y → Blocked route first h bytes x kept x' kept' (y ++ rest)
+  blocked_front route first rest l g F β n t m b s =
       let r = g F β n t m b s in
       (first_held r.0 rest l, r.1)
-
-  as_low : (rate : PcmRate) (first : Bool) → Blocked rate Standard first h bytes x kept x' kept' y → Blocked rate Low first h bytes x kept x' kept' y
-  unfolding LastFilter lent_taps filter_input stride around first_byte fresh margin_from block_length y_of Kept
-  as_low Hz88200 first g F β n t m b s =
-      let r = g F β n (record { last = t.last; lent = t.lent }) m b (record { margin = s.margin; w_kept = tt }) in
-      (r.0, record { margin = r.1.margin; w_kept = tt })
-  as_low Hz176400 first g F β n t m b s =
-      let r = g F β n (record { last = t.last; lent = t.lent }) m b (record { margin = s.margin; w_kept = tt }) in
-      (r.0, record { margin = r.1.margin; w_kept = tt })
-  as_low Hz352800 true g F β n t m b s =
-      let r = g F β n (record { last = t.last; lent = t.lent }) m b (record { margin = s.margin; w_kept = s.w_kept }) in
-      (r.0, record { margin = r.1.margin; w_kept = r.1.w_kept })
-  as_low Hz352800 false g F β n t m b s =
-      let r = g F β n (record { last = t.last; lent = t.lent }) m b (record { margin = s.margin; w_kept = s.w_kept }) in
-      (r.0, record { margin = r.1.margin; w_kept = r.1.w_kept })
-
-  pub either_blocked : (rate : PcmRate) (cutoff : Cutoff) → Narrow cutoff → (first : Bool) → Blocked rate Standard first h bytes x kept x' kept' y → Blocked rate cutoff first h bytes x kept x' kept' y
-  either_blocked rate cutoff k first g = ⊎_elim (λ e. rw e g) (λ e. rw e (as_low rate first g)) k
 
   pub blocked_88 : (first : Bool)
       → ((F : List ℤ) (β : ℕ → ℕ) (n : ℕ) → LowPass F → h ≡ halves_of F → 1000 ≤ n → Held 0 β (2 * (2 * n + M F) - 19) 372 (take 372 bytes) → Held (pos 0) (v β) (2 * n - M F) (2 * M F) x
       → Held (pos 0) (y_narrow Hz88200 F β) n 84 y × Held (pos 0) (v β) (2 * (n + 84) - M F) (2 * M F) x')
-      → Blocked Hz88200 Standard first h bytes x kept x' kept' y
+      → Blocked Narrow88 first h bytes x kept x' kept' y
   unfolding LastFilter lent_taps filter_input stride around first_byte fresh margin_from block_length y_of Kept
   blocked_88 first g F β n t m b s =
       let few = t.last.few in
@@ -106,7 +81,7 @@ module _ {h : List ℤ} {bytes : List ℕ} {x kept x' kept' y : List ℤ} where
   pub blocked_176 : (first : Bool)
       → ((β : ℕ → ℕ) (n : ℕ) → 1000 ≤ n → Held 0 β (2 * (n + M h) - 19) 372 (take 372 bytes) → Held (pos 0) (v β) (n - M h) (2 * M h) x
       → Held (pos 0) (y_narrow Hz176400 h β) n 168 y × Held (pos 0) (v β) (n + 168 - M h) (2 * M h) x')
-      → Blocked Hz176400 Standard first h bytes x kept x' kept' y
+      → Blocked Narrow176 first h bytes x kept x' kept' y
   unfolding LastFilter lent_taps filter_input stride around first_byte fresh margin_from block_length y_of Kept
   blocked_176 first g F β n t m b s =
       let few = t.last.few in
@@ -115,11 +90,11 @@ module _ {h : List ℤ} {bytes : List ℕ} {x kept x' kept' y : List ℤ} where
       rw e (r.0, record { margin = r.1; w_kept = tt })
 
   -- k values of w are new
-  pub blocked_352 : (first : Bool) (k : ℕ) → k ≡ fresh Hz352800 Standard first
+  pub blocked_352 : (first : Bool) (k : ℕ) → k ≡ fresh Narrow352 first
       → ((β : ℕ → ℕ) (n : ℕ) → 1000 ≤ n → n % 2 ≡ 0 → Held 0 β (2 * (n / 2 + 176 - k + M h) - 19) (2 * k + 36) (take (2 * k + 36 - 0) bytes) → Held (pos 0) (v β) (n / 2 + 176 - k - M h) (2 * M h) x
       → Held (pos 0) (w h β) (n / 2 - 8) (184 - k) kept
       → Held (pos 0) (y_narrow Hz352800 h β) n 336 y × Held (pos 0) (v β) (n / 2 + 176 - M h) (2 * M h) x' × Held (pos 0) (w h β) (n / 2 + 160) 16 kept')
-      → Blocked Hz352800 Standard first h bytes x kept x' kept' y
+      → Blocked Narrow352 first h bytes x kept x' kept' y
   unfolding LastFilter lent_taps filter_input stride around first_byte fresh margin_from block_length y_of Kept
   blocked_352 true k is g F β n t m b s =
       let e : F ≡ h = sym t.lent in
@@ -137,7 +112,7 @@ module _ {h : List ℤ} {bytes : List ℕ} {x kept x' kept' y : List ℤ} where
   pub blocked_wide176 : (first : Bool)
       → ((β : ℕ → ℕ) (n : ℕ) → 1000 ≤ n → Held 0 β (2 * n + 110) 179 (take 179 bytes) → Held (pos 0) (u S1_WIDE β) (2 * n - 116) 232 x
       → Held (pos 0) (y_wide Hz176400 β) n 84 y × Held (pos 0) (u S1_WIDE β) (2 * (n + 84) - 116) 232 x')
-      → Blocked Hz176400 Wide first h bytes x kept x' kept' y
+      → Blocked Wide176 first h bytes x kept x' kept' y
   unfolding LastFilter lent_taps filter_input stride around first_byte fresh margin_from block_length y_of Kept
   blocked_wide176 first g F β n t m b s =
       let e : M F ≡ 116 = rw t.last F80_last in
@@ -147,71 +122,40 @@ module _ {h : List ℤ} {bytes : List ℕ} {x kept x' kept' y : List ℤ} where
   pub blocked_wide352 : (first : Bool)
       → ((β : ℕ → ℕ) (n : ℕ) → 1000 ≤ n → Held 0 β (n + 54) 347 (take 347 bytes) → Held (pos 0) (u S1_WIDE β) (n - 60) 120 x
       → Held (pos 0) (y_wide Hz352800 β) n 336 y × Held (pos 0) (u S1_WIDE β) (n + 336 - 60) 120 x')
-      → Blocked Hz352800 Wide first h bytes x kept x' kept' y
+      → Blocked Wide352 first h bytes x kept x' kept' y
   unfolding LastFilter lent_taps filter_input stride around first_byte fresh margin_from block_length y_of Kept
   blocked_wide352 first g F β n t m b s =
       let e : M F ≡ 60 = rw t.last F40_last in
       let r = g β n m (held_at _ (omega arith) (front_held b 347 (omega arith))) (rw e at s.margin) in
       (r.0, record { margin = rw e r.1; w_kept = tt })
 
--- ---- Standard and Low share an arm: what it is asked and what it gives is Standard's
-
-pub either_tables : (cutoff : Cutoff) → Narrow cutoff → {t : List ℤ} → FirstTables cutoff t → ByteTables S1 8 t
-unfolding FirstTables
-either_tables cutoff k b = ⊎_elim (λ e. rw e at b) (λ e. rw e at b) k
-
-low_fresh : (first : Bool) → fresh Hz352800 Low first ≡ fresh Hz352800 Standard first
-unfolding fresh
-low_fresh true = refl
-low_fresh false = refl
-
-pub either_fresh : (cutoff : Cutoff) → Narrow cutoff → (first : Bool) → fresh Hz352800 cutoff first ≡ fresh Hz352800 Standard first
-either_fresh cutoff k first = ⊎_elim (λ e. rw e refl) (λ e. rw e (low_fresh first)) k
-
-pub fresh_few : (first : Bool) → (168 ≤ fresh Hz352800 Standard first) × (fresh Hz352800 Standard first ≤ 184)
+pub fresh_few : (first : Bool) → (168 ≤ fresh Narrow352 first) × (fresh Narrow352 first ≤ 184)
 unfolding fresh
 fresh_few true = (lit≤ tt, lit≤ tt)
 fresh_few false = (lit≤ tt, lit≤ tt)
 
-lent_low : (rate : PcmRate) (F : List ℤ) → lent_taps rate Low F ≡ lent_taps rate Standard F
-unfolding lent_taps
-lent_low Hz88200 F = refl
-lent_low Hz176400 F = refl
-lent_low Hz352800 F = refl
+-- ---- what the functions ask of the taps
 
 module _ {h : List ℤ} where
-  low_taps : (rate : PcmRate) → SomeTaps rate Low h → SomeTaps rate Standard h
-  unfolding LastFilter
-  low_taps rate t = record { F = t.F; taps = record { last = t.taps.last; lent = t.taps.lent ∙ lent_low rate t.F } }
-
-  pub either_taps : (rate : PcmRate) (cutoff : Cutoff) → Narrow cutoff → SomeTaps rate cutoff h → SomeTaps rate Standard h
-  either_taps rate cutoff k t = ⊎_elim (λ e. rw e at t) (λ e. low_taps rate (rw e at t)) k
-
-  pub halved_taps : SomeTaps Hz88200 Standard h → HalvedFilter h
+  pub halved_taps : SomeTaps Narrow88 h → HalvedFilter h
   unfolding LastFilter lent_taps
   halved_taps t =
       let f = t.taps.last in
       let long = halves_length t.F t.taps.lent in
       record { some = omega (arith, f.some, long); few = omega (arith, f.few, long); F = t.F; halved = t.taps.lent; keeps = f.keeps; small = omega (arith, f.small) }
 
-  pub plain_176 : SomeTaps Hz176400 Standard h → LowPass h
+  pub plain_176 : SomeTaps Narrow176 h → LowPass h
   unfolding LastFilter lent_taps
   plain_176 t = rw t.taps.lent t.taps.last
 
-  pub plain_352 : SomeTaps Hz352800 Standard h → LowPass h
+  pub plain_352 : SomeTaps Narrow352 h → LowPass h
   unfolding LastFilter lent_taps
   plain_352 t = rw t.taps.lent t.taps.last
 
--- Wide
-module _ {h : List ℤ} where
-  pub no_wide_88 : SomeTaps Hz88200 Wide h → ⊥
-  unfolding LastFilter
-  no_wide_88 t = t.taps.last
-
-  pub wide_176 : SomeTaps Hz176400 Wide h → h ≡ halves_of F80
+  pub wide_176 : SomeTaps Wide176 h → h ≡ halves_of F80
   unfolding LastFilter lent_taps
   wide_176 t = t.taps.lent ∙ ap halves_of t.taps.last
 
-  pub wide_352 : SomeTaps Hz352800 Wide h → h ≡ F40
+  pub wide_352 : SomeTaps Wide352 h → h ≡ F40
   unfolding LastFilter lent_taps
   wide_352 t = t.taps.lent ∙ t.taps.last

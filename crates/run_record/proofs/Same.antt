@@ -104,6 +104,7 @@ module _ (conv : Converter) (hb : Bool) (b f : List â„•) (ha : Bool) (a : List â
   slices_accepted h long =
       record {
         slices = lent;
+        supported = supported conv ok.opens;
         few_taps = few_taps conv.filter (filtered conv ok.opens);
         last = last_filter conv.rate conv.cutoff (taps_of conv.filter) (low_pass conv.filter (filtered conv ok.opens) long) (supported conv ok.opens);
         factor = right_bounded conv.gain h (right conv ok.opens);

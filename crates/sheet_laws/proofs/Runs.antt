@@ -37,8 +37,8 @@ use Rattle.sheet_laws.proofs.Fitting.{SmallExtremes, Small, sheet_fits}
 module _ (conv : Converter) (r : Run) (held : ConverterHeld conv) (ok : AcceptedConverter conv) (fits : AcceptedRun conv r) where
   y_small : (β : ℕ → ℕ) (n : ℕ) → nat_abs (y conv.rate conv.cutoff (taps_of conv.filter) β n) < 2 ^ 30
   y_small β n =
-      rw (← y_of_is conv.rate conv.cutoff (taps_of conv.filter) β n)
-      (y_of_size conv.rate conv.cutoff _ (last_filter conv.rate conv.cutoff (taps_of conv.filter) (low_pass conv.filter (filtered conv ok.opens) held.1) (supported conv ok.opens)) β n)
+      rw (← y_of_is conv.rate conv.cutoff (taps_of conv.filter) (supported conv ok.opens) β n)
+      (y_of_size _ _ (last_filter conv.rate conv.cutoff (taps_of conv.filter) (low_pass conv.filter (filtered conv ok.opens) held.1) (supported conv ok.opens)) β n)
 
   -- ---- sizes
   scaled_within : (y : ℤ) → nat_abs y < 2 ^ 30 → nat_abs (scaled conv.gain.linear y) < 10 ^ 11

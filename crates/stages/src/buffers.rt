@@ -62,6 +62,7 @@ fn put_v(
 
 // n values of u of Wide to x, after its first m.
 #[inline(always)]
+#[tactic(auto, using(crate::proofs::Entries::S1_WIDE_small))]
 fn put_u(tables: &[i32], bytes: &[u8], x: &mut [i64], m: usize, n: usize)
     requires byte_tables { ByteTables S1_WIDE 12 tables.now }
     requires room { (n ≤ 400) × (m + n ≤ length x.old) × (length bytes.now ≡ n + 11) }
@@ -70,7 +71,7 @@ fn put_u(tables: &[i32], bytes: &[u8], x: &mut [i64], m: usize, n: usize)
     ensures held { (β : ℕ → ℕ) (i : ℕ) → 6 ≤ i + m → Held 0 β (i + m - 6) (n + 11) bytes.now → Held (pos 0) (u S1_WIDE β) i m x.old → Held (pos 0) (u S1_WIDE β) i (m + n) x.new }
     ensures rest { (k : ℕ) → m + n ≤ k → get_or x.new k (pos 0) ≡ get_or x.old k (pos 0) }
 {
-    first_stage::first_stage(tables, 6, bytes, 0, 1, &mut x[m..m + n]);
+    first_stage::first_stage::<6>(tables, bytes, 0, 1, &mut x[m..m + n]);
 }
 
 impl Buffers {

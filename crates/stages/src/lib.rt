@@ -19,6 +19,7 @@ pub use buffers::Buffers;
 
 // v(i), v(i + 1), .., from the bytes around them, those from position 2i - 19 on: u(2i), u(2i + 2), .. go to the same
 // places first, u(2i - 15), u(2i - 13), .. to `odd`. The half band's sizes are lent.
+#[tactic(auto, using(crate::proofs::Entries::S1_small))]
 pub fn half_band(
     tables: &[i32],
     sizes: &[u32],
@@ -35,8 +36,8 @@ pub fn half_band(
     ensures small { Small (2 ^ 27) out.new }
     ensures by_index { (β : ℕ → ℕ) (i : ℕ) → 10 ≤ i → Held 0 β (2 * i - 19) (length bytes.now) bytes.now → Held (pos 0) (v β) i (length out.old) out.new }
 {
-    first_stage::first_stage(tables, 4, bytes, 15, 2, out);
-    first_stage::first_stage(tables, 4, bytes, 0, 2, odd);
+    first_stage::first_stage::<4>(tables, bytes, 15, 2, out);
+    first_stage::first_stage::<4>(tables, bytes, 0, 2, odd);
     band::half(out, sizes, odd, lifted);
 }
 

@@ -27,7 +27,7 @@ gather-at-requires g c =
     let job = c.args.self.now in
     let few = run_few job.conv (ready_of job).slices in
     let last = few_taps job.last in
-    (omega arith, omega arith, omega arith, margin_fits job.conv.cutoff (length job.taps.now - 1) (omega arith))
+    (omega arith, omega arith, omega arith, margin_fits job.route (length job.taps.now - 1) (omega arith))
 
 pub margin-requires-clause-n_bound : goal.margin-requires-clause-n_bound
 margin-requires-clause-n_bound g c = (omega (arith, few_taps c.args.self.now.last), c.gather-at.auto.bytes)
@@ -36,16 +36,16 @@ pub loop-b-init : goal.loop-b-init
 loop-b-init g c =
     let job = c.args.self.now in
     let last = length job.taps.now - 1 in
-    let from = c.start-at.ensures.0 ∙ ap (λ z. first_byte job.conv.cutoff (margin_from job.conv.rate job.conv.cutoff last true (z + c.args.n))) c.samples_per_frame-spf.ensures.0 in
+    let from = c.start-at.ensures.0 ∙ ap (λ z. first_byte job.route (margin_from job.route last true (z + c.args.n))) c.samples_per_frame-spf.ensures.0 in
     blocks_none
     (staged_begins (ready_of job) (job_bytes job c.args.channel) c.args.n last refl c.requires.place.2 from c.gather-at.ensures.value c.gather-at.ensures.held c.margin.ensures.held)
     c.none-told.ensures
 
 -- the block's place in its frame, and in the run
-ends : (job : Job) (b spf m n : ℕ) → b < spf / m → spf ≡ in_frame job → m ≡ block_length job.conv.rate job.conv.cutoff → n + in_frame job ≤ in_run job
+ends : (job : Job) (b spf m n : ℕ) → b < spf / m → spf ≡ in_frame job → m ≡ block_length job.route → n + in_frame job ≤ in_run job
     → (b * m + m ≤ spf) × (n + b * m + m ≤ in_run job) × (in_run job ≤ 540000 * 4704)
 ends job b spf m n l e f h =
-    let whole : spf / m * m ≡ spf = rw (e, f) (whole_blocks job.conv.rate job.conv.cutoff) in
+    let whole : spf / m * m ≡ spf = rw (e, f) (whole_blocks job.routed) in
     let last = part_end b (spf / m) m l in
     (omega arith, omega arith, run_few job.conv (ready_of job).slices)
 
@@ -59,7 +59,7 @@ gather-at-requires-in-loop-b g c =
           c.samples_per_frame-spf.ensures.0 c.block_length-m.ensures.0 c.requires.place.1,
       frame_samples job.conv.rate,
     )) in
-    (c.requires.place.0, near, c.fresh-new.ensures.1, omega (arith, block_fits job.conv.rate job.conv.cutoff (eqb c.loop-b.b 0), ap (λ z. stride job.conv.cutoff * z) c.fresh-new.ensures.0))
+    (c.requires.place.0, near, c.fresh-new.ensures.1, omega (arith, block_fits job.route (eqb c.loop-b.b 0), ap (λ z. stride job.route * z) c.fresh-new.ensures.0))
 
 pub write-more-requires-clause-held : goal.write-more-requires-clause-held
 write-more-requires-clause-held g c =
@@ -80,5 +80,5 @@ loop-b-preserved g c =
 pub returns : goal.returns
 returns g c =
     let job = c.args.self.now in
-    let whole = at_end job.conv.rate job.conv.cutoff {b = c.loop-b.b} c.samples_per_frame-spf.ensures.0 c.block_length-m.ensures.0 (omega arith) in
+    let whole = at_end job.routed {b = c.loop-b.b} c.samples_per_frame-spf.ensures.0 c.block_length-m.ensures.0 (omega arith) in
     rw whole at c.loop-b.invariant.made
