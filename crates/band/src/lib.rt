@@ -5,9 +5,10 @@ ghost use Rattle.std.specs.Prelude.{◌≡◌, ℕ, ◌+◌, ◌-◌, ◌*◌, �
 ghost use Rattle.numbers.specs.Sums.{at0};
 ghost use Rattle.reference.specs.Rounding.{R};
 ghost use Rattle.reference.specs.Taps.{HB};
-ghost use Rattle.lanes.specs.inner.Lanes.{Small, Filled, raised, arms, Low, Lanes, Added, Written};
+ghost use Rattle.numbers.specs.inner.Lists.{Held, Written};
+ghost use Rattle.lanes.specs.inner.Lanes.{Small, Filled, raised, arms, Low, Lanes, Added};
 ghost use Rattle.filters.specs.inner.Filters.{odd_taps, alone, half_rate, middle, Fit};
-ghost use Rattle.band.specs.inner.Bands.{odd_sizes, signed, band_sum, Hold, Whole};
+ghost use Rattle.band.specs.inner.Bands.{odd_sizes, signed, band_sum, Whole};
 ghost use Rattle.filters.specs.inner.Lifts.{lifted, rounded, Sums};
 
 // The sizes of HB's odd taps, lent, and a copy of the odd places.
@@ -32,7 +33,7 @@ fn halved(a: i64) -> i64
 fn centre<const L: usize>(y: &[i64], i: usize) -> [i64; L]
     requires i_in_bounds { i + L ≤ length y.now }
     requires by_index { (k : ℕ) → i ≤ k → nat_abs (at0 y.now k) ≤ 2 ^ 29 }
-    ensures { Hold L (λ l. pos 8388608 *ℤ lifted y.now (i + l)) result }
+    ensures { Held (pos 0) (λ k. pos 8388608 *ℤ lifted y.now k) i L result }
 {
     let mut s = [0i64; L];
     for l in 0..L {
@@ -105,7 +106,7 @@ fn eight<const L: usize>(acc: [i64; L], band: Band, i: usize) -> [i64; L]
 fn round<const L: usize, const Q: u32>(y: &mut [i64], i: usize, s: [i64; L])
     requires i_in_bounds { (i + L ≤ length y.old) × (1 ≤ Q) × (Q ≤ 52) }
     requires sums { Sums L s }
-    ensures { Written (λ k. rounded Q s.entry (k - i)) i (i + L) y.old y.new }
+    ensures { Written (pos 0) (λ l. i + l) (rounded Q s.entry) L y.old y.new }
 {
     for l in 0..L {
         y[i + l] = rounding::div_round::<Q>(s[l]);
@@ -117,7 +118,7 @@ fn block<const L: usize, const Q: u32>(y: &mut [i64], i: usize, band: Band)
     requires i_in_bounds { (i + L ≤ length y.old) × (i + L + 15 ≤ length band.v.now) × (length band.v.now ≤ 512) × (1 ≤ Q) × (Q ≤ 52) }
     requires by_index { (k : ℕ) → i ≤ k → nat_abs (at0 y.old k) ≤ 2 ^ 29 }
     requires whole { Whole (band_sum y.old band.v.now) i (i + L) }
-    ensures { Written (λ k. R (band_sum y.old band.entry.v.now k -ℤ pos (2 ^ 53)) Q) i (i + L) y.old y.new }
+    ensures { Written (pos 0) (λ l. i + l) (λ l. R (band_sum y.old band.entry.v.now (i + l) -ℤ pos (2 ^ 53)) Q) L y.old y.new }
 {
     let s = eight(centre::<L>(y, i), band, i);
     round::<L, Q>(y, i, s);

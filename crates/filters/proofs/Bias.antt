@@ -6,6 +6,7 @@ use native.Mathlib.Omega.{arith}
 use lib.IntN.{ℤ, pos, neg_ℤ, nat_abs, ◌+ℤ◌, ◌-ℤ◌, ◌*ℤ◌, +ℤ_assoc, +ℤ_idr, +ℤ_invr}
 use lib.ListN.{length}
 use Rattle.numbers.specs.Sums.{sum_to, at0}
+use Rattle.numbers.proofs.Lists.{written_as}
 use Rattle.numbers.proofs.Integers.{pp, nn, zext, add_parts, abs_parts, +ℤ-left-comm, add_mul}
 use Rattle.reference.specs.Rounding.{R}
 use Rattle.reference.specs.Stages.{tap, M, fir}
@@ -13,7 +14,7 @@ use Rattle.lanes.specs.inner.Lanes.{Filled, raised, arms}
 use Rattle.filters.specs.inner.Filters.{alone, between_by, same_rate, middle, half_rate, Fit, ones, UnityGain, Phases, Between}
 use Rattle.filters.specs.inner.Lifts.{lifted, Raised, Sums, rounded}
 use Rattle.filters.proofs.Pairs.{fir_is, between_is, fir_same, between_same, fir_lift, between_lift}
-use Rattle.filters.proofs.Places.{filled_as, filled_then, filled_again}
+use Rattle.filters.proofs.Places.{filled_then, filled_again}
 
 pub back : (z c : ℤ) → z +ℤ c -ℤ c ≡ z
 back z c = +ℤ_assoc z c (neg_ℤ c) ∙ ap (λ (k : ℤ). z +ℤ k) (+ℤ_invr c) ∙ +ℤ_idr z
@@ -32,14 +33,14 @@ module _ (F : ℕ → ℤ) {old new : List ℤ} (u : Filled (λ k. F k +ℤ pos 
       }
     where
       value : (k : ℕ) → k < length old → at0 new k ≡ pos (2 ^ 53 + pp (F k) - nn (F k))
-      value k m = u.is k m ∙ up_is (F k) (2 ^ 53) (b.fits k m)
+      value k m = u.done k m ∙ up_is (F k) (2 ^ 53) (b.fits k m)
 
   pub filled_round : (q : ℕ) {rounds : List ℤ} → Filled (rounded q new) new rounds → Filled (λ k. R (F k) q) old rounds
   unfolding rounded
   filled_round q w =
       filled_again u
-      (filled_as w
-      (λ k m. ap (λ (v : ℤ). R (v -ℤ pos (2 ^ 53)) q) (u.is k (omega (arith, u.same))) ∙ ap (λ (v : ℤ). R v q) (back (F k) (pos (2 ^ 53)))))
+      (written_as w
+      (λ k m. ap (λ (v : ℤ). R (v -ℤ pos (2 ^ 53)) q) (u.done k (omega (arith, u.same))) ∙ ap (λ (v : ℤ). R v q) (back (F k) (pos (2 ^ 53)))))
 
 -- ---- the steps
 
@@ -59,7 +60,7 @@ fir_filled h x v long a c p =
 pub alone_filled : (x : List ℤ) {old new : List ℤ} → Filled (λ k. pos 8388608 *ℤ lifted x k) old new → Filled (λ k. fir alone (lifted x) (k + 0)) old new
 unfolding arms sum_to
 alone_filled x c =
-    filled_as c
+    written_as c
     (λ k m.
     let e : k + 0 ≡ k = omega arith in
     rw e (sym (fir_is alone (lifted x) k (omega arith) ∙ +ℤ_idr (pos 8388608 *ℤ lifted x k))))
@@ -77,7 +78,7 @@ middle_gain h x v n long a k m =
 -- ---- the lift in all is 2^53
 pub same_filled : (h x : List ℤ) {old new : List ℤ} → UnityGain h → Filled (λ k. fir h (lifted x) (k + M h)) old new → Filled (λ k. same_rate h x k +ℤ pos (2 ^ 53)) old new
 unfolding same_rate
-same_filled h x f c = filled_as c (λ k m. fir_lift h x (k + M h) ∙ ap (λ (z : ℤ). fir h (at0 x) (k + M h) +ℤ z *ℤ pos (2 ^ 29)) f.whole)
+same_filled h x f c = written_as c (λ k m. fir_lift h x (k + M h) ∙ ap (λ (z : ℤ). fir h (at0 x) (k + M h) +ℤ z *ℤ pos (2 ^ 29)) f.whole)
 
 -- its taps are those of a filter
 pub same_sums : (h x : List ℤ) (v : List ℕ) {y₀ y₁ y₂ : List ℤ} → UnityGain h → length y₀ + 2 * M h ≤ length x → Raised (length x) x v

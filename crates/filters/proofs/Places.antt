@@ -1,4 +1,4 @@
--- Loops that set places of a list one after the other, and what the lanes hold then.
+-- Whole lists filled, the copy, and every second value.
 use mathlib.Core.Path.{◌≡◌, sym, ◌∙◌, ap}
 use mathlib.Core.List.{List}
 use mathlib.Core.Logic.{⊎_elim}
@@ -10,28 +10,25 @@ use lib.ListN.{length, get_or, set, replicate, length-replicate, get_or-replicat
 use lib.Seq.{get_or-set_same, get_or-set_other}
 use Rattle.numbers.specs.Sums.{at0}
 use Rattle.numbers.proofs.Integers.{abs_add}
-use Rattle.numbers.proofs.Lists.{below_or, length_tabulate, get_d_tabulate}
+use Rattle.numbers.proofs.Lists.{below_or, written_all, length_tabulate, get_d_tabulate}
 use Rattle.lanes.specs.inner.Lanes.{Small, Filled, raised, Low}
 use Rattle.filters.specs.inner.Filters.{seconds}
 use Rattle.filters.specs.inner.Lifts.{lifted, Raised}
 
 -- ---- whole lists
-pub filled_as : {f g : ℕ → ℤ} {old new : List ℤ} → Filled f old new → ((k : ℕ) → k < length old → f k ≡ g k) → Filled g old new
-filled_as u e = record { same = u.same; is = λ k m. u.is k m ∙ e k m }
 
 -- every place has gained g
 pub filled_then : {f m : ℕ → ℤ} (g : ℕ → ℤ) {a b c : List ℤ} → Filled f a b → Filled (λ k. at0 b k +ℤ g k) b c → ((k : ℕ) → k < length a → f k +ℤ g k ≡ m k) → Filled m a c
-filled_then g u w e =
-    record { same = w.same ∙ u.same; is = λ k l. w.is k (omega (arith, u.same)) ∙ ap (λ (z : ℤ). z +ℤ g k) (u.is k l) ∙ e k l }
+filled_then g u w e = written_all (w.same ∙ u.same) (λ k l. w.done k (omega (arith, u.same)) ∙ ap (λ (z : ℤ). z +ℤ g k) (u.done k l) ∙ e k l)
 
 -- every place has been written anew
 pub filled_again : {f g : ℕ → ℤ} {a b c : List ℤ} → Filled f a b → Filled g b c → Filled g a c
-filled_again u w = record { same = w.same ∙ u.same; is = λ k l. w.is k (omega (arith, u.same)) }
+filled_again u w = written_all (w.same ∙ u.same) (λ k l. w.done k (omega (arith, u.same)))
 
 pub filled_small : {f : ℕ → ℤ} {old new : List ℤ} (B : ℕ) → Filled f old new → ((k : ℕ) → nat_abs (f k) ≤ B) → Small B new
 filled_small {old} {new} B u e =
     record {
-      size = λ k. ⊎_elim (λ l. rw (u.is k l) (e k)) (λ l. rw (get_or-eq_default {A = ℤ} new (pos 0) {n = k} (omega (arith, u.same))) (omega arith)) (below_or k (length old));
+      size = λ k. ⊎_elim (λ l. rw (u.done k l) (e k)) (λ l. rw (get_or-eq_default {A = ℤ} new (pos 0) {n = k} (omega (arith, u.same))) (omega arith)) (below_or k (length old));
     }
 
 pub gained_small : (g : ℕ → ℤ) {old new : List ℤ} {A G : ℕ} (B : ℕ) → Filled (λ k. at0 old k +ℤ g k) old new → Small A old → ((k : ℕ) → nat_abs (g k) ≤ G) → A + G ≤ B → Small B new

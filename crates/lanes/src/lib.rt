@@ -5,7 +5,8 @@
 
 ghost use Rattle.std.specs.Prelude.{◌≡◌, ℕ, ◌+◌, ◌*◌, ◌-◌, ◌^◌, ◌≤◌, ◌<◌, pos, nat_abs, ◌+ℤ◌, ◌*ℤ◌, length};
 ghost use Rattle.numbers.specs.Sums.{at0};
-ghost use Rattle.lanes.specs.inner.Lanes.{Small, Filled, raised, arms, fourths, Low, Lanes, Added, Written};
+ghost use Rattle.numbers.specs.inner.Lists.{Written};
+ghost use Rattle.lanes.specs.inner.Lanes.{Small, Filled, raised, arms, fourths, Low, Lanes, Added};
 
 // s + h * w
 pub fn tap1(s: i64, h: i64, w: u64) -> i64
@@ -147,8 +148,8 @@ impl<'a> Arms<'a> {
     fn add_block<const L: usize>(self, y: &mut [i64], i: usize, from: usize)
         requires i_in_bounds { (i + L ≤ length y.old) × (from ≤ length self.h.now) × (self.end + i + L ≤ length self.v.now + 1) × (self.up + i + length self.h.now + L ≤ length self.v.now + 1) }
         requires by_index { (k : ℕ) → i ≤ k → nat_abs (at0 y.old k) ≤ (127 - length self.h.now) * 2 ^ 56 }
-        ensures { Written (λ k. at0 y.old k +ℤ arms self.entry.h.now (raised self.entry.v.now)
-            from (self.entry.end + k - 1) (self.entry.up + k) (length self.entry.h.now - from)) i (i + L) y.old y.new }
+        ensures { Written (pos 0) (λ l. i + l) (λ l. at0 y.old (i + l) +ℤ arms self.entry.h.now (raised self.entry.v.now)
+            from (self.entry.end + (i + l) - 1) (self.entry.up + (i + l)) (length self.entry.h.now - from)) L y.old y.new }
     {
         let mut s = [0i64; L];
         s.copy_from_slice(&y[i..i + L]);

@@ -2,7 +2,7 @@
 use mathlib.Core.Path.{◌≡◌, refl, sym, ap, ap₂, ◌∙◌}
 use mathlib.Core.Logic.{◌⊎◌, inl, inr, ⊎_elim}
 use mathlib.Core.List.{List}
-use Prim.Native.Nat.{ℕ, zero, suc, ◌+◌, ◌*◌, ◌/◌, ◌%◌, ◌^◌, ◌≤◌, ◌<◌}
+use Prim.Native.Nat.{ℕ, ◌+◌, ◌*◌, ◌/◌, ◌%◌, ◌^◌, ◌≤◌, ◌<◌}
 use native.Mathlib.Nat.{mod-lt, div-add-mod', div-lt_iff_lt-mul, eq-or-lt_of_le}
 use native.Mathlib.Omega.{arith}
 use lib.Arith.{digits_lt, digits_div, digits_mod}
@@ -11,12 +11,11 @@ use lib.Signed.{mag}
 use mir.Syntax.{w32}
 use mir.Val.{SFits, to_z, of_z}
 use mir.Facts.{to_z-of_z}
-use lib.Seq.{get_or-set_same, get_or-set_other}
-use lib.ListN.{length, get_or, set, length-set}
+use lib.ListN.{length, get_or, set}
 use Rattle.numbers.specs.Lists.{tabulate}
-use Rattle.numbers.specs.inner.Lists.{Held}
+use Rattle.numbers.specs.inner.Lists.{Held, Written}
 use native.Mathlib.Nat.{mul_comm, mul-le-mul_left}
-use Rattle.numbers.proofs.Lists.{below_or, is_tabulate, get_d_tabulate, length_tabulate}
+use Rattle.numbers.proofs.Lists.{below_or, is_tabulate, get_d_tabulate, length_tabulate, written_none, written_more}
 use Rattle.reference.specs.Output.{low24, s24le}
 use Rattle.output.specs.inner.Fills.{Fills, Layout, items, byte_layout, third, Put, place_of, Drawn, Room, written}
 
@@ -53,18 +52,21 @@ module _ {A : Type 0} (o : Layout A) (some : 0 < o.width) (S : ℕ → ℕ → �
   one_sample {n} {c} {v} {x} {y} m e p =
       record {
         same = p.same;
-        kept = λ j h. ⊎_elim (here j) (λ away. p.others j away ∙ h) (same_or (j / o.width) (n * ch + c));
+        kept = λ j h. ⊎_elim (here j) (λ away. p.kept j (λ b l e. away (item_of j b l e)) ∙ h) (same_or (j / o.width) (n * ch + c));
         done = λ j a b q r.
             let row : j / o.width / ch ≡ n = omega arith in
             let col : j / o.width % ch ≡ c = omega arith in
             here j (sym (div-add-mod' (j / o.width) ch) ∙ rw (row, col));
       }
     where
+      item_of : (j b : ℕ) → b < o.width → j ≡ o.width * (n * ch + c) + b → j / o.width ≡ n * ch + c
+      item_of j b l e = ap (λ (k : ℕ). k / o.width) (e ∙ ap (λ (k : ℕ). k + b) (mul_comm o.width (n * ch + c))) ∙ digits_div (n * ch + c) l
+
       here : (j : ℕ) → j / o.width ≡ n * ch + c → get_or y j o.past ≡ place_of o ch S j
       here j h =
           let split : o.width * (n * ch + c) + j % o.width ≡ j = ap (λ (k : ℕ). k + j % o.width) (mul_comm o.width (n * ch + c) ∙ ap (λ (k : ℕ). k * o.width) (sym h)) ∙ div-add-mod' j o.width in
           ap (λ (k : ℕ). get_or y k o.past) (sym split)
-          ∙ p.here (j % o.width) (mod-lt j some)
+          ∙ p.done (j % o.width) (mod-lt j some)
           ∙ ap (λ (z : ℤ). o.part z (j % o.width)) (e ∙ sym (ap₂ S (digits_mod n m) (digits_div n m)))
           ∙ ap (λ (k : ℕ). o.part (S (k % ch) (k / ch)) (j % o.width)) (sym h)
 
@@ -109,33 +111,10 @@ module _ (v : ℤ) (fits : SFits w32 v) where
 
 -- the three bytes of a sample, set one by one
 pub three_bytes : (x : List ℕ) (k : ℕ) (v : ℤ) → 3 * k + 3 ≤ length x → Put byte_layout k v x (set (set (set x (3 * k) (third v 0)) (3 * k + 1) (third v 1)) (3 * k + 2) (third v 2))
-three_bytes x k v room =
-    record {
-      same = simp length-set;
-      here = at;
-      others = λ j away. other j away;
-    }
+three_bytes x k v room = set_at (3 * k + 2) (set_at (3 * k + 1) (set_at (3 * k) written_none (omega arith) (omega arith)) refl (omega arith)) refl (omega arith)
   where
-    y : List ℕ
-    y = set x (3 * k) (third v 0)
-
-    z : List ℕ
-    z = set y (3 * k + 1) (third v 1)
-
-    at : (b : ℕ) → b < 3 → get_or (set z (3 * k + 2) (third v 2)) (3 * k + b) 0 ≡ third v b
-    at zero l =
-        let e : 3 * k + 0 ≡ 3 * k = omega arith in
-        rw e (get_or-set_other z (3 * k + 2) (3 * k) (third v 2) 0 (omega arith)
-        ∙ get_or-set_other y (3 * k + 1) (3 * k) (third v 1) 0 (omega arith) ∙ get_or-set_same x (3 * k) (third v 0) 0 (omega arith))
-    at (suc zero) l = get_or-set_other z (3 * k + 2) (3 * k + 1) (third v 2) 0 (omega arith) ∙ get_or-set_same y (3 * k + 1) (third v 1) 0 (simp length-set (omega arith))
-    at (suc (suc zero)) l = get_or-set_same z (3 * k + 2) (third v 2) 0 (simp length-set (omega arith))
-    at (suc (suc (suc b))) l = absurd (omega arith)
-
-    other : (j : ℕ) → (j / 3 ≡ k → ⊥) → get_or (set z (3 * k + 2) (third v 2)) j 0 ≡ get_or x j 0
-    other j away =
-        get_or-set_other z (3 * k + 2) j (third v 2) 0 (λ e. away (omega arith))
-        ∙ get_or-set_other y (3 * k + 1) j (third v 1) 0 (λ e. away (omega arith))
-        ∙ get_or-set_other x (3 * k) j (third v 0) 0 (λ e. away (omega arith))
+    set_at : {b : ℕ} {y : List ℕ} (j : ℕ) → Written 0 (λ b. 3 * k + b) (third v) b x y → j ≡ 3 * k + b → b < 3 → Written 0 (λ b. 3 * k + b) (third v) (b + 1) x (set y j (third v b))
+    set_at j w e l = written_more w e (λ i m. omega arith) (omega (arith, w.same)) refl
 
 pub written_items : (zs : List ℤ) → written items zs ≡ zs
 unfolding written

@@ -81,7 +81,7 @@ fir1_small h {x} {old} {new} a s filled =
     record {
       size = λ j.
           ⊎_elim
-          (λ (m : j < length old). rw (filled.is j m) (omega (arith, R_size (fir h (at0 x) (j + M h)) 24, fir_size h (at0 x) (j + M h) (2 ^ 27) s.size, mul-le-mul_right (2 ^ 27) a)))
+          (λ (m : j < length old). rw (filled.done j m) (omega (arith, R_size (fir h (at0 x) (j + M h)) 24, fir_size h (at0 x) (j + M h) (2 ^ 27) s.size, mul-le-mul_right (2 ^ 27) a)))
           (λ (m : length old ≤ j). rw (past new j (omega (arith, filled.same))) (omega arith))
           (below_or j (length old));
     }

@@ -1,6 +1,5 @@
 -- The half band: its taps by sign and size, and its sums.
 use Rattle.std.specs.Prelude.{◌≡◌, List, map, Bool, cond, ℕ, ◌+◌, ◌-◌, ◌^◌, ◌≤◌, ◌<◌, ℤ, pos, neg_ℤ, nat_abs, ◌+ℤ◌, ◌*ℤ◌}
-use Rattle.numbers.specs.Sums.{at0}
 use Rattle.reference.specs.Taps.{HB}
 use Rattle.lanes.specs.inner.Lanes.{raised, arms}
 use Rattle.filters.specs.inner.Filters.{odd_taps}
@@ -13,10 +12,6 @@ odd_sizes = map nat_abs (odd_taps HB)
 -- a tap of this size, or minus it
 unfoldable pub signed : Bool → ℕ → ℤ
 signed minus n = cond minus (neg_ℤ (pos n)) (pos n)
-
--- L lanes hold f
-pub record Hold (L : ℕ) (f : ℕ → ℤ) (s : List ℤ) : Type 0 where
-  pub is : (l : ℕ) → l < L → at0 s l ≡ f l
 
 -- the half band's sum at place k: the centre over y, the odd taps over the copy
 unfoldable pub band_sum : List ℤ → List ℕ → ℕ → ℤ
