@@ -1,6 +1,7 @@
 #!/usr/bin/env python3
-"""Levels, info, frames and dsf beside answers from outside: the original's reports (crates/test_reports), samples of the
-original (command/stored/albums), files laid out by files.py, sums worked out here; and with calls of the system failing.
+"""Levels, info, frames and dsf beside answers from outside: the original's reports (crates/test_reports), samples of
+the original (command/stored/albums), files laid out by files.py, sums worked out here; and with calls of the system
+failing.
 
 Usage: command/figures.py [PROGRAM]        (target/puigneht if it is not given)
 
@@ -142,7 +143,8 @@ def tracks(command, case, text):
 
 
 def over_borders(command):
-    """One over in all, at the start: the samples of 0x00 stand at the low end from there on, over two borders of pieces."""
+    """One over in all, at the start: the samples of 0x00 stand at the low end from there on, over two borders of
+    pieces."""
     put("a.dsf", [bytes(300 * FRAME)])
     for jobs in "1", "3":
         found = LINE.findall(printed(command, ["levels", "-j", jobs, "a.dsf"]))
@@ -431,7 +433,8 @@ def held_back(command, words, call, meanwhile):
 
 
 def changed(command):
-    """An album that is changed while it is read: the report and the frames stay without their end, and no file is left."""
+    """An album that is changed while it is read: the report and the frames stay without their end, and no file is left.
+    """
     text = b"mono.dsf was changed while it was converted: an upload that goes on?\n"
     for words in ["levels", "-j", "1", "mono.dsf"], ["levels", "-j", "1", "--by", "minute", "mono.dsf"], ["frames", "-o", "-", "mono.dsf"], ["frames", "-o", "new", "mono.dsf"]:
         whole = printed(command, words)
