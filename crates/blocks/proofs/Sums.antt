@@ -1,9 +1,9 @@
--- Samples to blocks, blocks to a channel of a frame: what the loops add up.
+-- Samples to blocks, blocks to a channel of some frames: what the loops add up.
 use mathlib.Core.Path.{◌≡◌, refl, sym, ap, ◌∙◌, subst}
 use mathlib.Core.Bool.{Bool, true, false}
 use mathlib.Core.List.{List}
 use Prim.Native.Nat.{ℕ, ◌+◌, ◌*◌, ◌/◌, ◌%◌, ◌^◌, ◌≤◌, ◌<◌}
-use native.Mathlib.Nat.{mul-le-mul}
+use native.Mathlib.Nat.{mul_assoc, mul-le-mul}
 use native.Mathlib.Omega.{arith}
 use lib.Arith.{digits_div}
 use borrow.Author.Tests.{ne_eqb}
@@ -135,7 +135,7 @@ pub record Staged (conv : Converter) (route : Route) (β : ℕ → ℕ) (first :
   pub position : at ≡ first_byte route (margin_from route (M (last_of conv)) first (samples_per_frame conv.rate + n) + 2 * M (last_of conv))
   pub state : State route (last_of conv) first β (samples_per_frame conv.rate + n) x kept
 
--- b blocks of m samples of a frame's channel are done
+-- b blocks of m samples of a channel are done
 pub record Blocks {A : Type 0} (o : Layout A) (conv : Converter) (route : Route) (r : Run) (β : ℕ → ℕ) (c n b m at : ℕ) (told : ChannelStats) (x kept : List ℤ) (out out' : List A) : Type 0 where
   pub staged : Staged conv route β (eqb b 0) (n + b * m) at x kept
   pub made : Made o conv r c n (b * m) told out out'
@@ -201,7 +201,7 @@ module _ {conv : Converter} {count : ℕ} {b f a : List ℕ} {tables taps : List
 pub ready_of : (j : Job) → Ready j.conv j.route j.slices.count j.slices.before.now j.slices.frames.now j.slices.after.now j.tables.now j.taps.now
 ready_of j = record { slices = rw j.same at j.slices.lent; routed = j.routed; first = j.first; last = j.last; factor = j.factor }
 
--- ---- blocks of a frame's channel
+-- ---- blocks of a channel
 
 module _ {A : Type 0} {o : Layout A} {conv : Converter} {route : Route} {r : Run} {β : ℕ → ℕ} {c n m : ℕ} {x kept : List ℤ} {out : List A} where
   pub blocks_none : {at : ℕ} {told : ChannelStats} → Staged conv route β true n at x kept → told ≡ no_samples → Blocks o conv route r β c n 0 m at told x kept out out
@@ -230,6 +230,7 @@ pub stored : {A : Type 0} (o : Layout A) (ch : ℕ) {n c : ℕ} {l : List ℤ} {
     → (S : ℕ → ℕ → ℤ) → Held (pos 0) (S c) n b l → Drawn o S ch n (n + b) c (c + 1) x z
 stored o ch {n} {c} {l} {x} {z} a b e = subst (λ (m : ℕ). (S : ℕ → ℕ → ℤ) → Held (pos 0) (S c) n m l → Drawn o S ch n (n + m) c (c + 1) x z) e
 
--- blocks up to the end of a frame
-pub at_end : {conv : Converter} {route : Route} → Routed conv route → {b spf m : ℕ} → spf ≡ samples_per_frame conv.rate → m ≡ block_length route → b ≡ spf / m → b * m ≡ samples_per_frame conv.rate
-at_end r e f h = rw (h, e, f) (whole_blocks r)
+-- blocks up to the end of so many frames
+pub at_end : {conv : Converter} {route : Route} → Routed conv route → (frames : ℕ) {b spf m : ℕ} → spf ≡ samples_per_frame conv.rate → m ≡ block_length route
+    → b ≡ frames * (spf / m) → b * m ≡ frames * samples_per_frame conv.rate
+at_end r frames e f h = rw (h, e, f) (mul_assoc frames _ _ ∙ ap (λ z. frames * z) (whole_blocks r))

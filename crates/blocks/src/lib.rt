@@ -1,5 +1,5 @@
-// The channel of a frame, a block of samples at a time: gathered, filtered, scaled and stored. Samples n count from the
-// run's start.
+// A channel of some frames, a block of samples at a time: gathered, filtered, scaled and stored. Samples n count from
+// the run's start.
 #![tactic(auto)]
 
 ghost use Rattle.std.specs.Prelude.{◌≡◌, ℕ, ◌+◌, ◌*◌, ◌%◌, ◌^◌, ◌≤◌, ◌<◌, ℤ, pos, length};
@@ -51,12 +51,18 @@ impl<'a> Job<'a> {
         told
     }
 
-    // A channel of the frame whose first sample is n. The arrays are of fixed length, and filled a block at a time:
-    // nothing here is on the heap.
-    pub fn channel<P: Place>(&self, channel: usize, n: usize, out: &mut [P]) -> ChannelStats
-        requires place { (channel < self.now.conv.channels) × (n + in_frame self.now ≤ in_run self.now) × (n % 2 ≡ 0) }
+    // A channel of so many frames, of which the first sample is n. The margin is made once for them all. The arrays are of
+    // fixed length, and filled a block at a time: nothing here is on the heap.
+    pub fn channel<P: Place>(
+        &self,
+        channel: usize,
+        n: usize,
+        frames: usize,
+        out: &mut [P],
+    ) -> ChannelStats
+        requires place { (channel < self.now.conv.channels) × (n + frames * in_frame self.now ≤ in_run self.now) × (n % 2 ≡ 0) }
         requires room { Room P.layout (in_run self.now * self.now.conv.channels) out.old }
-        ensures { Made P.layout self.now.conv (job_run self.now) channel n (in_frame self.now) result out.old out.new }
+        ensures { Made P.layout self.now.conv (job_run self.now) channel n (frames * in_frame self.now) result out.old out.new }
     {
         let route = self.route;
         let spf = self.conv.rate.samples_per_frame();
@@ -70,7 +76,7 @@ impl<'a> Job<'a> {
         at = self.gather(channel, at, 2 * last, &mut bytes);
         kernel::margin(route, self.tables, &bytes, 2 * last, &mut buffers);
         let mut told = ChannelStats::none();
-        for b in 0..spf / m {
+        for b in 0..frames * (spf / m) {
             let first = b == 0;
             let new = kernel::fresh(route, first);
             at = self.gather(channel, at, new, &mut bytes);

@@ -18,7 +18,6 @@ use stages::Buffers;
 
 // The values of w, and those between them, in turn: `kept` has w from 8 places before sample n's on. The half band's
 // sizes and a place for a copy are lent.
-#[tactic(auto, using(routes::proofs::Filters::woven_gives))]
 fn between(sizes: &[u32], kept: &[i64], lifted: &mut [u64], y: &mut [i64])
     requires lent { sizes.now ≡ odd_sizes }
     requires kept_len { (length kept.now ≡ 184) × (length y.old ≡ 336) }
