@@ -189,11 +189,6 @@ module _ (n b : ℕ) where
   all_right one six whole l =
       at_next _ _ (rw (le-leb 1 n one, le-leb n 6 six)) ∙ at_next _ _ (ap not (eq-eqb _ _ whole)) ∙ at_next _ _ (le-ltb 540000 (b / (4704 * n)) l) ∙ at_end
 
--- channels and frames are turned down as in a conversion
-pub as_conversion : (n : ℕ) (fr : List ℕ) → length_places n (length fr) ≡ place (not (leb 1 n && leb n 6)) 1 (number n ∷ []) ∷ run_length rack n fr
-unfolding length_places run_length frame_count
-as_conversion n fr = refl
-
 pub length_is : (n : ℕ) (fr : List ℕ) → file_length n (length fr) ≡ 92 + written_data n fr
 unfolding file_length written_data written_channel frame_count
 length_is n fr = refl

@@ -28,9 +28,6 @@ past l k m = get_or-eq_default l (pos 0) {n = k} m
 pub filled_held : {f S : ℕ → ℤ} {base : ℕ} {old new : List ℤ} → Filled f old new → ((i : ℕ) → i < length old → f i ≡ S (base + i)) → Held (pos 0) S base (length old) new
 filled_held u e = record { is = λ k m. u.done k m ∙ e k m }
 
-pub held_as : {S T : ℕ → ℤ} {base n : ℕ} {x : List ℤ} → Held (pos 0) S base n x → ((k : ℕ) → S k ≡ T k) → Held (pos 0) T base n x
-held_as {base} b e = record { is = λ k m. b.is k m ∙ e (base + k) }
-
 pub held_small : {S : ℕ → ℤ} {base n X : ℕ} {x : List ℤ} → Held (pos 0) S base n x → length x ≤ n → ((k : ℕ) → nat_abs (S k) ≤ X) → Small X x
 held_small {base} {n} {x} b l s =
     record { size = λ i. ⊎_elim (λ (m : i < n). rw (b.is i m) (s (base + i))) (λ (m : n ≤ i). rw (past x i (omega arith)) (omega arith)) (below_or i n) }

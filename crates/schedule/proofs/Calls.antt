@@ -31,15 +31,6 @@ was_fitting frames dues turn finishes late e = go (fitting frames dues turn fini
     go true h = refl
     go false h = h
 
--- a call that is refused does not
-pub was_not : (frames dues : List ℕ) (turn finishes late : ℕ) → is_accepted (decide (simulate_places frames dues turn finishes late)) ≡ false → fitting frames dues turn finishes late ≡ false
-unfolding decide simulate_places is_accepted
-was_not frames dues turn finishes late = go (fitting frames dues turn finishes late)
-  where
-    go : (b : Bool) → is_accepted (cond (not b) (refused 19 []) accepted) ≡ false → b ≡ false
-    go true h = h
-    go false h = refl
-
 pub returns_the_best : ReturnsTheBest
 unfolding greatest_lateness
 returns_the_best frames dues turn finishes late finishes' late' answer p e order o =

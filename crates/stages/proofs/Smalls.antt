@@ -51,11 +51,6 @@ module _ {B : ℕ} where
   pub small_put : (m k : ℕ) {x new : List ℤ} → Small B x → Small B new → Small B (put_mid m k x new)
   small_put m k s r = small_append (small_front m s) (small_append r (small_drop k (small_drop m s)))
 
-  -- moved to the front
-  pub small_shift : {x x' : List ℤ} (by n : ℕ) → Small B x → ((k : ℕ) → k < n → get_or x' k (pos 0) ≡ get_or x (k + by) (pos 0))
-      → ((k : ℕ) → n ≤ k → get_or x' k (pos 0) ≡ get_or x k (pos 0)) → Small B x'
-  small_shift by n s e f = record { size = λ j. ⊎_elim (λ (m : j < n). rw (e j m) (s.size (j + by))) (λ (m : n ≤ j). rw (f j m) (s.size j)) (below_or j n) }
-
 pub zeros_small : (n : ℕ) {B : ℕ} → Small B (replicate n (pos 0))
 zeros_small n {B} =
     record {

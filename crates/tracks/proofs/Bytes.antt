@@ -61,10 +61,3 @@ bytes_by_position n (t ∷ ts) e c p h = ⊎_elim inside (behind (bytes_by_posit
         let whole : head_length t.head + q ≡ p = omega arith in
         let at : p * n + c ≡ length (track_bytes t) + (q * n + c) = omega (arith, same, sym (add-mul (head_length t.head) q n) ∙ ap (λ (x : ℕ). x * n) whole) in
         rw (at, get_or-append-add (track_bytes t) (tracks_bytes ts) (q * n + c) idle, le-ltb p (head_length t.head) l) later
-
--- byte p of channel c of a frame stands at p × n + c, and is that channel's byte 4,704 k + p
-pub frame_by_position : (n : ℕ) (ts : List Track) → Alike n ts → (k c p : ℕ) → c < n → p < 4704 → get_or (tracks_frame n ts k) (p * n + c) 0 ≡ tracks_byte ts c (k * 4704 + p)
-unfolding tracks_frame
-frame_by_position n ts e k c p h l =
-    let at : k * (4704 * n) + (p * n + c) ≡ (k * 4704 + p) * n + c = omega (arith, mul_assoc k 4704 n, add-mul (k * 4704) p n) in
-    get_d_tabulate (λ j. get_or (tracks_bytes ts) j idle) (k * (4704 * n)) (4704 * n) (p * n + c) 0 (omega (arith, mul-le-mul_right n l)) ∙ rw at (bytes_by_position n ts e c (k * 4704 + p) h)

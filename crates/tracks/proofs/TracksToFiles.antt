@@ -44,11 +44,6 @@ tracks_frame_length n ts k = length_tabulate _ _ _
 same_bytes : {n start m : ℕ} {x y : List ℕ} → x ≡ y → SameBytes n start m x y
 same_bytes {n} {start} e = record { same = λ c k h l. ap (λ (x : List ℕ). channel_byte n x c (start + k)) e }
 
-keep_all : {A B : Type 0} (p : B → Bool) (g : A → B) → ((x : A) → p (g x) ≡ true) → (xs : List A) → keep p (map g xs) ≡ map g xs
-unfolding keep
-keep_all p g h [] = refl
-keep_all p g h (x ∷ xs) = rw (h x) (ap (λ (l : List _). g x ∷ l) (keep_all p g h xs))
-
 pub length_heads : (ts : List Track) → length (heads ts) ≡ length ts
 length_heads [] = refl
 length_heads (t ∷ ts) = ap (λ (k : ℕ). suc k) (length_heads ts)

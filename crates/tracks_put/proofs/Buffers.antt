@@ -89,9 +89,6 @@ module _ {n samples : ℕ} {part : Part} {start size out : ℕ} (a : PutArgs n s
         room = omega (arith, a.small, a.six);
       }
 
-  pub place_small : part.at * n ≤ out
-  place_small = omega (arith, a.lent, add-mul part.at (part.to - part.from) n)
-
   module _ (bits : ℕ) (window table old new : List ℕ) (each : Bytes window) (o : Ordering (bit_order bits) table) (lent : length old ≡ out) where
     abbrev byte : ℕ → ℕ
     byte = turn_byte (window_data window start) n bits samples

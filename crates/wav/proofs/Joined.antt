@@ -133,22 +133,6 @@ files_join conv r calls opens fits joins =
     let e = joined_data calls ∙ ap s24le g.sampled in
     (e, λ whole is m. e ∙ ap (λ (x : Run). s24le (samples conv x)) (sym is) ∙ sym (data_made whole (sym (made_right whole) ∙ m)))
 
-keep_one : {A : Type 0} (p : A → Bool) (x : A) → p x ≡ true → keep p (x ∷ []) ≡ x ∷ []
-unfolding keep
-keep_one p x e = rw e
-
-no_pieces : (conv : Converter) → pieces {conv = conv} [] ≡ []
-unfolding pieces keep
-no_pieces conv = refl
-
--- a list that joins exists: an uncut run's one call
-pub uncut_file : {conv : Converter} (c : WavCall conv) → right_call c ≡ true → FilesJoinTo c.run (c ∷ [])
-unfolding file_pieces as_call step
-uncut_file {conv} c e =
-    let j = uncut (as_call c e) (record { fits = fits_of conv c.run c.out c.lent c.counts (ok c e) }) (call_right c e) in
-    let p : pieces (as_call c e ∷ []) ≡ file_pieces (c ∷ []) = step_pieces c true e [] [] (no_pieces conv) ∙ sym (ap (map (λ (w : WavCall conv). w.run)) (keep_one right_call c e)) in
-    record { bytes = rw p at j.bytes; neighbours = rw p at j.neighbours }
-
 -- ---- demand 3's own list
 
 module _ {conv : Converter} where
