@@ -1,4 +1,4 @@
--- Numbers of a route: its blocks in a frame, its taps, and the bytes that its margins and blocks are gathered from.
+-- Numbers of a route: its blocks in a frame, its taps, and the bytes that its histories and blocks are gathered from.
 use mathlib.Core.Path.{◌≡◌, refl, ◌∙◌, ap}
 use mathlib.Core.Bool.{Bool, true, false}
 use mathlib.Core.List.{List}
@@ -17,7 +17,7 @@ use Rattle.reference.proofs.Locality.{F40_last, F80_last}
 use Rattle.reference.specs.declared.Converter.{Converter}
 use Rattle.routes.specs.declared.Route.{Route}
 use Rattle.routes.specs.declared.Route.TheVariants.{Narrow88, Narrow176, Narrow352, Wide176, Wide352}
-use Rattle.routes.specs.inner.Routes.{route_of, Routed, LastFilter, lent_taps, RouteTaps, stride, around, first_byte, block_length, fresh, margin_from}
+use Rattle.routes.specs.inner.Routes.{route_of, Routed, LastFilter, lent_taps, RouteTaps, stride, around, first_byte, block_length, fresh, history_from}
 use Rattle.routes.proofs.Filters.{halves_length}
 
 -- ---- blocks
@@ -65,7 +65,7 @@ module _ {route : Route} {F h : List ℤ} (t : RouteTaps route F h) where
   pub last_place : M F ≡ M h
   last_place = omega (arith, lent_length route F t.lent)
 
--- ---- the bytes of a margin and of a block at sample n, for a filter whose last tap is at place m
+-- ---- the bytes of a history and of a block at sample n, for a filter whose last tap is at place m
 
 -- k values more
 pub first_byte_more : (route : Route) (i k : ℕ) → 10 ≤ i → first_byte route (i + k) ≡ first_byte route i + stride route * k
@@ -85,55 +85,55 @@ first_byte_near Wide176 i = omega arith
 first_byte_near Wide352 i = omega arith
 
 module _ (m n : ℕ) (few : m ≤ 116) (late : 1000 ≤ n) where
-  pub margin_low : (route : Route) (first : Bool) → 10 ≤ margin_from route m first n
-  unfolding margin_from
-  margin_low Narrow88 first = omega arith
-  margin_low Narrow176 first = omega arith
-  margin_low Narrow352 true = omega arith
-  margin_low Narrow352 false = omega arith
-  margin_low Wide176 first = omega arith
-  margin_low Wide352 first = omega arith
+  pub history_low : (route : Route) (first : Bool) → 10 ≤ history_from route m first n
+  unfolding history_from
+  history_low Narrow88 first = omega arith
+  history_low Narrow176 first = omega arith
+  history_low Narrow352 true = omega arith
+  history_low Narrow352 false = omega arith
+  history_low Wide176 first = omega arith
+  history_low Wide352 first = omega arith
 
   -- the next block follows on this one's values
-  pub margin_next : (route : Route) (first : Bool) → margin_from route m false (n + block_length route) ≡ margin_from route m first n + fresh route first
-  unfolding margin_from block_length fresh
-  margin_next Narrow88 first = omega arith
-  margin_next Narrow176 first = omega arith
-  margin_next Narrow352 true = omega arith
-  margin_next Narrow352 false = omega arith
-  margin_next Wide176 first = omega arith
-  margin_next Wide352 first = omega arith
+  pub history_next : (route : Route) (first : Bool) → history_from route m false (n + block_length route) ≡ history_from route m first n + fresh route first
+  unfolding history_from block_length fresh
+  history_next Narrow88 first = omega arith
+  history_next Narrow176 first = omega arith
+  history_next Narrow352 true = omega arith
+  history_next Narrow352 false = omega arith
+  history_next Wide176 first = omega arith
+  history_next Wide352 first = omega arith
 
-  margin_near : (route : Route) (first : Bool) → margin_from route m first n ≤ 2 * n
-  unfolding margin_from
-  margin_near Narrow88 first = omega arith
-  margin_near Narrow176 first = omega arith
-  margin_near Narrow352 true = omega arith
-  margin_near Narrow352 false = omega arith
-  margin_near Wide176 first = omega arith
-  margin_near Wide352 first = omega arith
+  history_near : (route : Route) (first : Bool) → history_from route m first n ≤ 2 * n
+  unfolding history_from
+  history_near Narrow88 first = omega arith
+  history_near Narrow176 first = omega arith
+  history_near Narrow352 true = omega arith
+  history_near Narrow352 false = omega arith
+  history_near Wide176 first = omega arith
+  history_near Wide352 first = omega arith
 
   module _ (route : Route) (first : Bool) where
     -- the first byte of a block's values, and of the next one's
     abbrev pub block_byte : ℕ
-    block_byte = first_byte route (margin_from route m first n + 2 * m)
+    block_byte = first_byte route (history_from route m first n + 2 * m)
 
     pub block_byte_near : n < 2 ^ 50 → block_byte < 2 ^ 62
-    block_byte_near l = omega (arith, first_byte_near route (margin_from route m first n + 2 * m), margin_near route first)
+    block_byte_near l = omega (arith, first_byte_near route (history_from route m first n + 2 * m), history_near route first)
 
-    pub block_byte_next : first_byte route (margin_from route m false (n + block_length route) + 2 * m) ≡ block_byte + stride route * fresh route first
+    pub block_byte_next : first_byte route (history_from route m false (n + block_length route) + 2 * m) ≡ block_byte + stride route * fresh route first
     block_byte_next =
-        let e : margin_from route m false (n + block_length route) + 2 * m ≡ margin_from route m first n + 2 * m + fresh route first = omega (arith, margin_next route first) in
-        ap (first_byte route) e ∙ first_byte_more route (margin_from route m first n + 2 * m) (fresh route first) (omega (arith, margin_low route first))
+        let e : history_from route m false (n + block_length route) + 2 * m ≡ history_from route m first n + 2 * m + fresh route first = omega (arith, history_next route first) in
+        ap (first_byte route) e ∙ first_byte_more route (history_from route m first n + 2 * m) (fresh route first) (omega (arith, history_low route first))
 
 -- what is gathered fits its array
-pub margin_fits : (route : Route) (m : ℕ) → m ≤ 116 → stride route * (2 * m) + around route ≤ 512
+pub history_fits : (route : Route) (m : ℕ) → m ≤ 116 → stride route * (2 * m) + around route ≤ 512
 unfolding stride around
-margin_fits Narrow88 m l = omega arith
-margin_fits Narrow176 m l = omega arith
-margin_fits Narrow352 m l = omega arith
-margin_fits Wide176 m l = omega arith
-margin_fits Wide352 m l = omega arith
+history_fits Narrow88 m l = omega arith
+history_fits Narrow176 m l = omega arith
+history_fits Narrow352 m l = omega arith
+history_fits Wide176 m l = omega arith
+history_fits Wide352 m l = omega arith
 
 pub block_fits : (route : Route) (first : Bool) → stride route * fresh route first + around route ≤ 512
 unfolding stride around fresh

@@ -26,14 +26,14 @@ use Rattle.reference.proofs.Frames.{frame_samples}
 use Rattle.channel_bytes.specs.inner.Lent.{Lent, lent_run, byte_at}
 use Rattle.routes.specs.declared.Route.{Route}
 use Rattle.routes.specs.declared.Route.TheVariants.{Narrow88, Narrow176, Narrow352, Wide176, Wide352}
-use Rattle.routes.specs.inner.Routes.{Routed, last_of, y_of, stride, around, first_byte, block_length, fresh, margin_from, Kept, State}
+use Rattle.routes.specs.inner.Routes.{Routed, last_of, y_of, stride, around, first_byte, block_length, fresh, history_from, Kept, State}
 use Rattle.routes.proofs.Routes.{a_frame, y_of_is, y_of_size}
 use Rattle.gain.specs.Tallies.{tally}
 use Rattle.gain.proofs.Tallies.{tally_none, tally_join, tally_same, tally_few}
 use Rattle.output.specs.inner.Fills.{Layout, Drawn}
 use Rattle.output.proofs.Boxes.{no_rows, rows}
-use Rattle.kernel.proofs.Blocks.{Margined, Blocked}
-use Rattle.blocks.proofs.Places.{whole_blocks, few_taps, last_place, first_byte_more, margin_low, block_byte_near, block_byte_next}
+use Rattle.kernel.proofs.Blocks.{HistoryHeld, Blocked}
+use Rattle.blocks.proofs.Places.{whole_blocks, few_taps, last_place, first_byte_more, history_low, block_byte_near, block_byte_next}
 use Rattle.blocks.specs.inner.Blocks.{Ready, Made}
 use Rattle.blocks.specs.declared.job.Job.{Job}
 
@@ -132,7 +132,7 @@ module _ {A : Type 0} {o : Layout A} {conv : Converter} {r : Run} {c n : ℕ} wh
 -- the arrays and the position before the block at sample n of channel c; the kernel counts from the frame before the
 -- run
 pub record Staged (conv : Converter) (route : Route) (β : ℕ → ℕ) (first : Bool) (n at : ℕ) (x kept : List ℤ) : Type 0 where
-  pub position : at ≡ first_byte route (margin_from route (M (last_of conv)) first (samples_per_frame conv.rate + n) + 2 * M (last_of conv))
+  pub position : at ≡ first_byte route (history_from route (M (last_of conv)) first (samples_per_frame conv.rate + n) + 2 * M (last_of conv))
   pub state : State route (last_of conv) first β (samples_per_frame conv.rate + n) x kept
 
 -- b blocks of m samples of a channel are done
@@ -158,20 +158,20 @@ module _ {conv : Converter} {count : ℕ} {b f a : List ℕ} {tables taps : List
   late : 1000 ≤ samples_per_frame rate + n
   late = omega (arith, a_frame rate)
 
-  -- the margin is filled
+  -- the history is filled
   pub staged_begins : {start at : ℕ} {bytes : List ℕ} {x kept : List ℤ} (last : ℕ) → last ≡ M taps
-      → n % 2 ≡ 0 → start ≡ first_byte route (margin_from route last true (samples_per_frame rate + n))
-      → at ≡ start + stride route * (2 * last) → Held 0 β start (stride route * (2 * last) + around route) bytes → Margined route (2 * last) bytes x
+      → n % 2 ≡ 0 → start ≡ first_byte route (history_from route last true (samples_per_frame rate + n))
+      → at ≡ start + stride route * (2 * last) → Held 0 β start (stride route * (2 * last) + around route) bytes → HistoryHeld route (2 * last) bytes x
       → Staged conv route β true n at x kept
   staged_begins {kept = kept} last is even from next held gives =
       let e : last ≡ M (last_of conv) = omega (arith, is, last_place ready.last) in
-      let i = margin_from route (M (last_of conv)) true (samples_per_frame rate + n) in
-      let low = margin_low (M (last_of conv)) (samples_per_frame rate + n) few late route true in
+      let i = history_from route (M (last_of conv)) true (samples_per_frame rate + n) in
+      let low = history_low (M (last_of conv)) (samples_per_frame rate + n) few late route true in
       let from' = rw e at from in
       record {
         position = rw e at next ∙ ap (λ z. z + stride route * (2 * M (last_of conv))) from' ∙ sym (first_byte_more route i (2 * M (last_of conv)) low);
         state = record {
-          margin = (rw e at gives) β i low (rw from' at (rw e at held));
+          history = (rw e at gives) β i low (rw from' at (rw e at held));
           w_kept =
               kept_none route (last_of conv) β (samples_per_frame rate + n) kept (omega (arith, even_frame rate));
         };

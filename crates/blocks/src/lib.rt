@@ -2,7 +2,7 @@
 // the run's start.
 #![tactic(auto)]
 
-ghost use Rattle.std.specs.Prelude.{◌≡◌, ℕ, ◌+◌, ◌*◌, ◌%◌, ◌^◌, ◌≤◌, ◌<◌, ℤ, pos, length};
+ghost use Rattle.std.specs.Prelude.{◌≡◌, ◌+◌, ◌*◌, ◌%◌, ◌^◌, ◌≤◌, ◌<◌, pos, length};
 ghost use Rattle.numbers.specs.inner.Lists.{Held};
 ghost use Rattle.reference.specs.Output.{samples_per_frame};
 ghost use Rattle.routes.specs.inner.Routes.{stride, around, last_of, y_of};
@@ -51,7 +51,7 @@ impl<'a> Job<'a> {
         told
     }
 
-    // A channel of so many frames, of which the first sample is n. The margin is made once for them all. The arrays are of
+    // A channel of so many frames, of which the first sample is n. The history is made once for them all. The arrays are of
     // fixed length, and filled a block at a time: nothing here is on the heap.
     pub fn channel<P: Place>(
         &self,
@@ -74,7 +74,7 @@ impl<'a> Job<'a> {
         let mut samples = [0; 336];
         let mut at = kernel::start(route, last, spf + n);
         at = self.gather(channel, at, 2 * last, &mut bytes);
-        kernel::margin(route, self.tables, &bytes, 2 * last, &mut buffers);
+        kernel::history(route, self.tables, &bytes, 2 * last, &mut buffers);
         let mut told = ChannelStats::none();
         for b in 0..frames * (spf / m) {
             let first = b == 0;

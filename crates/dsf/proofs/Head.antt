@@ -14,7 +14,7 @@ use Rattle.reference.specs.Refusals.{decide}
 use Rattle.reference.proofs.Refusals.{at_first, at_next}
 use Rattle.text.specs.Bytes.{number_of, number_at, bytes}
 use Rattle.dsf.specs.Dsf.{Field, pairs, orders, layout, frequency, alike, any, all, fits, stated_length, channel_type}
-use Rattle.dsf.specs.Dsf.{channels, bits_per_sample, samples, data_size, data_bytes, needed, frames, places_at, file_places}
+use Rattle.dsf.specs.Dsf.{channels, bits_per_sample, sample_count, data_size, data_bytes, needed, frames, places_at, file_places}
 use Rattle.text.specs.Text.{text}
 use Rattle.dsf.specs.Theorems.{HeaderRight}
 use Rattle.dsf.specs.Reading.{file_header, header_places}
@@ -70,8 +70,8 @@ module _ (l m : List ℕ) (e : take 92 l ≡ take 92 m) where
   unfolding ends_by all frequency bytes
   frequency_same = fits_same frequency tt
 
-  pub samples_same : samples l ≡ samples m
-  unfolding samples
+  pub samples_same : sample_count l ≡ sample_count m
+  unfolding sample_count
   samples_same = number_same 64 8 (omega arith)
 
   pub needed_same : needed l ≡ needed m

@@ -1,5 +1,5 @@
 // A channel of a frame: pieces of its blocks through a table of bytes, and idle bytes past the data.
-ghost use Rattle.std.specs.Prelude.{◌≡◌, ◌+◌, ◌*◌, ◌≤◌, ◌<◌, ◌^◌, length, get_or};
+ghost use Rattle.std.specs.Prelude.{◌+◌, ◌*◌, ◌≤◌, ◌<◌, ◌^◌, length, get_or};
 ghost use Rattle.numbers.specs.inner.Lists.{Written};
 ghost use Rattle.reference.specs.Frames.{idle, frame_bytes};
 ghost use Rattle.dsf_columns.specs.inner.Columns.{column_byte, ColumnArgs};

@@ -22,7 +22,7 @@ use Rattle.reference.specs.declared.PcmError.{PcmError}
 use Rattle.reference.specs.declared.PcmError.TheVariants.{OutputBytes}
 use Rattle.reference.specs.Promises.{by_decision}
 use Rattle.reference.proofs.Promises.{exit_accepted, exit_refused}
-use Rattle.reference.specs.Refusals.{Decision, accepted, refused, error_decision, Place, place, decide, is_accepted, number, rack, run_length, lent_length}
+use Rattle.reference.specs.Refusals.{Decision, accepted, refused, error_decision, Place, decide, is_accepted, number, lent_length}
 use Rattle.reference.proofs.Refusals.{error_refuses, at_first, at_next, at_end, pass, decide_skip, decide_stop}
 use Rattle.text.specs.Text.{text}
 use Rattle.text.specs.Bytes.{bytes}

@@ -1,5 +1,5 @@
 // The data: the channels' blocks in turn, lowest bit first, zero bytes past the samples.
-ghost use Rattle.std.specs.Prelude.{◌≡◌, ◌+◌, ◌-◌, ◌*◌, ◌≤◌, ◌<◌, ◌^◌, length, get_or};
+ghost use Rattle.std.specs.Prelude.{◌+◌, ◌-◌, ◌*◌, ◌<◌, ◌^◌, length, get_or};
 ghost use Rattle.numbers.specs.inner.Lists.{Written};
 ghost use Rattle.dsf.specs.declared.BitOrder.TheVariants.{LowestFirst};
 ghost use Rattle.dsf_columns.specs.inner.Columns.{Ordering};

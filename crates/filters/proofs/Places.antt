@@ -11,9 +11,9 @@ use lib.Seq.{get_or-set_same, get_or-set_other}
 use Rattle.numbers.specs.Sums.{at0}
 use Rattle.numbers.proofs.Integers.{abs_add}
 use Rattle.numbers.proofs.Lists.{below_or, written_all, length_tabulate, get_d_tabulate}
-use Rattle.lanes.specs.inner.Lanes.{Small, Filled, raised, Low}
+use Rattle.lanes.specs.inner.Lanes.{Small, Filled, biased_at, Low}
 use Rattle.filters.specs.inner.Filters.{seconds}
-use Rattle.filters.specs.inner.Lifts.{lifted, Raised}
+use Rattle.filters.specs.inner.Biases.{biased, Biased}
 
 -- ---- whole lists
 
@@ -45,11 +45,11 @@ low_zeros n = record {
     past k l = rw (length-replicate {A = ℕ} n 0) l
 
 -- place i more
-pub raised_more : {i j : ℕ} {x : List ℤ} {v : List ℕ} {r : ℕ} → Raised i x v → i < length v → pos r ≡ lifted x i → r ≤ 2 ^ 30 → j ≡ i + 1 → Raised j x (set v i r)
-unfolding raised
-raised_more {i} {j} {x} {v} {r} a m e b next =
+pub biased_more : {i j : ℕ} {x : List ℤ} {v : List ℕ} {r : ℕ} → Biased i x v → i < length v → pos r ≡ biased x i → r ≤ 2 ^ 30 → j ≡ i + 1 → Biased j x (set v i r)
+unfolding biased_at
+biased_more {i} {j} {x} {v} {r} a m e b next =
     record {
-      is = λ k n. ⊎_elim (λ q. ap pos (here k q) ∙ e ∙ ap (lifted x) (sym q)) (λ q. ap pos (before k q) ∙ a.is k q) (eq-or-lt_of_le (up_to k n));
+      is = λ k n. ⊎_elim (λ q. ap pos (here k q) ∙ e ∙ ap (biased x) (sym q)) (λ q. ap pos (before k q) ∙ a.is k q) (eq-or-lt_of_le (up_to k n));
       low = record { size = λ k. ⊎_elim (λ l. rw (before k l) (a.low.size k)) (λ l. ⊎_elim (λ q. rw (here k (sym q)) b) (λ n. rw (after k n) (a.low.size k)) (eq-or-lt_of_le l)) (below_or k i) };
     }
   where
@@ -74,6 +74,6 @@ pub second_at : (f : ℕ) (x : List ℤ) (k : ℕ) → k < (length x + 1 - f) / 
 unfolding seconds
 second_at f x k m = get_d_tabulate (λ j. at0 x (2 * j + f)) 0 ((length x + 1 - f) / 2) k (pos 0) m ∙ ap (λ (j : ℕ). at0 x (2 * j + f)) (omega arith)
 
-pub second_lifted : (f : ℕ) (x : List ℤ) (k : ℕ) → k < (length x + 1 - f) / 2 → lifted x (2 * k + f) ≡ lifted (seconds f x) k
-unfolding lifted
-second_lifted f x k m = ap (λ (z : ℤ). z +ℤ pos (2 ^ 29)) (sym (second_at f x k m))
+pub second_biased : (f : ℕ) (x : List ℤ) (k : ℕ) → k < (length x + 1 - f) / 2 → biased x (2 * k + f) ≡ biased (seconds f x) k
+unfolding biased
+second_biased f x k m = ap (λ (z : ℤ). z +ℤ pos (2 ^ 29)) (sym (second_at f x k m))

@@ -1,10 +1,10 @@
 // Modules 4 and 5: from a block of a channel's bytes to y, by the route.
 #![tactic(auto)]
 
-ghost use Rattle.std.specs.Prelude.{◌≡◌, ℕ, ◌+◌, ◌*◌, ◌%◌, ◌^◌, ◌≤◌, ◌<◌, List, true, false, ℤ, pos, length, get_or};
+ghost use Rattle.std.specs.Prelude.{◌≡◌, ℕ, ◌+◌, ◌*◌, ◌%◌, ◌≤◌, ◌<◌, List, true, false, ℤ, pos, length};
 ghost use Rattle.numbers.specs.inner.Lists.{Held};
 ghost use Rattle.routes.specs.inner.Routes as Routes;
-ghost use Rattle.routes.specs.inner.Routes.{SomeTaps, RouteTaps, FirstTables, State, Brought, y_of, filter_input, block_length, first_byte, margin_from};
+ghost use Rattle.routes.specs.inner.Routes.{SomeTaps, RouteTaps, FirstTables, State, Brought, y_of, filter_input, block_length, first_byte, history_from};
 
 use routes::Route;
 use stages::Buffers;
@@ -60,12 +60,12 @@ pub fn around(route: Route) -> usize
     }
 }
 
-// The first byte that the margin of a frame depends on: as many before the byte of the frame's first sample n as
+// The first byte that the history of a frame depends on: as many before the byte of the frame's first sample n as
 // document 01's reach. The last filter has taps up to place m.
-#[tactic(auto, unfolding(routes::specs::inner::Routes::first_byte, routes::specs::inner::Routes::margin_from))]
+#[tactic(auto, unfolding(routes::specs::inner::Routes::first_byte, routes::specs::inner::Routes::history_from))]
 pub fn start(route: Route, m: usize, n: usize) -> usize
     requires { (m ≤ 116) × (1000 ≤ n) × (n < 1000000000000) × (n % 2 ≡ 0) }
-    ensures { (result ≡ first_byte route (margin_from route m true n)) × (result ≤ 4 * n) }
+    ensures { (result ≡ first_byte route (history_from route m true n)) × (result ≤ 4 * n) }
 {
     match route {
         Route::Narrow88 => 4 * n - (2 * m + 19),
@@ -76,10 +76,10 @@ pub fn start(route: Route, m: usize, n: usize) -> usize
     }
 }
 
-// The margin of x: n values from the front of `bytes`. In line in both forms of an output, as `block` is: its lengths
+// The history of x: n values from the front of `bytes`. In line in both forms of an output, as `block` is: its lengths
 // are then known numbers to the compiler. Called from both, six routes took 1.14 to 1.19 times as long.
 #[inline(always)]
-pub fn margin(route: Route, tables: &[i32], bytes: &[u8], n: usize, buffers: &mut Buffers)
+pub fn history(route: Route, tables: &[i32], bytes: &[u8], n: usize, buffers: &mut Buffers)
     requires first_tables { FirstTables route tables.now }
     requires n_bound { (n ≤ 232) × (length bytes.now ≡ 512) }
     ensures kept { buffers.new.kept ≡ buffers.old.kept }

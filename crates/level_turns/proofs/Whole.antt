@@ -27,7 +27,7 @@ use Rattle.levels.specs.Levels.{whole_input, FrameOf, InProgress, piece_lines}
 use Rattle.levels.proofs.Whole.{lines_same, states_same, clips_same}
 use Rattle.level_frames.specs.Report.{ending, left_over, all_clips, lines_of, text_by}
 use Rattle.level_frames.proofs.Printing.{joined_more}
-use Rattle.level_turns.specs.inner.Turns.{Moment, here, told_frame, Turned, AllTold}
+use Rattle.level_turns.specs.inner.Turns.{Moment, here, told_frame, Turned, StreamTold}
 
 -- the bytes that have come by a moment, where they lie in the buffer, the text that was passed on, and what is told of
 -- any input that begins with these bytes; where the frame at hand is not whole, that is the input
@@ -292,7 +292,7 @@ module _ (conv : Converter) (opens : decide (held_places conv) ≡ accepted) {m 
     unfolding text_by
     whole i = text_is i ++ ending (left_is i) (frames_are i) (clips_are i)
 
-  pub all_told : (m.left ≡ frame_length conv.channels → m.frames ≡ 100000000000000) → AllTold conv m.frames m.clipped m.left from from' held held'
+  pub all_told : (m.left ≡ frame_length conv.channels → m.frames ≡ 100000000000000) → StreamTold conv m.frames m.clipped m.left from from' held held'
   all_told many = record {
     input = so.input;
     text = so.text;

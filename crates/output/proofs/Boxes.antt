@@ -17,7 +17,7 @@ use Rattle.numbers.specs.inner.Lists.{Held, Written}
 use native.Mathlib.Nat.{mul_comm, mul-le-mul_left}
 use Rattle.numbers.proofs.Lists.{below_or, is_tabulate, get_d_tabulate, length_tabulate, written_none, written_more}
 use Rattle.reference.specs.Output.{low24, s24le}
-use Rattle.output.specs.inner.Fills.{Fills, Layout, items, byte_layout, third, Put, place_of, Drawn, Room, written}
+use Rattle.output.specs.inner.Fills.{Fills, Layout, items, byte_layout, byte_of_three, Put, place_of, Drawn, Room, parts_of}
 
 same_or : (a b : ℕ) → (a ≡ b) ⊎ (a ≡ b → ⊥)
 same_or a b = ⊎_elim (λ l. inr (λ e. omega arith)) (λ m. ⊎_elim (λ e. inl (sym e)) (λ l. inr (λ e. omega arith)) (eq-or-lt_of_le m)) (below_or a b)
@@ -71,8 +71,8 @@ module _ {A : Type 0} (o : Layout A) (some : 0 < o.width) (S : ℕ → ℕ → �
           ∙ ap (λ (k : ℕ). o.part (S (k % ch) (k / ch)) (j % o.width)) (sym h)
 
   -- the whole box is the whole list
-  pub all_samples : {n : ℕ} {x y : List A} → 0 < ch → Room o (n * ch) x → Drawn o S ch 0 n 0 ch x y → y ≡ written o (tabulate (λ i. S (i % ch) (i / ch)) 0 (n * ch))
-  unfolding written
+  pub all_samples : {n : ℕ} {x y : List A} → 0 < ch → Room o (n * ch) x → Drawn o S ch 0 n 0 ch x y → y ≡ parts_of o (tabulate (λ i. S (i % ch) (i / ch)) 0 (n * ch))
+  unfolding parts_of
   all_samples {n} {x} {y} p e f =
       let zs = tabulate (λ i. S (i % ch) (i / ch)) 0 (n * ch) in
       let size : length zs ≡ n * ch = length_tabulate (λ i. S (i % ch) (i / ch)) 0 (n * ch) in
@@ -105,27 +105,27 @@ module _ (v : ℤ) (fits : SFits w32 v) where
       go (pos n) m = refl
       go (negsuc n) m = omega arith
 
-  pub three_bits : (bits % 256 ≡ third v 0) × (bits / 256 % 256 ≡ third v 1) × (bits / 65536 % 256 ≡ third v 2)
-  unfolding third
+  pub three_bits : (bits % 256 ≡ byte_of_three v 0) × (bits / 256 % 256 ≡ byte_of_three v 1) × (bits / 65536 % 256 ≡ byte_of_three v 2)
+  unfolding byte_of_three
   three_bits = (omega (arith, low), omega (arith, low), omega (arith, low))
 
 -- the three bytes of a sample, set one by one
-pub three_bytes : (x : List ℕ) (k : ℕ) (v : ℤ) → 3 * k + 3 ≤ length x → Put byte_layout k v x (set (set (set x (3 * k) (third v 0)) (3 * k + 1) (third v 1)) (3 * k + 2) (third v 2))
+pub three_bytes : (x : List ℕ) (k : ℕ) (v : ℤ) → 3 * k + 3 ≤ length x → Put byte_layout k v x (set (set (set x (3 * k) (byte_of_three v 0)) (3 * k + 1) (byte_of_three v 1)) (3 * k + 2) (byte_of_three v 2))
 three_bytes x k v room = set_at (3 * k + 2) (set_at (3 * k + 1) (set_at (3 * k) written_none (omega arith) (omega arith)) refl (omega arith)) refl (omega arith)
   where
-    set_at : {b : ℕ} {y : List ℕ} (j : ℕ) → Written 0 (λ b. 3 * k + b) (third v) b x y → j ≡ 3 * k + b → b < 3 → Written 0 (λ b. 3 * k + b) (third v) (b + 1) x (set y j (third v b))
+    set_at : {b : ℕ} {y : List ℕ} (j : ℕ) → Written 0 (λ b. 3 * k + b) (byte_of_three v) b x y → j ≡ 3 * k + b → b < 3 → Written 0 (λ b. 3 * k + b) (byte_of_three v) (b + 1) x (set y j (byte_of_three v b))
     set_at j w e l = written_more w e (λ i m. omega arith) (omega (arith, w.same)) refl
 
-pub written_items : (zs : List ℤ) → written items zs ≡ zs
-unfolding written
+pub written_items : (zs : List ℤ) → parts_of items zs ≡ zs
+unfolding parts_of
 written_items zs =
     let e : 1 * length zs ≡ length zs = omega arith in
     rw e (sym (is_tabulate (λ j. get_or zs (j / 1) (pos 0)) 0 (length zs) (pos 0) zs refl (λ i l.
     let z : (0 + i) / 1 ≡ i = omega arith in
     rw z refl)))
 
-pub written_bytes : (zs : List ℤ) → written byte_layout zs ≡ s24le zs
-unfolding written s24le third
+pub written_bytes : (zs : List ℤ) → parts_of byte_layout zs ≡ s24le zs
+unfolding parts_of s24le byte_of_three
 written_bytes zs = refl
 
 -- one channel of bytes is the samples packed
@@ -137,7 +137,7 @@ packed_is zs n {x} {y} e room h =
     let size : length x ≡ 3 * ((0 + length zs) * 1) = omega arith in
     let whole : (0 + length zs) * 1 ≡ length zs = omega arith in
     all_samples byte_layout (omega arith) S (omega arith) size drawn
-    ∙ ap (written byte_layout) (rw whole (sym (is_tabulate (λ i. S (i % 1) (i / 1)) 0 (length zs) (pos 0) zs refl (λ i l.
+    ∙ ap (parts_of byte_layout) (rw whole (sym (is_tabulate (λ i. S (i % 1) (i / 1)) 0 (length zs) (pos 0) zs refl (λ i l.
     let z : (0 + i) / 1 ≡ i = omega arith in
     rw z refl))))
     ∙ written_bytes zs

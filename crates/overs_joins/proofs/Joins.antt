@@ -3,11 +3,11 @@ use mathlib.Core.Path.{◌≡◌, refl, ap, ap₂, sym, ◌∙◌}
 use mathlib.Core.List.{List, [], ◌∷◌, ◌++◌, flat_map}
 use mathlib.Core.Bool.{Bool, true, false, cond}
 use Prim.Native.Nat.{ℕ, ◌+◌, ◌-◌, ◌*◌, ◌/◌, ◌%◌, ◌<◌}
-use native.Mathlib.Nat.{zero-add, add-zero, mul-add-div_right, mul-add-mod_self_right, div-eq_of_eq-mul_left, eq_of_mul-eq-mul_right, mul-le-mul_right, div-eq_of_lt, mod-eq_of_lt}
+use native.Mathlib.Nat.{zero-add, add-zero, mul-add-div_right, mul-add-mod_self_right, div-eq_of_eq-mul_left, eq_of_mul-eq-mul_right, div-eq_of_lt, mod-eq_of_lt}
 use native.Mathlib.Omega.{arith}
 use lib.IntN.{ℤ, pos}
-use lib.ListN.{length, get_or, take, drop, length-append, length-take, length-drop, get_or-append}
-use lib.Seq.{take_at, drop_at, get_or-append-add, get_or-take, get_or-drop, take-add}
+use lib.ListN.{length, get_or, take, drop, length-append, get_or-append}
+use lib.Seq.{take_at, drop_at, get_or-append-add}
 use Rattle.numbers.specs.Lists.{tabulate}
 use Rattle.numbers.proofs.Lists.{tabulate_same, tabulate_join, length_tabulate, get_d_tabulate, is_tabulate, part_end}
 use Rattle.reference.specs.Frames.{Run, frame_count}
@@ -22,7 +22,7 @@ use Rattle.joins.proofs.Joins.{cut_runs_join}
 use Rattle.overs.specs.Overs.{Progress, none, overs_from, after, channel}
 use Rattle.overs_joins.specs.Signal.{overs, in_progress}
 use Rattle.overs_joins.specs.Joins.{frame_overs, by_frames, call_samples, call_frames, calls_overs, AsUncut, OversJoin}
-use Rattle.overs.proofs.Laws.{at, channel_is, after_append}
+use Rattle.overs.proofs.Laws.{at, channel_is}
 use Rattle.overs_joins.proofs.Signal.{after_is, overs_are, starts}
 
 -- ---- stretches of a list

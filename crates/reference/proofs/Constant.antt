@@ -1,17 +1,14 @@
 -- Where every byte is the same, so is every value of a stage.
 use mathlib.Core.Path.{◌≡◌, refl, ap, ◌∙◌}
 use mathlib.Core.List.{List}
-use Prim.Native.Nat.{ℕ, suc, ◌+◌, ◌-◌, ◌*◌, ◌<◌, ◌≤◌}
+use Prim.Native.Nat.{ℕ, suc, ◌+◌, ◌*◌}
 use native.Mathlib.Omega.{arith}
 use lib.Dec.{lit<}
 use lib.IntN.{ℤ}
 use Rattle.reference.specs.Rounding.{R}
 use Rattle.reference.specs.Taps.{S1, HB}
-use Rattle.reference.specs.Stages.{M, fir, u, v, w, y, reach}
-use Rattle.reference.specs.Output.{samples_per_frame}
-use Rattle.reference.specs.declared.PcmRate.{PcmRate}
-use Rattle.reference.specs.declared.Cutoff.{Cutoff}
-use Rattle.reference.proofs.Locality.{fir_same, u_same, S1_length, HB_last, y_same, reach_small}
+use Rattle.reference.specs.Stages.{M, fir, u, v, w}
+use Rattle.reference.proofs.Locality.{fir_same, u_same, S1_length, HB_last}
 
 -- values that are z from place a on
 fir_constant : (h : List ℤ) (s : ℕ → ℤ) (a : ℕ) (z : ℤ) → ((k : ℕ) → s (a + k) ≡ z) → (k : ℕ) → fir h s (a + M h + k) ≡ fir h (λ _. z) 0

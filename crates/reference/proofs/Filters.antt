@@ -26,6 +26,10 @@ pub built_in_taps : taps_of built_in ≡ F40
 unfolding taps_of built_in F40
 built_in_taps = refl
 
+pub built_in_passes : decide (filter_places built_in) ≡ accepted
+unfolding decide filter_places right_sums whole_sum whole_size sum_to total taps_of built_in F40
+built_in_passes = refl
+
 module _ (conv : Converter) (f : Filter) where
   filter_alike : f.count ≡ conv.filter.count → taps_of f ≡ taps_of conv.filter → filter_places f ≡ filter_places conv.filter
   unfolding filter_places

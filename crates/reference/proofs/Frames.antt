@@ -47,3 +47,17 @@ unfolding samples_per_frame
 frame_samples Hz88200 = lit≤ tt
 frame_samples Hz176400 = lit≤ tt
 frame_samples Hz352800 = lit≤ tt
+
+-- γ is β with a frame of any bytes put in front: the samples from the first frame on are the same
+pub no_earlier_byte : (rate : PcmRate) (cutoff : Cutoff) (F : List ℤ) → M F ≤ 116 → (β γ : ℕ → ℕ) → ((p : ℕ) → γ (4704 + p) ≡ β p)
+    → (k : ℕ) → y rate cutoff F γ (2 * samples_per_frame rate + k) ≡ y rate cutoff F β (1 * samples_per_frame rate + k)
+no_earlier_byte rate cutoff F few β γ front k =
+    y_same (suc k) γ 2 β 1 rate cutoff F
+    (record {
+      room = omega (arith, reach_small rate cutoff F few);
+      room' = omega (arith, reach_small rate cutoff F few);
+      same = λ p m.
+          let i : 4704 * 2 - reach rate cutoff F + p ≡ 4704 + (4704 * 1 - reach rate cutoff F + p) = omega (arith, reach_small rate cutoff F few) in
+          rw i (front (4704 * 1 - reach rate cutoff F + p));
+    })
+    k (omega (arith, mul-le-mul_left (suc k) (some_samples rate)))

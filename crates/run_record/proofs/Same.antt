@@ -16,7 +16,7 @@ use Rattle.reference.specs.Scaling.{scaled, clamp, clips}
 use Rattle.reference.specs.Output.{samples_per_frame, unclamped, sample, clipped, item, channel_samples, all_samples, samples, channel_clips, channel_extremes, channel_stats, stats, frame_clips}
 use Rattle.reference.specs.Statistics.{extremes_of}
 use Rattle.std.specs.Prelude.{None}
-use Rattle.output.specs.inner.Fills.{Layout, written}
+use Rattle.output.specs.inner.Fills.{Layout, parts_of}
 use Rattle.reference.specs.Refusals.{rack, accepted, decide, Datum, Place, if_present, one_long, run_length, input_places}
 use Rattle.reference.specs.declared.Converter.{Converter}
 use Rattle.reference.specs.declared.ConvertStats.{ConvertStats}
@@ -111,9 +111,9 @@ module _ (conv : Converter) (hb : Bool) (b f : List ℕ) (ha : Bool) (a : List �
       }
 
   module _ {A : Type 0} {o : Layout A} {told : ConvertStats} {out' : List A} {counts counts' : List ℕ} (ran : Ran o conv (lent_run (present hb b) f (present ha a)) told out' counts counts') where
-    pub ran_places : out' ≡ written o (samples conv (run hb b f ha a))
+    pub ran_places : out' ≡ parts_of o (samples conv (run hb b f ha a))
     unfolding lent_run
-    ran_places = ran.places ∙ ap (written o) (samples_same conv _ _ sequence_same refl)
+    ran_places = ran.places ∙ ap (parts_of o) (samples_same conv _ _ sequence_same refl)
 
     pub ran_stats : told ≡ stats conv (run hb b f ha a)
     unfolding lent_run

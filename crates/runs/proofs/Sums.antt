@@ -25,7 +25,7 @@ use Rattle.reference.specs.declared.ConvertStats.{ConvertStats}
 use Rattle.reference.specs.declared.ChannelStats.{ChannelStats}
 use Rattle.gain.specs.Tallies.{tally}
 use Rattle.gain.proofs.Tallies.{tally_none, tally_join, tally_clipped, tally_few}
-use Rattle.output.specs.inner.Fills.{Layout, Drawn, Room, written}
+use Rattle.output.specs.inner.Fills.{Layout, Drawn, Room, parts_of}
 use Rattle.output.proofs.Boxes.{no_rows, no_cols, rows, cols, all_samples}
 use Rattle.blocks.specs.inner.Blocks.{Made}
 use Rattle.blocks.specs.inner.Jobs.{job_run, in_run}
@@ -182,5 +182,5 @@ module _ {A : Type 0} {o : Layout A} (some : 0 < o.width) (j : Job) {x y : List 
       }
     where
       whole : 0 < o.width → (S : ℕ → ℕ → ℤ) → 0 < j.conv.channels → Room o (in_run j * j.conv.channels) x → Drawn o S j.conv.channels 0 (in_run j) 0 j.conv.channels x y
-          → y ≡ written o (tabulate (λ i. S (i % j.conv.channels) (i / j.conv.channels)) 0 (in_run j * j.conv.channels))
+          → y ≡ parts_of o (tabulate (λ i. S (i % j.conv.channels) (i / j.conv.channels)) 0 (in_run j * j.conv.channels))
       whole p S q = all_samples o p S q

@@ -12,7 +12,7 @@ use blocks::Job;
 use output::Place;
 use reference::ConvertStats;
 
-// Frames whose clips nobody asks for are converted so many at a time: a channel's margin is made once for them.
+// Frames whose clips nobody asks for are converted so many at a time: a channel's history is made once for them.
 const STRETCH_FRAMES: usize = 8;
 
 // So many frames, the first of which starts at sample n. What their samples tell is joined to the statistics; their clips

@@ -1,4 +1,4 @@
--- Arrays of small numbers: parts, filled and moved; what a filter asks of them; and new values put after a margin.
+-- Arrays of small numbers: parts, filled and moved; what a filter asks of them; and new values put after a history.
 use mathlib.Core.Path.{◌≡◌, ◌∙◌, ap}
 use mathlib.Core.Logic.{⊎_elim}
 use mathlib.Core.List.{List, ◌++◌}
@@ -6,7 +6,7 @@ use Prim.Native.Nat.{ℕ, ◌+◌, ◌-◌, ◌^◌, ◌≤◌, ◌<◌}
 use native.Mathlib.Omega.{arith}
 use native.Mathlib.Nat.{mul-le-mul_right}
 use lib.IntN.{ℤ, pos}
-use lib.ListN.{length, get_or, take, drop, replicate, length-take, length-replicate, get_or-append, get_or-replicate}
+use lib.ListN.{length, take, drop, replicate, length-take, length-replicate, get_or-append, get_or-replicate}
 use lib.Seq.{get_or-take, get_or-drop, get_or-append-add}
 use borrow.Rule.Slice.PartMut.{put_mid}
 use Rattle.numbers.specs.Sums.{at0}
@@ -84,7 +84,7 @@ fir1_small h {x} {old} {new} a s filled =
 pub front_small : {h x old new : List ℤ} (e : ℕ) → LowPass h → Small (2 ^ 27) x → Filled (λ i. R (same_rate h (take e x) i) 24) old new → Small (2 ^ 29) new
 front_small {h} e f s filled = fir1_small h (omega (arith, f.small)) (small_front e s) filled
 
--- new values after a margin of m, up to place e
+-- new values after a history of m, up to place e
 pub joined_held : {S : ℕ → ℤ} {a i n : ℕ} (m e : ℕ) (x new : List ℤ) → m ≤ e → e ≤ length x → length new ≡ length (take (e - m) (drop m x))
     → Held (pos 0) S a m x → Held (pos 0) S i n new → i ≡ a + m → e - m ≤ n → Held (pos 0) S a e (put_mid m (e - m) x new)
 joined_held m e x new low room long old more i n = held_some e (omega arith) (put_held m (e - m) x new _ (omega arith) old more i n (omega (arith, long, part_length m e x room)))

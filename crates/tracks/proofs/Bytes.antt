@@ -4,7 +4,7 @@ use mathlib.Core.Bool.{cond}
 use mathlib.Core.Logic.{⊎_elim}
 use mathlib.Core.List.{List, [], ◌∷◌, ◌++◌, flat_map}
 use Prim.Native.Nat.{ℕ, ◌+◌, ◌-◌, ◌*◌, ◌≤◌, ◌<◌}
-use native.Mathlib.Nat.{zero-add, add-mul, mul_assoc, mul-le-mul_right}
+use native.Mathlib.Nat.{zero-add, add-mul, mul-le-mul_right}
 use native.Mathlib.Omega.{arith}
 use lib.Dec.{ltb}
 use lib.ListN.{length, get_or, length-append, get_or-append}
@@ -13,9 +13,9 @@ use borrow.Author.Tests.{lt-ltb, le-ltb}
 use Rattle.numbers.specs.Lists.{Each}
 use Rattle.numbers.proofs.Lists.{length_tabulate, get_d_tabulate, below_or}
 use Rattle.reference.specs.Frames.{idle}
-use Rattle.dsf.specs.Dsf.{channels, bits_per_sample, samples, turn_byte}
+use Rattle.dsf.specs.Dsf.{channels, bits_per_sample, sample_count, turn_byte}
 use Rattle.dsf_columns.proofs.Blocks.{quotient, remainder}
-use Rattle.tracks.specs.Tracks.{Track, heads, head_length, all_length, track_bytes, tracks_bytes, tracks_frame}
+use Rattle.tracks.specs.Tracks.{Track, heads, head_length, all_length, track_bytes, tracks_bytes}
 use Rattle.tracks.specs.inner.Tracks.{track_byte, tracks_byte}
 
 -- tracks of n channels
@@ -37,7 +37,7 @@ track_at : (t : Track) (c p : ℕ) → c < channels t.head.bytes → p < head_le
 unfolding track_bytes turn_byte
 track_at t c p h l =
     let n = channels t.head.bytes in
-    get_d_tabulate (turn_byte t.read n (bits_per_sample t.head.bytes) (samples t.head.bytes)) 0 (head_length t.head * n) (p * n + c) idle (omega (arith, mul-le-mul_right n l))
+    get_d_tabulate (turn_byte t.read n (bits_per_sample t.head.bytes) (sample_count t.head.bytes)) 0 (head_length t.head * n) (p * n + c) idle (omega (arith, mul-le-mul_right n l))
     ∙ rw (zero-add (p * n + c), quotient p n c h, remainder p n c h) refl
 
 -- of the tracks end to end

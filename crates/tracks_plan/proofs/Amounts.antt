@@ -9,7 +9,6 @@ use Rattle.tracks.specs.Windows.{own_from, own_to, read_start, read_end, read_by
 use Rattle.tracks_open.specs.Open.{piece_total, numbers, album_of}
 use Rattle.tracks_plan.specs.Plan.{piece_count, piece_from, piece_at}
 use Rattle.tracks_plan.specs.Theorems.{AsksAtMost, PiecesAskAtMost}
-use Rattle.tracks_plan.specs.declared.cutting.Piece.{Piece}
 use Rattle.text.proofs.Options.{some_is, no_some}
 
 -- ---- of each track

@@ -3,11 +3,10 @@ use Rattle.std.proofs.Common.{◌≡◌, Bool, true, false, ℕ, ◌+◌, ◌*�
 use native.Mathlib.Nat.{mul-le-mul_right}
 use Rattle.numbers.specs.Lists.{Each}
 use Rattle.reference.specs.Refusals.{accepted, decide}
-use Rattle.reference.specs.declared.Settings.{Settings}
 use Rattle.dsf.specs.Dsf.{blocks, channels, needed, data_bytes}
 use Rattle.dsf.specs.Reading.{header_places}
 use Rattle.dsf.proofs.Accepted.{head_sound}
-use Rattle.tracks.specs.Tracks.{Head, head_length, tracks_channels, open_places}
+use Rattle.tracks.specs.Tracks.{Head, head_length, tracks_channels}
 use Rattle.tracks.specs.Windows.{own_from, own_to, read_end}
 use Rattle.tracks.proofs.Opened.{is_opened}
 use Rattle.tracks_plan.specs.Theorems.{ReadsWithin}

@@ -18,12 +18,11 @@ use Rattle.reference.proofs.Promises.{accepted_is, exit_accepted}
 use Rattle.joins.specs.Joins.{Call, convert, right_lengths, is_answered_accepted, run_of, samples_of, read_s24le, keep, pieces, accepted_calls}
 use Rattle.joins.proofs.Bytes.{samples_back, bytes_join, no_bytes}
 use Rattle.joins.proofs.Joins.{cut_runs_join}
-use Rattle.joins.proofs.Cases.{uncut}
 use Rattle.wav_format.specs.Wav.{wav_file}
 use Rattle.wav_checks.specs.Places.{wav_places}
-use Rattle.wav.specs.Joined.{WavCall, right_call, made, data_of, file_pieces, FilesJoinTo, FilesJoin, call_file, CallFilesJoin}
+use Rattle.wav.specs.Joined.{WavCall, right_call, made, data_of, file_pieces, FilesJoin, call_file, CallFilesJoin}
 use Rattle.wav_format.proofs.Reading.{data_is}
-use Rattle.wav_checks.proofs.Accepted.{opens_of, fits_of, length_of, convert_takes}
+use Rattle.wav_checks.proofs.Accepted.{opens_of, length_of, convert_takes}
 
 -- ---- a file made is a call of `convert`
 

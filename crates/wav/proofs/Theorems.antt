@@ -16,13 +16,13 @@ use Rattle.wav_format.specs.Wav.{wav_file, frame_size, Right}
 use Rattle.wav_format.specs.Promises.{ReadPromise, file_samples}
 use Rattle.wav_format.proofs.Theorems.{read_back, samples_back}
 use Rattle.wav.specs.Theorems.{ConvertedRead}
-use Rattle.wav_checks.specs.Places.{data_size, wav_places}
+use Rattle.wav_checks.specs.Places.{run_bytes, wav_places}
 use Rattle.wav.specs.Promises.{WavPromise}
 use Rattle.wav_checks.proofs.Accepted.{opens_of, fits_of, two_channels, data_told}
 use Rattle.wav.proofs.Converting.{length_data}
 
-in_frames : (conv : Converter) (r : Run) → data_size conv r ≡ frame_count conv.channels r.frames * frame_size conv.rate conv.channels
-unfolding data_size all_samples channel_samples frame_size
+in_frames : (conv : Converter) (r : Run) → run_bytes conv r ≡ frame_count conv.channels r.frames * frame_size conv.rate conv.channels
+unfolding run_bytes all_samples channel_samples frame_size
 in_frames conv r = regroup (frame_count conv.channels r.frames) (samples_per_frame conv.rate) conv.channels
   where
     regroup : (f p c : ℕ) → 3 * (f * p * c) ≡ f * (3 * p * c)

@@ -2,7 +2,6 @@
 #![tactic(auto)]
 
 ghost use Rattle.std.specs.Prelude.{◌≡◌, ◌*◌, ◌≤◌, length};
-ghost use Rattle.reference.specs.Stages.{taps_of};
 ghost use Rattle.reference.specs.Output.{samples_per_frame};
 ghost use Rattle.channel_bytes.specs.inner.Runs.{slices_run};
 ghost use Rattle.routes.specs.inner.Routes.{last_of, halves_of, lent_taps};

@@ -1,5 +1,5 @@
 use Rattle.std.proofs.Common.{rules, arith, refl, ◌+◌}
-use Rattle.filters.specs.inner.Lifts.{lifted}
+use Rattle.filters.specs.inner.Biases.{biased}
 use Rattle.numbers.proofs.Lists.{written_more}
 use Rattle.band.proofs.centre.Goals as goal
 
@@ -9,7 +9,7 @@ halved-requires g c =
     search rules
 
 pub loop-l-preserved : goal.loop-l-preserved
-unfolding lifted
+unfolding biased
 loop-l-preserved g c =
     (search rules, written_more c.loop-l.invariant.1 refl (λ j m. omega arith) (omega arith) (search rules))
 

@@ -1,6 +1,6 @@
 use Rattle.std.proofs.Common.{◌+◌, pos}
 use Rattle.numbers.specs.inner.Lists.{Written}
-use Rattle.filters.specs.inner.Lifts.{rounded}
+use Rattle.filters.specs.inner.Biases.{rounded}
 use Rattle.band.proofs.round.Given as goal
 
 abbrev pub invariant-loop-l : goal.invariant-loop-l

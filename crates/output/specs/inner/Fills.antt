@@ -25,11 +25,11 @@ abbrev pub items : Layout ℤ
 items = record { width = 1; part = λ z b. z; past = pos 0 }
 
 -- byte b of the three of a number, least first
-unfoldable pub third : ℤ → ℕ → ℕ
-third z b = low24 z / 256 ^ b % 256
+unfoldable pub byte_of_three : ℤ → ℕ → ℕ
+byte_of_three z b = low24 z / 256 ^ b % 256
 
 abbrev pub byte_layout : Layout ℕ
-byte_layout = record { width = 3; part = third; past = 0 }
+byte_layout = record { width = 3; part = byte_of_three; past = 0 }
 
 module _ {A : Type 0} (o : Layout A) where
   -- the places of item k hold the sample z
@@ -50,5 +50,5 @@ module _ {A : Type 0} (o : Layout A) where
   Room n out = length out ≡ o.width * n
 
   -- samples in this form
-  unfoldable pub written : List ℤ → List A
-  written zs = tabulate (λ j. o.part (get_or zs (j / o.width) (pos 0)) (j % o.width)) 0 (o.width * length zs)
+  unfoldable pub parts_of : List ℤ → List A
+  parts_of zs = tabulate (λ j. o.part (get_or zs (j / o.width) (pos 0)) (j % o.width)) 0 (o.width * length zs)

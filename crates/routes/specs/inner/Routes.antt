@@ -161,15 +161,15 @@ fresh Narrow352 false = 168
 fresh Wide176 first = 168
 fresh Wide352 first = 336
 
--- the margin of the block at sample n, for a last filter of m + 1 taps, is 2m values from this one on: those that the
+-- the history of the block at sample n, for a last filter of m + 1 taps, is 2m values from this one on: those that the
 -- block's values follow
-unfoldable pub margin_from : Route → ℕ → Bool → ℕ → ℕ
-margin_from Narrow88 m first n = 2 * n - m
-margin_from Narrow176 m first n = n - m
-margin_from Narrow352 m true n = n / 2 - 8 - m
-margin_from Narrow352 m false n = n / 2 + 8 - m
-margin_from Wide176 m first n = 2 * n - m
-margin_from Wide352 m first n = n - m
+unfoldable pub history_from : Route → ℕ → Bool → ℕ → ℕ
+history_from Narrow88 m first n = 2 * n - m
+history_from Narrow176 m first n = n - m
+history_from Narrow352 m true n = n / 2 - 8 - m
+history_from Narrow352 m false n = n / 2 + 8 - m
+history_from Wide176 m first n = 2 * n - m
+history_from Wide352 m first n = n - m
 
 -- at 352,800 Standard and Low keep 16 values of w from block to block
 unfoldable pub Kept : Route → List ℤ → Bool → (ℕ → ℕ) → ℕ → List ℤ → Type 0
@@ -183,9 +183,9 @@ Kept Wide352 F first β n l = Unit {0}
 -- the arrays before the block that starts at sample n, counted from the frame before the run; `first` tells a frame's
 -- first block
 pub record State (route : Route) (F : List ℤ) (first : Bool) (β : ℕ → ℕ) (n : ℕ) (x kept : List ℤ) : Type 0 where
-  pub margin : Held (pos 0) (filter_input route β) (margin_from route (M F) first n) (2 * M F) x
+  pub history : Held (pos 0) (filter_input route β) (history_from route (M F) first n) (2 * M F) x
   pub w_kept : Kept route F first β n kept
 
 -- the bytes that the block at sample n brings
 abbrev pub Brought : Route → List ℤ → Bool → (ℕ → ℕ) → ℕ → List ℕ → Type 0
-Brought route F first β n bytes = Held 0 β (first_byte route (margin_from route (M F) first n + 2 * M F)) (stride route * fresh route first + around route) bytes
+Brought route F first β n bytes = Held 0 β (first_byte route (history_from route (M F) first n + 2 * M F)) (stride route * fresh route first + around route) bytes

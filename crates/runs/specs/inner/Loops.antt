@@ -8,7 +8,7 @@ use Rattle.reference.specs.declared.Converter.{Converter}
 use Rattle.reference.specs.declared.ConvertStats.{ConvertStats}
 use Rattle.reference.specs.declared.ChannelStats.{ChannelStats}
 use Rattle.gain.specs.Tallies.{tally}
-use Rattle.output.specs.inner.Fills.{Layout, Drawn, written}
+use Rattle.output.specs.inner.Fills.{Layout, Drawn, parts_of}
 
 -- what the first n samples of channel c tell; a channel that is not there has none
 unfoldable pub channel_tally : Converter → Run → ℕ → ℕ → ChannelStats
@@ -30,6 +30,6 @@ clips_below conv r n m c = total (λ j. count (clipped conv r j) n m) 0 c
 
 -- a run: every place of the output, in the form that it has; the counts as far as their list is long; the statistics
 pub record Ran {A : Type 0} (o : Layout A) (conv : Converter) (r : Run) (answer : ConvertStats) (out' : List A) (counts counts' : List ℕ) : Type 0 where
-  pub places : out' ≡ written o (samples conv r)
+  pub places : out' ≡ parts_of o (samples conv r)
   pub counted : counts' ≡ tabulate (frame_clips conv r) 0 (length counts)
   pub is_stats : answer ≡ stats conv r

@@ -1,5 +1,5 @@
 use Rattle.std.proofs.Common.{rules, arith, refl}
-use Rattle.filters.specs.inner.Lifts.{rounded}
+use Rattle.filters.specs.inner.Biases.{rounded}
 use Rattle.numbers.proofs.Lists.{written_more}
 use Rattle.filters.proofs.round.all.Goals as goal
 

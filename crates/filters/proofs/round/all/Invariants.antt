@@ -1,6 +1,6 @@
 use Rattle.std.proofs.Common.{pos}
 use Rattle.numbers.specs.inner.Lists.{Written}
-use Rattle.filters.specs.inner.Lifts.{rounded}
+use Rattle.filters.specs.inner.Biases.{rounded}
 use Rattle.filters.proofs.round.all.Given as goal
 
 abbrev pub invariant-loop-place : goal.invariant-loop-place

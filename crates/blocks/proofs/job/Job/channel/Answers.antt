@@ -2,12 +2,12 @@ use Rattle.std.proofs.Common.{ℕ, true, ◌≡◌, ◌+◌, ◌*◌, ◌/◌, �
 use lib.Dec.{eqb}
 use lib.Seq.{length-take-le}
 use Rattle.reference.proofs.Frames.{frame_samples}
-use Rattle.routes.specs.inner.Routes.{stride, first_byte, margin_from, block_length}
+use Rattle.routes.specs.inner.Routes.{stride, first_byte, history_from, block_length}
 use Rattle.routes.proofs.Routes.{a_frame}
 use Rattle.numbers.proofs.Lists.{part_end}
 use Rattle.blocks.specs.declared.job.Job.{Job}
 use Rattle.blocks.specs.inner.Jobs.{job_bytes, in_frame, in_run}
-use Rattle.blocks.proofs.Places.{some_taps, few_taps, margin_fits, block_fits}
+use Rattle.blocks.proofs.Places.{some_taps, few_taps, history_fits, block_fits}
 use Rattle.blocks.proofs.Sums.{run_few, even_frame, staged_begins, staged_gives, staged_near, blocks_none, blocks_more, front_of, at_end, ready_of}
 use Rattle.blocks.proofs.job.Job.channel.Goals as goal
 
@@ -27,18 +27,18 @@ gather-at-requires g c =
     let job = c.args.self.now in
     let few = run_few job.conv (ready_of job).slices in
     let last = few_taps job.last in
-    (omega arith, omega arith, omega arith, margin_fits job.route (length job.taps.now - 1) (omega arith))
+    (omega arith, omega arith, omega arith, history_fits job.route (length job.taps.now - 1) (omega arith))
 
-pub margin-requires-clause-n_bound : goal.margin-requires-clause-n_bound
-margin-requires-clause-n_bound g c = (omega (arith, few_taps c.args.self.now.last), c.gather-at.auto.bytes)
+pub history-requires-clause-n_bound : goal.history-requires-clause-n_bound
+history-requires-clause-n_bound g c = (omega (arith, few_taps c.args.self.now.last), c.gather-at.auto.bytes)
 
 pub loop-b-init : goal.loop-b-init
 loop-b-init g c =
     let job = c.args.self.now in
     let last = length job.taps.now - 1 in
-    let from = c.start-at.ensures.0 ∙ ap (λ z. first_byte job.route (margin_from job.route last true (z + c.args.n))) c.samples_per_frame-spf.ensures.0 in
+    let from = c.start-at.ensures.0 ∙ ap (λ z. first_byte job.route (history_from job.route last true (z + c.args.n))) c.samples_per_frame-spf.ensures.0 in
     blocks_none
-    (staged_begins (ready_of job) (job_bytes job c.args.channel) c.args.n last refl c.requires.place.2 from c.gather-at.ensures.value c.gather-at.ensures.held c.margin.ensures.held)
+    (staged_begins (ready_of job) (job_bytes job c.args.channel) c.args.n last refl c.requires.place.2 from c.gather-at.ensures.value c.gather-at.ensures.held c.history.ensures.held)
     c.none-told.ensures
 
 -- the block's place in its frames, and in the run

@@ -1,15 +1,15 @@
 use Rattle.std.proofs.Common.{rules, arith, ◌≡◌, ◌+◌, ◌*◌}
 use Rattle.numbers.proofs.Lists.{held_more, held_some}
 use lib.ListN.{length-set}
-use Rattle.stages.proofs.Arrays.{woven_even, woven_odd}
-use Rattle.stages.proofs.weave.Goals as goal
+use Rattle.stages.proofs.Arrays.{interleaved_even, interleaved_odd}
+use Rattle.stages.proofs.interleave.Goals as goal
 
 pub loop-k-preserved : goal.loop-k-preserved
 loop-k-preserved c =
     let k = c.loop-k.k in
     let n : 2 * (k + 1) ≡ 2 * k + 1 + 1 = omega arith in
-    let a = woven_even c.args.even.now c.args.odd.now k in
-    let b = woven_odd c.args.even.now c.args.odd.now k in
+    let a = interleaved_even c.args.even.now c.args.odd.now k in
+    let b = interleaved_odd c.args.even.now c.args.odd.now k in
     rw n (held_more (held_more c.loop-k.invariant (omega arith) (search (rules, a))) (simp length-set (omega arith)) (search (rules, b)))
 
 pub returns : goal.returns

@@ -5,8 +5,8 @@ use Rattle.numbers.proofs.Lists.{held_some, held_none}
 use Rattle.routes.specs.declared.Route.TheVariants.{Narrow88, Wide176}
 use Rattle.routes.specs.inner.Routes.{FirstTables, filter_input, stride, around, first_byte}
 use Rattle.routes.proofs.Arrays.{held_at}
-use Rattle.kernel.proofs.Blocks.{Margined, front_held}
-use Rattle.kernel.proofs.margin.Goals as goal
+use Rattle.kernel.proofs.Blocks.{HistoryHeld, front_held}
+use Rattle.kernel.proofs.history.Goals as goal
 
 pub bring_v-requires : goal.bring_v-requires
 unfolding FirstTables
@@ -27,7 +27,7 @@ pub returns-in-Narrow88 : goal.returns-in-Narrow88
 unfolding filter_input stride around first_byte
 returns-in-Narrow88 c =
     let n = c.args.n in
-    let values : Margined Narrow88 n c.args.bytes.now c.bring_v.new.self.x =
+    let values : HistoryHeld Narrow88 n c.args.bytes.now c.bring_v.new.self.x =
     λ β i l bytes. held_some n (omega arith) (c.bring_v.ensures.held β i (omega arith) (held_at _ (omega arith) (front_held bytes (2 * n + 36) (omega arith))) held_none) in
     record { kept = c.bring_v.ensures.kept; held = ⊎_elim (λ e. rw e values) (⊎_elim (λ e. rw e values) (λ e. rw e values)) c.in-Narrow88.is }
 
@@ -35,6 +35,6 @@ pub returns-in-Wide176-clause-held : goal.returns-in-Wide176-clause-held
 unfolding filter_input stride around first_byte
 returns-in-Wide176-clause-held c =
     let n = c.args.n in
-    let values : Margined Wide176 n c.args.bytes.now c.bring_u.new.self.x =
+    let values : HistoryHeld Wide176 n c.args.bytes.now c.bring_u.new.self.x =
     λ β i l bytes. held_some n (omega arith) (c.bring_u.ensures.held β i (omega arith) (held_at _ (omega arith) (front_held bytes (n + 11) (omega arith))) held_none) in
     ⊎_elim (λ e. rw e values) (λ e. rw e values) c.in-Wide176.is

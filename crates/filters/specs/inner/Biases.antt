@@ -1,17 +1,17 @@
--- How the sums are made. A copy of the block has every value lifted by 2^29, so that the machine multiplies numbers
+-- How the sums are made. A copy of the block has every value biased by 2^29, so that the machine multiplies numbers
 -- that are not negative.
 use Rattle.std.specs.Prelude.{◌≡◌, List, ℕ, ◌^◌, ◌≤◌, ◌<◌, ℤ, pos, nat_abs, ◌+ℤ◌, ◌-ℤ◌}
 use Rattle.numbers.specs.Sums.{at0}
 use Rattle.reference.specs.Rounding.{R}
-use Rattle.lanes.specs.inner.Lanes.{raised, Low}
+use Rattle.lanes.specs.inner.Lanes.{biased_at, Low}
 
--- value k of x, lifted
-unfoldable pub lifted : List ℤ → ℕ → ℤ
-lifted x k = at0 x k +ℤ pos (2 ^ 29)
+-- value k of x, biased
+unfoldable pub biased : List ℤ → ℕ → ℤ
+biased x k = at0 x k +ℤ pos (2 ^ 29)
 
--- v begins with the first n values of x, each lifted
-pub record Raised (n : ℕ) (x : List ℤ) (v : List ℕ) : Type 0 where
-  pub is : (k : ℕ) → k < n → raised v k ≡ lifted x k
+-- v begins with the first n values of x, each biased
+pub record Biased (n : ℕ) (x : List ℤ) (v : List ℕ) : Type 0 where
+  pub is : (k : ℕ) → k < n → biased_at v k ≡ biased x k
   pub low : Low v
 
 -- of the first n sums none is negative, or over 2^54
@@ -19,6 +19,6 @@ pub record Sums (n : ℕ) (s : List ℤ) : Type 0 where
   pub is : (l : ℕ) → l < n → at0 s l ≡ pos (nat_abs (at0 s l))
   pub size : (l : ℕ) → l < n → nat_abs (at0 s l) ≤ 2 ^ 54
 
--- sum l, the lift of 2^53 taken away, rounded
+-- sum l, the bias of 2^53 taken away, rounded
 unfoldable pub rounded : ℕ → List ℤ → ℕ → ℤ
 rounded q s l = R (at0 s l -ℤ pos (2 ^ 53)) q

@@ -1,4 +1,4 @@
--- A sum lifted by an even number b + b of steps D, rounded by the one sum and the lift taken away: R of the sum. D is
+-- A sum biased by an even number b + b of steps D, rounded by the one sum and the bias taken away: R of the sum. D is
 -- 2^q, half its half.
 use mathlib.Core.Path.{◌≡◌, sym, ◌∙◌, ap, ap₂}
 use mathlib.Core.Logic.{⊎_elim}
@@ -126,24 +126,24 @@ module _ (q : ℕ) (some : 1 ≤ q) (few : q ≤ 52) where
   pub half_some : 1 ≤ 2 ^ q / 2
   half_some = omega (arith, half_is, pow_pos (q - 1))
 
-  lift_is : 2 ^ 53 ≡ (2 ^ (52 - q) + 2 ^ (52 - q)) * 2 ^ q
-  lift_is =
+  bias_is : 2 ^ 53 ≡ (2 ^ (52 - q) + 2 ^ (52 - q)) * 2 ^ q
+  bias_is =
       let e : 52 - q + q ≡ 52 = omega arith in
       let p : 2 ^ 52 ≡ 2 ^ (52 - q) * 2 ^ q = ap (λ (n : ℕ). 2 ^ n) (sym e) ∙ pow-add 2 (52 - q) q in
       omega arith
 
-  lift_by_unit : 2 ^ 53 / 2 ^ q ≡ 2 ^ (52 - q) + 2 ^ (52 - q)
-  lift_by_unit =
-      ap (λ (n : ℕ). n / 2 ^ q) lift_is ∙ mul-div_cancel (2 ^ (52 - q) + 2 ^ (52 - q)) (pow_pos q)
+  bias_by_unit : 2 ^ 53 / 2 ^ q ≡ 2 ^ (52 - q) + 2 ^ (52 - q)
+  bias_by_unit =
+      ap (λ (n : ℕ). n / 2 ^ q) bias_is ∙ mul-div_cancel (2 ^ (52 - q) + 2 ^ (52 - q)) (pow_pos q)
 
   -- R of the sum
-  pub lifted_R : (w : ℕ) → R (pos w -ℤ pos (2 ^ 53)) q ≡ pos (near (2 ^ q) w) -ℤ pos (2 ^ 53 / 2 ^ q)
+  pub biased_R : (w : ℕ) → R (pos w -ℤ pos (2 ^ 53)) q ≡ pos (near (2 ^ q) w) -ℤ pos (2 ^ 53 / 2 ^ q)
   unfolding one_sum lowest_kept v k r
-  lifted_R w =
+  biased_R w =
       let b : ℕ = 2 ^ (52 - q) in
-      ap (λ (n : ℕ). R (pos w -ℤ pos n) q) lift_is
+      ap (λ (n : ℕ). R (pos w -ℤ pos n) q) bias_is
       ∙ R_one_sum (pos w -ℤ pos ((b + b) * 2 ^ q)) q some
       ∙ ap₂ (λ (z : ℤ) (n : ℕ). z +ℤ pos ((n + 2 ^ (q - 1) - 1 + nat_abs z % 2) / 2 ^ q)) (floor (2 ^ q) b w (pow_pos q)) (left_over (2 ^ q) b w (pow_pos q))
       ∙ ap₂ (λ (n m : ℕ). pos (w / 2 ^ q) -ℤ pos (b + b) +ℤ pos ((w % 2 ^ q + n - 1 + m) / 2 ^ q)) (sym half_is) (odd_even (w / 2 ^ q) b)
       ∙ plus_over (w / 2 ^ q) ((w % 2 ^ q + 2 ^ q / 2 - 1 + w / 2 ^ q % 2) / 2 ^ q) (b + b)
-      ∙ ap (λ (n : ℕ). pos (near (2 ^ q) w) -ℤ pos n) (sym lift_by_unit)
+      ∙ ap (λ (n : ℕ). pos (near (2 ^ q) w) -ℤ pos n) (sym bias_by_unit)
