@@ -1,12 +1,7 @@
 -- The half band's eight odd taps, taken two at a time.
-use mathlib.Core.Path.{◌≡◌, refl, ap, ap₂}
-use mathlib.Core.Bool.{Bool, true, false, not}
-use mathlib.Core.List.{List}
-use Prim.Native.Nat.{ℕ, zero, suc, ◌+◌, ◌*◌, ◌-◌, ◌^◌, ◌%◌, ◌<◌, ◌≤◌}
-use Rattle.std.specs.Prelude.{eqb}
-use native.Mathlib.Omega.{arith}
-use lib.IntN.{ℤ, pos, nat_abs, ◌+ℤ◌, ◌*ℤ◌, +ℤ_idr, pos-*ℤ-pos, negsuc-*ℤ-pos}
-use lib.ListN.{length, get_or}
+use Rattle.std.proofs.Common.{◌≡◌, refl, ap, ap₂, Bool, true, false, not, List, ℕ, zero, suc, ◌+◌, ◌*◌, ◌-◌, ◌^◌, ◌%◌, ◌<◌, ◌≤◌, eqb, arith, ℤ, pos, nat_abs}
+use Rattle.std.proofs.Common.{◌+ℤ◌, ◌*ℤ◌, length, get_or}
+use lib.IntN.{+ℤ_idr, pos-*ℤ-pos, negsuc-*ℤ-pos}
 use Rattle.numbers.specs.Sums.{sum_to}
 use Rattle.numbers.specs.Lists.{tabulate}
 use Rattle.numbers.proofs.Integers.{abs_add, sums}
@@ -65,7 +60,8 @@ two_size s a b i j k l p q e =
 
 -- two taps more, of sizes that the lanes have room for
 pub two_lanes : {L : ℕ} {v : List ℕ} {acc r : List ℤ} (A B : ℕ) (minus : Bool) (a b down up : ℕ) → a ≤ 2 ^ 25 → b ≤ 2 ^ 25 → Low v → Lanes L A acc
-    → Added L (λ l. signed minus a *ℤ (biased_at v (down + 2 + l) +ℤ biased_at v (up + l)) +ℤ signed minus b *ℤ (biased_at v (down + l) +ℤ biased_at v (up + 2 + l))) acc r → A + 2 * 2 ^ 56 ≤ B → Lanes L B r
+    → Added L (λ l. signed minus a *ℤ (biased_at v (down + 2 + l) +ℤ biased_at v (up + l)) +ℤ signed minus b *ℤ (biased_at v (down + l) +ℤ biased_at v (up + 2 + l))) acc r
+    → A + 2 * 2 ^ 56 ≤ B → Lanes L B r
 two_lanes {v = v} A B minus a b down up p q low l added m =
     let x : nat_abs (signed minus a) ≤ 2 ^ 25 = rw (signed_size minus a) p in
     let y : nat_abs (signed minus b) ≤ 2 ^ 25 = rw (signed_size minus b) q in

@@ -76,7 +76,8 @@ fn two<const L: usize>(
     requires down_in_bounds { (down + L + 2 ≤ length v.now) × (up + L + 2 ≤ length v.now) × (a ≤ 2 ^ 25) × (b ≤ 2 ^ 25) }
     requires low { Low v.now }
     requires lanes { Lanes L (125 * 2 ^ 56) acc }
-    ensures { Added L (λ l. signed minus a *ℤ (biased_at v.now (down + 2 + l) +ℤ biased_at v.now (up + l)) +ℤ signed minus b *ℤ (biased_at v.now (down + l) +ℤ biased_at v.now (up + 2 + l))) acc.entry result }
+    ensures { Added L (λ l. signed minus a *ℤ (biased_at v.now (down + 2 + l) +ℤ biased_at v.now (up + l))
+        +ℤ signed minus b *ℤ (biased_at v.now (down + l) +ℤ biased_at v.now (up + 2 + l))) acc.entry result }
 {
     let mut s = acc;
     for l in 0..L {

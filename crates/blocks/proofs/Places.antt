@@ -1,12 +1,5 @@
 -- Numbers of a route: its blocks in a frame, its taps, and the bytes that its histories and blocks are gathered from.
-use mathlib.Core.Path.{◌≡◌, refl, ◌∙◌, ap}
-use mathlib.Core.Bool.{Bool, true, false}
-use mathlib.Core.List.{List}
-use Prim.Native.Nat.{ℕ, ◌+◌, ◌*◌, ◌/◌, ◌^◌, ◌≤◌, ◌<◌}
-use native.Mathlib.Omega.{arith}
-use lib.Dec.{lit≤}
-use lib.IntN.{ℤ}
-use lib.ListN.{length}
+use Rattle.std.proofs.Common.{◌≡◌, refl, ◌∙◌, ap, Bool, true, false, List, ℕ, ◌+◌, ◌*◌, ◌/◌, ◌^◌, ◌≤◌, ◌<◌, arith, lit≤, ℤ, length}
 use Rattle.reference.specs.Stages.{M}
 use Rattle.reference.specs.Output.{samples_per_frame}
 use Rattle.reference.specs.declared.PcmRate.{PcmRate}

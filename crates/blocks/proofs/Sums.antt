@@ -1,16 +1,7 @@
 -- Samples to blocks, blocks to a channel of some frames: what the loops add up.
-use mathlib.Core.Path.{◌≡◌, refl, sym, ap, ◌∙◌, subst}
-use mathlib.Core.Bool.{Bool, true, false}
-use mathlib.Core.List.{List}
-use Prim.Native.Nat.{ℕ, ◌+◌, ◌*◌, ◌/◌, ◌%◌, ◌^◌, ◌≤◌, ◌<◌}
-use native.Mathlib.Nat.{mul_assoc, mul-le-mul}
-use native.Mathlib.Omega.{arith}
+use Rattle.std.proofs.Common.{◌≡◌, refl, sym, ap, ◌∙◌, subst, Bool, true, false, List, ℕ, ◌+◌, ◌*◌, ◌/◌, ◌%◌, ◌^◌, ◌≤◌, ◌<◌, mul_assoc, mul-le-mul, arith}
+use Rattle.std.proofs.Common.{ne_eqb, eqb, get_or-take, ℤ, pos, nat_abs, length, take, length-take}
 use lib.Arith.{digits_div}
-use borrow.Author.Tests.{ne_eqb}
-use lib.Dec.{eqb}
-use lib.Seq.{get_or-take}
-use lib.IntN.{ℤ, pos, nat_abs}
-use lib.ListN.{length, take, length-take}
 use Rattle.numbers.specs.Sums.{at0}
 use Rattle.numbers.specs.inner.Lists.{Held}
 use Rattle.reference.specs.Frames.{Run, frame_length, frame_count}

@@ -1,6 +1,5 @@
 -- What a call has done, by what the API's call gave.
-use mathlib.Core.Path.{◌≡◌, refl, sym, ap, subst, ◌∙◌}
-use Rattle.std.specs.Prelude.{Result, Ok, Err, List, [], Bool, false, ℕ, ℤ, Float}
+use Rattle.std.proofs.Common.{◌≡◌, refl, sym, ap, subst, ◌∙◌, Result, Ok, Err, List, [], Bool, false, ℕ, ℤ, Float}
 use Rattle.reference.specs.Frames.{Run}
 use Rattle.reference.specs.Scaling.{db_to_linear}
 use Rattle.reference.specs.Settings.{converter_of}

@@ -1,7 +1,5 @@
 -- What is written of a converter, read again.
-use mathlib.Core.Path.{◌≡◌, refl}
-use native.Mathlib.Omega.{arith}
-use Rattle.std.specs.Prelude.{true, List, [], ◌∷◌, ℕ, length}
+use Rattle.std.proofs.Common.{◌≡◌, refl, arith, true, List, [], ◌∷◌, ℕ, length}
 use Rattle.reference.specs.Codes.{hertz, cutoff_number}
 use Rattle.reference.specs.Settings.{filter_of, converter_of}
 use Rattle.reference.specs.Changes.{with_wanted}

@@ -1,9 +1,5 @@
 -- A header read back, whatever follows it; and a file that begins as a header does.
-use mathlib.Core.Path.{◌≡◌, refl}
-use mathlib.Core.List.{List, [], ◌++◌}
-use Prim.Native.Nat.{ℕ}
-use lib.Dec.{T}
-use lib.ListN.{length, drop}
+use Rattle.std.proofs.Common.{◌≡◌, refl, List, [], ◌++◌, ℕ, T, length, drop}
 use Rattle.text.specs.Text.{text}
 use Rattle.text.specs.Bytes.{number_of, number_at, bytes}
 use Rattle.dsf.specs.Dsf.{pair, layout, pairs, orders, frequency, alike, any, all, fits, stated_length, channel_type, channels, bits_per_sample, sample_count, data_size}

@@ -1,14 +1,8 @@
 -- The tests of the header, as the code puts them together.
-use mathlib.Core.Path.{◌≡◌, sym, ap, ◌∙◌}
-use mathlib.Core.List.{List, [], ◌∷◌}
-use mathlib.Core.Bool.{Bool, true, false, not, ◌&&◌, or-false, and-false}
-use mathlib.Core.Logic.{⊎_elim}
-use Prim.Native.Nat.{ℕ, ◌≤◌, ◌<◌}
-use native.Mathlib.Omega.{arith}
-use lib.Dec.{T, eqb, leb, eqb→eq, lit≤}
-use lib.ListN.{length, take, drop, length-drop}
-use lib.Seq.{drop-drop}
-use borrow.Author.Tests.{le-leb, lt-leb, lt-ltb, le-ltb}
+use Rattle.std.proofs.Common.{◌≡◌, sym, ap, ◌∙◌, List, [], ◌∷◌, Bool, true, false, not, ◌&&◌, ⊎_elim, ℕ, ◌≤◌, ◌<◌, arith, T, eqb, leb, eqb→eq, lit≤, length}
+use Rattle.std.proofs.Common.{take, drop, length-drop, drop-drop, le-leb, lt-ltb, le-ltb}
+use mathlib.Core.Bool.{or-false, and-false}
+use borrow.Author.Tests.{lt-leb}
 use Rattle.numbers.proofs.Lists.{below_or}
 use Rattle.reference.specs.Refusals.{Decision, accepted, refused, place, decide}
 use Rattle.reference.proofs.Refusals.{at_first, at_next}

@@ -1,5 +1,6 @@
 -- A DSF file, as Sony's document lays it out: what stands where, what is refused, and the frames that it holds.
-use Rattle.std.specs.Prelude.{List, [], ◌∷◌, ◌++◌, Bool, true, false, cond, not, ◌&&◌, ◌||◌, ℕ, ◌+◌, ◌*◌, ◌-◌, ◌/◌, ◌%◌, ◌^◌, eqb, ltb, leb, length, get_or, drop}
+use Rattle.std.specs.Prelude.{List, [], ◌∷◌, ◌++◌, Bool, true, false, cond, not, ◌&&◌, ◌||◌, ℕ, ◌+◌, ◌*◌, ◌-◌, ◌/◌, ◌%◌, ◌^◌, eqb, ltb, leb, length, get_or}
+use Rattle.std.specs.Prelude.{drop}
 use Rattle.text.specs.Text.{text}
 use Rattle.text.specs.Bytes.{number_at, bytes}
 use Rattle.numbers.specs.Lists.{tabulate, total}

@@ -1,13 +1,6 @@
 -- Bytes at a stride, and a channel put together from pieces.
-use mathlib.Core.Path.{◌≡◌, refl, sym, ap, ◌∙◌}
-use mathlib.Core.List.{List}
-use mathlib.Core.Logic.{◌≢◌}
-use Prim.Native.Nat.{ℕ, ◌+◌, ◌*◌, ◌-◌, ◌/◌, ◌%◌, ◌^◌, ◌≤◌, ◌<◌}
-use native.Mathlib.Nat.{add-mul, mul-le-mul, mul-le-mul_right}
-use native.Mathlib.Omega.{arith}
-use lib.Dec.{ltb, lt→ltb, ltb→lt}
-use lib.ListN.{length, get_or, set, take, drop, length-drop}
-use lib.Seq.{get_or-take, get_or-drop, length-take-le}
+use Rattle.std.proofs.Common.{◌≡◌, refl, sym, ap, ◌∙◌, List, ◌≢◌, ℕ, ◌+◌, ◌*◌, ◌-◌, ◌/◌, ◌%◌, ◌^◌, ◌≤◌, ◌<◌, add-mul, mul-le-mul, mul-le-mul_right, arith, ltb}
+use Rattle.std.proofs.Common.{lt→ltb, ltb→lt, length, get_or, set, take, drop, length-drop, get_or-take, get_or-drop, length-take-le}
 use Rattle.numbers.specs.inner.Lists.{Written}
 use Rattle.numbers.proofs.Lists.{written_more, written_then}
 use Rattle.reference.specs.Frames.{idle}

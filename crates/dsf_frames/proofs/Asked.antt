@@ -1,17 +1,11 @@
 -- What the places of an asked frame decide; the window that every file has past its header; and frames of windows as
 -- the file's.
-use mathlib.Core.Path.{◌≡◌, refl, sym, ap, ap₂, ◌∙◌}
-use mathlib.Core.List.{List, [], ◌∷◌, ◌++◌}
-use mathlib.Core.Bool.{Bool, true, false, cond, not, ◌&&◌, and-false}
-use mathlib.Core.Logic.{◌≢◌, ⊎_elim}
-use Rattle.std.specs.Prelude.{Result, Ok, Err, Some, None, min}
-use Prim.Native.Nat.{ℕ, suc, ◌+◌, ◌-◌, ◌*◌, ◌/◌, ◌%◌, ◌^◌, ◌≤◌, ◌<◌}
-use native.Mathlib.Nat.{mul-le-mul_right, mod-lt, div-lt_iff_lt-mul}
-use native.Mathlib.Omega.{arith}
-use borrow.Author.Tests.{le-leb, lt-leb, lt-ltb, le-ltb, eq-eqb, ne_eqb, eqb-true, leb-true, leb-false, not-false}
-use lib.Dec.{T, ltb, leb, ltb→lt}
-use lib.ListN.{length, get_or, take, drop, length-drop}
-use lib.Seq.{get_or-drop, length-take-le}
+use Rattle.std.proofs.Common.{◌≡◌, refl, sym, ap, ap₂, ◌∙◌, List, [], ◌∷◌, ◌++◌, Bool, true, false, cond, not, ◌&&◌, ◌≢◌, ⊎_elim, Result, Ok, Err, Some, None}
+use Rattle.std.proofs.Common.{min, ℕ, suc, ◌+◌, ◌-◌, ◌*◌, ◌/◌, ◌%◌, ◌^◌, ◌≤◌, ◌<◌, mul-le-mul_right, mod-lt, div-lt_iff_lt-mul, arith, le-leb, lt-ltb, le-ltb}
+use Rattle.std.proofs.Common.{eq-eqb, ne_eqb, eqb-true, leb-true, leb-false, T, ltb, leb, ltb→lt, length, get_or, take, drop, length-drop, get_or-drop}
+use Rattle.std.proofs.Common.{length-take-le}
+use mathlib.Core.Bool.{and-false}
+use borrow.Author.Tests.{lt-leb, not-false}
 use Rattle.numbers.specs.Lists.{tabulate}
 use Rattle.numbers.proofs.Lists.{below_or, length_tabulate, get_d_tabulate, is_tabulate}
 use Rattle.reference.specs.Frames.{frame_length, idle}
@@ -227,7 +221,8 @@ module _ (file head : List ℕ) (n : ℕ) (h : HeadOf file head n) (b : Bytes fi
       let p : start + (place_at g q - start) ≡ place_at g q = omega (arith, above g q (omega arith)) in
       let i : place_at g q - start < length window = omega (arith, within g q (suc q) (omega arith) (omega arith) (omega arith) (omega arith)) in
       ap (λ (x : ℕ). cond (ltb q (sample_count head / 8)) (our_byte (bits_per_sample head) x) idle) (rw p at (w.holds (place_at g q - start) i)))
-      (λ t. skip (ltb q (sample_count head / 8)) _ _ (λ u. omega (arith, ltb→lt q (sample_count head / 8) u)) ∙ sym (skip (ltb q (sample_count head / 8)) _ _ (λ u. omega (arith, ltb→lt q (sample_count head / 8) u))))
+      (λ t. skip (ltb q (sample_count head / 8)) _ _ (λ u. omega (arith, ltb→lt q (sample_count head / 8) u))
+        ∙ sym (skip (ltb q (sample_count head / 8)) _ _ (λ u. omega (arith, ltb→lt q (sample_count head / 8) u))))
       (below_or q (sample_count head / 8))
 
   frame_is : window_frame head f window start ≡ file_frame file f

@@ -1,12 +1,6 @@
 -- The frames are those that the file's samples say, for both bit orders.
-use mathlib.Core.Path.{◌≡◌, refl, ap, ◌∙◌}
-use mathlib.Core.List.{List}
-use mathlib.Core.Bool.{Bool, true, false, cond}
-use Prim.Native.Nat.{ℕ, ◌+◌, ◌-◌, ◌*◌, ◌/◌, ◌%◌, ◌^◌, ◌<◌}
-use native.Mathlib.Nat.{mod-lt, mul_assoc, mul-le-mul_right, add-mul}
-use native.Mathlib.Omega.{arith}
-use lib.Dec.{T, eqb, ltb, eqb→eq, lt→ltb, ltb→lt}
-use lib.ListN.{get_or}
+use Rattle.std.proofs.Common.{◌≡◌, refl, ap, ◌∙◌, List, Bool, true, false, cond, ℕ, ◌+◌, ◌-◌, ◌*◌, ◌/◌, ◌%◌, ◌^◌, ◌<◌, mod-lt, mul_assoc, mul-le-mul_right}
+use Rattle.std.proofs.Common.{add-mul, arith, T, eqb, ltb, eqb→eq, lt→ltb, ltb→lt, get_or}
 use Rattle.numbers.specs.Lists.{total}
 use Rattle.numbers.proofs.Lists.{get_d_tabulate}
 use Rattle.text.specs.Bytes.{Bytes}

@@ -1,14 +1,7 @@
-use Rattle.std.proofs.Common.{min}
+use Rattle.std.proofs.Common.{min, ◌≡◌, sym, ap₂, ◌∙◌, List, ⊎_elim, ℕ, ◌+◌, ◌*◌, ◌-◌, ◌/◌, ◌%◌, ◌^◌, ◌<◌, add-mul, mul_assoc, mod-lt, div-add-mod'}
+use Rattle.std.proofs.Common.{div-lt_iff_lt-mul, arith, leb, ltb, lt→ltb, ltb→lt, length, get_or, le-leb}
 -- A frame out of a window, from its channels.
-use mathlib.Core.Path.{◌≡◌, sym, ap₂, ◌∙◌}
-use mathlib.Core.List.{List}
-use mathlib.Core.Logic.{⊎_elim}
-use Prim.Native.Nat.{ℕ, ◌+◌, ◌*◌, ◌-◌, ◌/◌, ◌%◌, ◌^◌, ◌<◌}
-use native.Mathlib.Nat.{add-mul, mul_assoc, mod-lt, div-add-mod', div-lt_iff_lt-mul}
-use native.Mathlib.Omega.{arith}
-use lib.Dec.{leb, ltb, lt→ltb, ltb→lt}
-use lib.ListN.{length, get_or}
-use borrow.Author.Tests.{le-leb, lt-leb}
+use borrow.Author.Tests.{lt-leb}
 use Rattle.numbers.specs.inner.Lists.{Written}
 use Rattle.numbers.proofs.Lists.{below_or, is_tabulate}
 use Rattle.reference.specs.Frames.{idle}

@@ -1,5 +1,6 @@
 -- What the reader promises of a frame, out of a whole file or out of a window of its data.
-use Rattle.std.specs.Prelude.{◌≡◌, List, [], ◌∷◌, ◌++◌, Option, Some, None, unwrap_or, Result, min, cond, not, ◌&&◌, ℕ, ◌+◌, ◌-◌, ◌*◌, ◌/◌, ◌<◌, ltb, leb, length, get_or}
+use Rattle.std.specs.Prelude.{◌≡◌, List, [], ◌∷◌, ◌++◌, Option, Some, None, unwrap_or, Result, min, cond, not, ◌&&◌, ℕ, ◌+◌, ◌-◌, ◌*◌, ◌/◌, ◌<◌, ltb, leb}
+use Rattle.std.specs.Prelude.{length, get_or}
 use Rattle.reference.specs.Frames.{frame_bytes, frame_length}
 use Rattle.reference.specs.Refusals.{Place, place, decide, decision, number, lent_length}
 use Rattle.reference.specs.Promises.{by_decision}

@@ -1,14 +1,6 @@
 -- The first 92 bytes and the length decide whether a file is hopeful, and where it turns hopeless.
-use mathlib.Core.Path.{◌≡◌, refl, sym, ap, ◌∙◌}
-use mathlib.Core.List.{List, [], ◌∷◌}
-use mathlib.Core.Bool.{true, false, ◌&&◌, ◌||◌}
-use mathlib.Core.Logic.{⊎_elim}
-use Prim.Native.Nat.{ℕ, ◌+◌, ◌%◌, ◌≤◌, ◌<◌}
-use native.Mathlib.Omega.{arith}
-use lib.Dec.{T, T_not, eqb, ltb, leb, le→leb, ltb→lt}
-use borrow.Author.Tests.{lt-ltb}
-use lib.ListN.{length, take}
-use lib.Seq.{take-take, take_all, length-take-le}
+use Rattle.std.proofs.Common.{◌≡◌, refl, sym, ap, ◌∙◌, List, [], ◌∷◌, true, false, ◌&&◌, ◌||◌, ⊎_elim, ℕ, ◌+◌, ◌%◌, ◌≤◌, ◌<◌, arith, T, T_not, eqb, ltb, leb}
+use Rattle.std.proofs.Common.{le→leb, ltb→lt, lt-ltb, length, take, take-take, take_all, length-take-le}
 use Rattle.numbers.proofs.Lists.{below_or}
 use Rattle.reference.specs.Refusals.{decide, is_accepted}
 use Rattle.text.specs.Bytes.{bytes}

@@ -1,12 +1,7 @@
 -- A hopeful beginning has an accepted continuation: its header completed, then zero bytes.
-use mathlib.Core.Path.{◌≡◌, sym, ap, ap₂, ◌∙◌}
-use mathlib.Core.List.{List, [], ◌∷◌, ◌++◌, append_assoc}
-use mathlib.Core.Logic.{⊎_elim}
-use Prim.Native.Nat.{ℕ, ◌+◌, ◌-◌, ◌^◌, ◌≤◌, ◌<◌}
-use native.Mathlib.Omega.{arith}
-use lib.Dec.{T, lit≤}
-use lib.Seq.{drop-drop}
-use lib.ListN.{length, drop, replicate, length-append, length-drop, length-replicate, drop_of_length-le}
+use Rattle.std.proofs.Common.{◌≡◌, sym, ap, ap₂, ◌∙◌, List, [], ◌∷◌, ◌++◌, append_assoc, ⊎_elim, ℕ, ◌+◌, ◌-◌, ◌^◌, ◌≤◌, ◌<◌, arith, T, lit≤, drop-drop, length}
+use Rattle.std.proofs.Common.{drop, replicate, length-append, length-drop, drop_of_length-le}
+use lib.ListN.{length-replicate}
 use Rattle.numbers.proofs.Lists.{below_or}
 use Rattle.text.specs.Text.{text}
 use Rattle.text.specs.Bytes.{Bytes, number_of, number_at, bytes}

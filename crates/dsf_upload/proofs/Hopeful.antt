@@ -1,12 +1,6 @@
 -- A beginning of an accepted file is hopeful.
-use mathlib.Core.Path.{◌≡◌, ap, ap₂, ◌∙◌}
-use mathlib.Core.List.{List, ◌++◌}
-use mathlib.Core.Logic.{⊎_elim}
-use Prim.Native.Nat.{ℕ, ◌+◌, ◌*◌, ◌/◌, ◌%◌, ◌≤◌, ◌<◌}
-use native.Mathlib.Nat.{mul-le-mul, zero-mul}
-use native.Mathlib.Omega.{arith}
-use lib.Dec.{T}
-use lib.ListN.{length, drop, length-append, drop_of_length-le}
+use Rattle.std.proofs.Common.{◌≡◌, ap, ap₂, ◌∙◌, List, ◌++◌, ⊎_elim, ℕ, ◌+◌, ◌*◌, ◌/◌, ◌%◌, ◌≤◌, ◌<◌, mul-le-mul, zero-mul, arith, T, length, drop}
+use Rattle.std.proofs.Common.{length-append, drop_of_length-le}
 use Rattle.numbers.proofs.Lists.{below_or}
 use Rattle.text.specs.Text.{text}
 use Rattle.text.specs.Bytes.{Bytes, bytes}

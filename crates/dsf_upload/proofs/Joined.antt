@@ -1,10 +1,5 @@
 -- The tests of a beginning, as the code puts them together.
-use mathlib.Core.Path.{◌≡◌, refl}
-use mathlib.Core.List.{List}
-use mathlib.Core.Bool.{Bool, true, false, ◌&&◌, ◌||◌}
-use Prim.Native.Nat.{ℕ, ◌+◌, ◌%◌}
-use lib.Dec.{eqb, ltb, leb}
-use Rattle.std.specs.Prelude.{Result, Ok, Err}
+use Rattle.std.proofs.Common.{◌≡◌, refl, List, Bool, true, false, ◌&&◌, ◌||◌, ℕ, ◌+◌, ◌%◌, eqb, ltb, leb, Result, Ok, Err}
 use Rattle.std.specs.Result.{is_ok}
 use Rattle.reference.specs.Refusals.{is_accepted, decision}
 use Rattle.reference.specs.declared.PcmError.{PcmError}

@@ -1,11 +1,6 @@
 -- A hopeful beginning as facts, in both directions.
-use mathlib.Core.Path.{◌≡◌}
-use mathlib.Core.List.{List}
-use mathlib.Core.Bool.{Bool, true, false, not, ◌&&◌, ◌||◌}
-use Prim.Native.Nat.{ℕ, ◌+◌, ◌%◌, ◌≤◌, ◌<◌}
-use native.Mathlib.Omega.{arith}
-use lib.Dec.{T, eqb, ltb, leb, leb→le, le→leb, ltb→lt, nltb→le, eqb→eq}
-use lib.ListN.{length}
+use Rattle.std.proofs.Common.{◌≡◌, List, Bool, true, false, not, ◌&&◌, ◌||◌, ℕ, ◌+◌, ◌%◌, ◌≤◌, ◌<◌, arith, T, eqb, ltb, leb, leb→le, le→leb, ltb→lt, nltb→le}
+use Rattle.std.proofs.Common.{eqb→eq, length}
 use Rattle.dsf.specs.Dsf.{fixed, layout, frequency, all, fits, stated_length, sample_count, needed}
 use Rattle.text.specs.Bytes.{bytes}
 use Rattle.dsf.proofs.Alike.{both, left, right, or_elim}

@@ -1,13 +1,7 @@
 -- Request 9: what was read from a file of the kind that is written is written back as the file.
-use mathlib.Core.Path.{◌≡◌, refl, sym, ap, ap₂, ◌∙◌}
-use mathlib.Core.List.{List, [], ◌++◌, append-nil}
-use mathlib.Core.Logic.{⊎_elim}
-use Prim.Native.Nat.{ℕ, suc, ◌+◌, ◌*◌, ◌/◌, ◌≤◌, ◌<◌}
-use native.Mathlib.Nat.{mul-le-mul_right, mul_assoc, mul-div_cancel}
-use native.Mathlib.Omega.{arith}
-use lib.Dec.{T, ltb, lt→ltb, ltb→lt}
-use lib.ListN.{length, get_or, take, drop, length-drop, drop_of_length-le}
-use lib.Seq.{get_or-take, get_or-drop, length-take-le}
+use Rattle.std.proofs.Common.{◌≡◌, refl, sym, ap, ap₂, ◌∙◌, List, [], ◌++◌, append-nil, ⊎_elim, ℕ, suc, ◌+◌, ◌*◌, ◌/◌, ◌≤◌, ◌<◌, mul-le-mul_right, mul_assoc}
+use Rattle.std.proofs.Common.{mul-div_cancel, arith, T, ltb, lt→ltb, ltb→lt, length, get_or, take, drop, length-drop, drop_of_length-le, get_or-take}
+use Rattle.std.proofs.Common.{get_or-drop, length-take-le}
 use Rattle.numbers.specs.Lists.{tabulate}
 use Rattle.numbers.proofs.Lists.{part_end, below_or, length_tabulate, get_d_tabulate, is_tabulate}
 use Rattle.reference.specs.Frames.{frame, frame_count}
@@ -134,7 +128,8 @@ module _ (file : List ℕ) (b : Bytes file) (pl : Plain file) where
       sym (rw is_channel (pick (ltb q (sample_count file / 8)) _ _ (lt→ltb _ _ i) ∙ ap turned (frame_byte c q h i)
       ∙ turned_twice _ (b.each (92 + data_place n c q)) ∙ ap (λ (x : ℕ). get_or file (92 + x) 0) p)))
       (λ (i : sample_count file / 8 ≤ q).
-      ap (λ (x : ℕ). get_or file (92 + x) 0) (sym p) ∙ pl.zero_padded c q h i k ∙ sym (rw is_channel (skip (ltb q (sample_count file / 8)) _ _ (λ t. omega (arith, ltb→lt q (sample_count file / 8) t)))))
+      ap (λ (x : ℕ). get_or file (92 + x) 0) (sym p) ∙ pl.zero_padded c q h i k
+        ∙ sym (rw is_channel (skip (ltb q (sample_count file / 8)) _ _ (λ t. omega (arith, ltb→lt q (sample_count file / 8) t)))))
       (below_or q (sample_count file / 8))
 
   same_body : tabulate (written_byte n fr) 0 (written_data n fr) ≡ drop 92 file

@@ -1,15 +1,12 @@
 -- Writing: the header put in pieces, a byte of the data, and what the writer's places decide.
-use mathlib.Core.Path.{◌≡◌, refl, sym, ap, ◌∙◌}
-use mathlib.Core.List.{List, [], ◌∷◌, ◌++◌, append_assoc}
-use mathlib.Core.Bool.{not, ◌&&◌, and-false}
-use mathlib.Core.Logic.{◌≢◌}
-use Prim.Native.Nat.{ℕ, ◌+◌, ◌-◌, ◌*◌, ◌/◌, ◌%◌, ◌^◌, ◌≤◌, ◌<◌, min}
-use native.Mathlib.Nat.{zero-add, add-mul, mul-le-mul, mul-le-mul_right, mod-lt, div-add-mod', mul_assoc, div-mul-le_self, div-lt_iff_lt-mul}
-use native.Mathlib.Omega.{arith}
-use lib.Dec.{leb, ltb, lt→ltb, ltb→lt}
-use lib.ListN.{length, get_or, replicate, length-replicate, get_or-replicate, take, drop, length-append, length-drop}
-use lib.Seq.{length-take-le, take-length}
-use borrow.Author.Tests.{le-leb, lt-leb, lt-ltb, le-ltb, eq-eqb, ne_eqb, eqb-true, leb-true, ltb-false, not-false}
+use Rattle.std.proofs.Common.{◌≡◌, refl, sym, ap, ◌∙◌, List, [], ◌∷◌, ◌++◌, append_assoc, not, ◌&&◌, ◌≢◌, ℕ, ◌+◌, ◌-◌, ◌*◌, ◌/◌, ◌%◌, ◌^◌, ◌≤◌, ◌<◌, min}
+use Rattle.std.proofs.Common.{zero-add, add-mul, mul-le-mul, mul-le-mul_right, mod-lt, div-add-mod', mul_assoc, div-mul-le_self, div-lt_iff_lt-mul, arith, leb}
+use Rattle.std.proofs.Common.{ltb, lt→ltb, ltb→lt, length, get_or, replicate, take, drop, length-append, length-drop, length-take-le, le-leb, lt-ltb, le-ltb}
+use Rattle.std.proofs.Common.{eq-eqb, ne_eqb, eqb-true, leb-true, ltb-false, Ok, Err}
+use mathlib.Core.Bool.{and-false}
+use lib.ListN.{length-replicate, get_or-replicate}
+use lib.Seq.{take-length}
+use borrow.Author.Tests.{lt-leb, not-false}
 use borrow.Rule.Slice.PartMut.{put_mid}
 use Rattle.std.proofs.lemmas.Slice.{take-put_mid}
 use Rattle.numbers.specs.Lists.{tabulate}
@@ -17,7 +14,6 @@ use Rattle.numbers.specs.inner.Lists.{Written}
 use Rattle.numbers.proofs.Lists.{is_tabulate, written_as, written_then}
 use Rattle.numbers.proofs.Pieces.{long_mid, written_piece}
 use Rattle.reference.specs.Frames.{frame_count}
-use Rattle.std.specs.Prelude.{Ok, Err}
 use Rattle.reference.specs.declared.PcmError.{PcmError}
 use Rattle.reference.specs.declared.PcmError.TheVariants.{OutputBytes}
 use Rattle.reference.specs.Promises.{by_decision}

@@ -1,13 +1,7 @@
 -- Request 9: a written file is accepted, of the kind that is written, and read back as the frames.
-use mathlib.Core.Path.{◌≡◌, refl, sym, ap, ap₂, ◌∙◌}
-use mathlib.Core.List.{List, [], ◌++◌}
-use mathlib.Core.Bool.{Bool, true, false, cond}
-use Prim.Native.Nat.{ℕ, zero, suc, ◌+◌, ◌*◌, ◌/◌, ◌%◌, ◌^◌, ◌≤◌, ◌<◌}
-use native.Mathlib.Nat.{mul-le-mul, mul_assoc, div-add-mod', mod-lt, div-lt_iff_lt-mul}
-use native.Mathlib.Omega.{arith}
-use lib.Dec.{T, leb, ltb, lt→ltb, ltb→lt}
-use lib.ListN.{length, get_or, take, drop, length-append, length-drop}
-use lib.Seq.{get_or-append-add, get_or-take, get_or-drop, length-take-le}
+use Rattle.std.proofs.Common.{◌≡◌, refl, sym, ap, ap₂, ◌∙◌, List, [], ◌++◌, Bool, true, false, cond, ℕ, zero, suc, ◌+◌, ◌*◌, ◌/◌, ◌%◌, ◌^◌, ◌≤◌, ◌<◌}
+use Rattle.std.proofs.Common.{mul-le-mul, mul_assoc, div-add-mod', mod-lt, div-lt_iff_lt-mul, arith, T, leb, ltb, lt→ltb, ltb→lt, length, get_or, take, drop}
+use Rattle.std.proofs.Common.{length-append, length-drop, get_or-append-add, get_or-take, get_or-drop, length-take-le}
 use Rattle.numbers.specs.Lists.{tabulate}
 use Rattle.numbers.proofs.Lists.{part_end, length_tabulate, get_d_tabulate, is_tabulate}
 use Rattle.reference.specs.Frames.{frame, frame_count}

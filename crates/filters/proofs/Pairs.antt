@@ -1,10 +1,6 @@
 -- The filters' sums by pairs of neighbours, and what the bias adds to them.
-use mathlib.Core.Path.{◌≡◌, refl, sym, ◌∙◌, ap, ap₂}
-use mathlib.Core.List.{List}
-use Prim.Native.Nat.{ℕ, zero, suc, ◌+◌, ◌-◌, ◌^◌, ◌<◌, ◌≤◌}
-use native.Mathlib.Omega.{arith}
-use lib.IntN.{ℤ, pos, ◌+ℤ◌, ◌*ℤ◌, +ℤ_comm, +ℤ_assoc, zero-*ℤ}
-use lib.ListN.{length}
+use Rattle.std.proofs.Common.{◌≡◌, refl, sym, ◌∙◌, ap, ap₂, List, ℕ, zero, suc, ◌+◌, ◌-◌, ◌^◌, ◌<◌, ◌≤◌, arith, ℤ, pos, ◌+ℤ◌, ◌*ℤ◌, length}
+use lib.IntN.{+ℤ_comm, +ℤ_assoc, zero-*ℤ}
 use Rattle.numbers.specs.Sums.{sum_to, apart, at0}
 use Rattle.numbers.proofs.Integers.{+ℤ-left-comm, mul_add, add_mul, *ℤ-assoc, sums}
 use Rattle.numbers.proofs.Sums.{sum_same, sum_head}

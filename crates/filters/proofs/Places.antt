@@ -1,13 +1,7 @@
 -- Whole lists filled, the copy, and every second value.
-use mathlib.Core.Path.{◌≡◌, sym, ◌∙◌, ap}
-use mathlib.Core.List.{List}
-use mathlib.Core.Logic.{⊎_elim}
-use Prim.Native.Nat.{ℕ, ◌+◌, ◌-◌, ◌*◌, ◌/◌, ◌<◌, ◌≤◌, ◌^◌}
-use native.Mathlib.Nat.{eq-or-lt_of_le}
-use native.Mathlib.Omega.{arith}
-use lib.IntN.{ℤ, pos, nat_abs, ◌+ℤ◌}
-use lib.ListN.{length, get_or, set, replicate, length-replicate, get_or-replicate, get_or-eq_default}
-use lib.Seq.{get_or-set_same, get_or-set_other}
+use Rattle.std.proofs.Common.{◌≡◌, sym, ◌∙◌, ap, List, ⊎_elim, ℕ, ◌+◌, ◌-◌, ◌*◌, ◌/◌, ◌<◌, ◌≤◌, ◌^◌, eq-or-lt_of_le, arith, ℤ, pos, nat_abs, ◌+ℤ◌, length}
+use Rattle.std.proofs.Common.{get_or, set, replicate, get_or-set_same, get_or-set_other}
+use lib.ListN.{length-replicate, get_or-replicate, get_or-eq_default}
 use Rattle.numbers.specs.Sums.{at0}
 use Rattle.numbers.proofs.Integers.{abs_add}
 use Rattle.numbers.proofs.Lists.{below_or, written_all, length_tabulate, get_d_tabulate}

@@ -1,13 +1,9 @@
 -- From a block to the signal that it is a part of: each place of the output is the reference's sum over the signal. For
 -- every filter h.
-use mathlib.Core.Path.{◌≡◌, refl, sym, ◌∙◌, ap, ap₂}
-use mathlib.Core.List.{List}
-use mathlib.Core.Logic.{⊎_elim}
-use Prim.Native.Nat.{ℕ, zero, suc, ◌+◌, ◌-◌, ◌*◌, ◌/◌, ◌^◌, ◌<◌, ◌≤◌}
-use native.Mathlib.Nat.{eq-or-lt_of_le}
-use native.Mathlib.Omega.{arith}
-use lib.IntN.{ℤ, pos, nat_abs, ◌+ℤ◌, ◌*ℤ◌, +ℤ_assoc, +ℤ_comm, +ℤ_idr, zero-*ℤ}
-use lib.ListN.{length, get_or-eq_default}
+use Rattle.std.proofs.Common.{◌≡◌, refl, sym, ◌∙◌, ap, ap₂, List, ⊎_elim, ℕ, zero, suc, ◌+◌, ◌-◌, ◌*◌, ◌/◌, ◌^◌, ◌<◌, ◌≤◌, eq-or-lt_of_le, arith, ℤ, pos}
+use Rattle.std.proofs.Common.{nat_abs, ◌+ℤ◌, ◌*ℤ◌, length}
+use lib.IntN.{+ℤ_assoc, +ℤ_comm, +ℤ_idr, zero-*ℤ}
+use lib.ListN.{get_or-eq_default}
 use Rattle.numbers.specs.Sums.{sum_to, apart, at0}
 use Rattle.numbers.specs.Lists.{tabulate}
 use Rattle.numbers.specs.inner.Lists.{Held}

@@ -1,13 +1,6 @@
 -- A block of each route, from what its function ensures to what `block` does; and what the functions ask of the taps.
-use mathlib.Core.Path.{◌≡◌, sym, ◌∙◌, ap}
-use mathlib.Core.Bool.{Bool, true, false}
-use mathlib.Core.List.{List, ◌++◌}
-use Prim.Native.Nat.{ℕ, ◌+◌, ◌-◌, ◌*◌, ◌/◌, ◌%◌, ◌≤◌}
-use native.Mathlib.Omega.{arith}
-use lib.Dec.{lit≤}
-use lib.IntN.{ℤ, pos}
-use lib.ListN.{length, take, get_or-append}
-use lib.Seq.{get_or-take}
+use Rattle.std.proofs.Common.{◌≡◌, sym, ◌∙◌, ap, Bool, true, false, List, ◌++◌, ℕ, ◌+◌, ◌-◌, ◌*◌, ◌/◌, ◌%◌, ◌≤◌, arith, lit≤, ℤ, pos, length, take, get_or-take}
+use lib.ListN.{get_or-append}
 use Rattle.numbers.specs.inner.Lists.{Held}
 use Rattle.numbers.proofs.Lists.{held_none}
 use Rattle.reference.specs.Taps.{S1_WIDE, F40, F80}

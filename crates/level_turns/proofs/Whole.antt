@@ -1,15 +1,10 @@
 -- Turns one after the other tell what the whole input, the bytes that have come, has: its counts, and its text.
-use mathlib.Core.Path.{◌≡◌, refl, sym, ap, ap₂, subst, ◌∙◌}
-use mathlib.Core.List.{List, [], ◌++◌, append_assoc, append-nil}
-use mathlib.Core.Logic.{⊎_elim}
-use Prim.Native.Nat.{ℕ, suc, ◌+◌, ◌-◌, ◌*◌, ◌/◌, ◌%◌, ◌≤◌, ◌<◌}
-use native.Mathlib.Nat.{zero-add, zero-mul, add-zero, suc-mul, mul-add-div_right, mul-add-mod_self_right, mod-eq_of_lt, div-eq_of_lt}
-use native.Mathlib.Omega.{arith}
-use borrow.Author.Tests.{lt-ltb, le-ltb, eq-eqb, ne_eqb}
-use lib.Dec.{eqb, ltb}
-use lib.ListN.{length, take, drop, replicate, get_or-replicate, length-append, length-drop}
-use lib.Seq.{length-take-le, take_all, take_at, drop_at, take-append-le, drop-append-le}
-use Rattle.std.specs.Prelude.{Option}
+use Rattle.std.proofs.Common.{◌≡◌, refl, sym, ap, ap₂, subst, ◌∙◌, List, [], ◌++◌, append_assoc, append-nil, ⊎_elim, ℕ, suc, ◌+◌, ◌-◌, ◌*◌, ◌/◌, ◌%◌, ◌≤◌, ◌<◌}
+use Rattle.std.proofs.Common.{zero-add, zero-mul, add-zero, suc-mul, mod-eq_of_lt, arith, lt-ltb, le-ltb, eq-eqb, ne_eqb, eqb, ltb, length, take, drop}
+use Rattle.std.proofs.Common.{replicate, length-append, length-drop, length-take-le, take_all, take_at, drop_at, Option}
+use native.Mathlib.Nat.{mul-add-div_right, mul-add-mod_self_right, div-eq_of_lt}
+use lib.ListN.{get_or-replicate}
+use lib.Seq.{take-append-le, drop-append-le}
 use Rattle.std.specs.Io.KnownBytes.{Consumes, Appends, IsAtEnd}
 use Rattle.numbers.specs.Lists.{tabulate, total}
 use Rattle.numbers.proofs.Lists.{below_or, part_end}

@@ -1,10 +1,6 @@
 -- A call on each frame: frame by frame, each with those next to it.
-use mathlib.Core.Path.{◌≡◌, refl, sym, ◌∙◌}
-use mathlib.Core.List.{List, [], ◌∷◌}
-use Prim.Native.Nat.{ℕ, zero, suc, ◌+◌, ◌-◌, ◌*◌, ◌<◌}
-use native.Mathlib.Omega.{arith}
-use lib.ListN.{length, replicate, length-replicate}
-use Rattle.std.specs.Prelude.{Ok, nat_lt}
+use Rattle.std.proofs.Common.{◌≡◌, refl, sym, ◌∙◌, List, [], ◌∷◌, ℕ, zero, suc, ◌+◌, ◌-◌, ◌*◌, ◌<◌, arith, length, replicate, Ok, nat_lt}
+use lib.ListN.{length-replicate}
 use Rattle.reference.specs.Frames.{Run, run, frame_length, frame_count, frame}
 use Rattle.reference.specs.Refusals.{decide, accepted}
 use Rattle.reference.specs.declared.Settings.{Settings}

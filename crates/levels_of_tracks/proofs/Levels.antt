@@ -1,11 +1,7 @@
 -- Call by call, what is told is the level report's.
-use mathlib.Core.Path.{◌≡◌, refl, sym, ap, subst, ◌∙◌}
-use mathlib.Core.List.{List, [], ◌∷◌, ◌++◌, map}
-use Prim.Native.Nat.{ℕ, zero, suc, ◌+◌, ◌-◌, ◌*◌, ◌%◌, ◌≤◌, ◌<◌}
-use native.Mathlib.Nat.{add-zero, zero-add, mul-mod_left}
-use native.Mathlib.Omega.{arith}
-use lib.ListN.{length}
-use Rattle.std.specs.Prelude.{sum, fold}
+use Rattle.std.proofs.Common.{◌≡◌, refl, sym, ap, subst, ◌∙◌, List, [], ◌∷◌, ◌++◌, map, ℕ, zero, suc, ◌+◌, ◌-◌, ◌*◌, ◌%◌, ◌≤◌, ◌<◌, add-zero, zero-add, arith}
+use Rattle.std.proofs.Common.{length, sum, fold}
+use native.Mathlib.Nat.{mul-mod_left}
 use Rattle.numbers.specs.Lists.{tabulate, total}
 use Rattle.numbers.proofs.Lists.{tabulate_join, total_join}
 use Rattle.text.specs.Text.{joined}

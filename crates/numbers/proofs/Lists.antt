@@ -1,15 +1,11 @@
 -- Laws of `tabulate` and `total`: equal stretches, stretches joined, the element at a place; and of a list that is
 -- filled from a place on.
-use mathlib.Core.Path.{◌≡◌, refl, ap, ap₂, sym, ◌∙◌}
-use mathlib.Core.List.{List, [], ◌∷◌, ◌++◌, append_assoc, append-nil}
-use mathlib.Core.Bool.{Bool, true, false, cond, not}
-use mathlib.Core.Logic.{◌⊎◌, ◌≢◌, inl, inr, ⊎_elim}
-use Prim.Native.Nat.{ℕ, zero, suc, ◌+◌, ◌-◌, ◌*◌, ◌≤◌, ◌<◌}
-use native.Mathlib.Nat.{mul-le-mul_right}
-use native.Mathlib.Omega.{arith}
-use lib.Dec.{T, leb, leb→le, nleb→lt}
-use lib.ListN.{length, get_or, set, length-set, length-append, get_or-append, replicate, length-replicate, get_or-replicate, get_or-eq_default}
-use lib.Seq.{get_or_at, ext_get_or, get_or-set_same, get_or-set_other}
+use Rattle.std.proofs.Common.{◌≡◌, refl, ap, ap₂, sym, ◌∙◌, List, [], ◌∷◌, ◌++◌, append_assoc, append-nil, Bool, true, false, cond, not, ◌⊎◌, ◌≢◌, inl, inr}
+use Rattle.std.proofs.Common.{⊎_elim, ℕ, zero, suc, ◌+◌, ◌-◌, ◌*◌, ◌≤◌, ◌<◌, mul-le-mul_right, arith, T, leb, leb→le, length, get_or, set, length-set}
+use Rattle.std.proofs.Common.{length-append, replicate, ext_get_or, get_or-set_same, get_or-set_other}
+use lib.Dec.{nleb→lt}
+use lib.ListN.{get_or-append, length-replicate, get_or-replicate, get_or-eq_default}
+use lib.Seq.{get_or_at}
 use Rattle.numbers.specs.Lists.{tabulate, total, count}
 use Rattle.numbers.specs.inner.Lists.{Held, Written}
 

@@ -1,11 +1,7 @@
 -- One operation of an i64 on values that fit, over ℤ, by the sizes. `t z` is z, read back from its bits, as a local
 -- holds it.
-use mathlib.Core.Path.{◌≡◌, ◌∙◌}
-use Prim.Native.Nat.{◌<◌, ◌^◌}
-use lib.IntN.{ℤ}
-use mir.Syntax.{w32, w64}
-use mir.Val.{SFits, to_z, of_z}
-use mir.Facts.{to_z-of_z, sfits_widen}
+use Rattle.std.proofs.Common.{◌≡◌, ◌∙◌, ◌<◌, ◌^◌, ℤ, w32, w64, SFits, to_z, of_z, to_z-of_z}
+use mir.Facts.{sfits_widen}
 use lib.Signed.{mag}
 
 abbrev pub t : ℤ → ℤ

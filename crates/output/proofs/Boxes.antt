@@ -1,20 +1,11 @@
 -- Laws of filled boxes. A right value spoils nothing, wherever it goes: no law needs that two places differ.
-use mathlib.Core.Path.{◌≡◌, refl, sym, ap, ap₂, ◌∙◌}
-use mathlib.Core.Logic.{◌⊎◌, inl, inr, ⊎_elim}
-use mathlib.Core.List.{List}
-use Prim.Native.Nat.{ℕ, ◌+◌, ◌*◌, ◌/◌, ◌%◌, ◌^◌, ◌≤◌, ◌<◌}
-use native.Mathlib.Nat.{mod-lt, div-add-mod', div-lt_iff_lt-mul, eq-or-lt_of_le}
-use native.Mathlib.Omega.{arith}
+use Rattle.std.proofs.Common.{◌≡◌, refl, sym, ap, ap₂, ◌∙◌, ◌⊎◌, inl, inr, ⊎_elim, List, ℕ, ◌+◌, ◌*◌, ◌/◌, ◌%◌, ◌^◌, ◌≤◌, ◌<◌, mod-lt, div-add-mod'}
+use Rattle.std.proofs.Common.{div-lt_iff_lt-mul, eq-or-lt_of_le, arith, ℤ, pos, negsuc, w32, SFits, to_z, of_z, to_z-of_z, length, get_or, set, mul_comm}
+use Rattle.std.proofs.Common.{mul-le-mul_left}
 use lib.Arith.{digits_lt, digits_div, digits_mod}
-use lib.IntN.{ℤ, pos, negsuc}
 use lib.Signed.{mag}
-use mir.Syntax.{w32}
-use mir.Val.{SFits, to_z, of_z}
-use mir.Facts.{to_z-of_z}
-use lib.ListN.{length, get_or, set}
 use Rattle.numbers.specs.Lists.{tabulate}
 use Rattle.numbers.specs.inner.Lists.{Held, Written}
-use native.Mathlib.Nat.{mul_comm, mul-le-mul_left}
 use Rattle.numbers.proofs.Lists.{below_or, is_tabulate, get_d_tabulate, length_tabulate, written_none, written_more}
 use Rattle.reference.specs.Output.{low24, s24le}
 use Rattle.output.specs.inner.Fills.{Fills, Layout, items, byte_layout, byte_of_three, Put, place_of, Drawn, Room, parts_of}
@@ -110,10 +101,12 @@ module _ (v : ℤ) (fits : SFits w32 v) where
   three_bits = (omega (arith, low), omega (arith, low), omega (arith, low))
 
 -- the three bytes of a sample, set one by one
-pub three_bytes : (x : List ℕ) (k : ℕ) (v : ℤ) → 3 * k + 3 ≤ length x → Put byte_layout k v x (set (set (set x (3 * k) (byte_of_three v 0)) (3 * k + 1) (byte_of_three v 1)) (3 * k + 2) (byte_of_three v 2))
+pub three_bytes : (x : List ℕ) (k : ℕ) (v : ℤ) → 3 * k + 3 ≤ length x
+    → Put byte_layout k v x (set (set (set x (3 * k) (byte_of_three v 0)) (3 * k + 1) (byte_of_three v 1)) (3 * k + 2) (byte_of_three v 2))
 three_bytes x k v room = set_at (3 * k + 2) (set_at (3 * k + 1) (set_at (3 * k) written_none (omega arith) (omega arith)) refl (omega arith)) refl (omega arith)
   where
-    set_at : {b : ℕ} {y : List ℕ} (j : ℕ) → Written 0 (λ b. 3 * k + b) (byte_of_three v) b x y → j ≡ 3 * k + b → b < 3 → Written 0 (λ b. 3 * k + b) (byte_of_three v) (b + 1) x (set y j (byte_of_three v b))
+    set_at : {b : ℕ} {y : List ℕ} (j : ℕ) → Written 0 (λ b. 3 * k + b) (byte_of_three v) b x y → j ≡ 3 * k + b → b < 3
+        → Written 0 (λ b. 3 * k + b) (byte_of_three v) (b + 1) x (set y j (byte_of_three v b))
     set_at j w e l = written_more w e (λ i m. omega arith) (omega (arith, w.same)) refl
 
 pub written_items : (zs : List ℤ) → parts_of items zs ≡ zs

@@ -1,13 +1,9 @@
 -- Request 5's theorem: the samples end to end are the run's, and overs go by the samples alone.
-use mathlib.Core.Path.{◌≡◌, refl, ap, ap₂, sym, ◌∙◌}
-use mathlib.Core.List.{List, [], ◌∷◌, ◌++◌, flat_map}
-use mathlib.Core.Bool.{Bool, true, false, cond}
-use Prim.Native.Nat.{ℕ, ◌+◌, ◌-◌, ◌*◌, ◌/◌, ◌%◌, ◌<◌}
-use native.Mathlib.Nat.{zero-add, add-zero, mul-add-div_right, mul-add-mod_self_right, div-eq_of_eq-mul_left, eq_of_mul-eq-mul_right, div-eq_of_lt, mod-eq_of_lt}
-use native.Mathlib.Omega.{arith}
-use lib.IntN.{ℤ, pos}
-use lib.ListN.{length, get_or, take, drop, length-append, get_or-append}
-use lib.Seq.{take_at, drop_at, get_or-append-add}
+use Rattle.std.proofs.Common.{◌≡◌, refl, ap, ap₂, sym, ◌∙◌, List, [], ◌∷◌, ◌++◌, Bool, true, false, cond, ℕ, ◌+◌, ◌-◌, ◌*◌, ◌/◌, ◌%◌, ◌<◌, zero-add, add-zero}
+use Rattle.std.proofs.Common.{mod-eq_of_lt, arith, ℤ, pos, length, get_or, take, drop, length-append, take_at, drop_at, get_or-append-add}
+use mathlib.Core.List.{flat_map}
+use native.Mathlib.Nat.{mul-add-div_right, mul-add-mod_self_right, div-eq_of_eq-mul_left, eq_of_mul-eq-mul_right, div-eq_of_lt}
+use lib.ListN.{get_or-append}
 use Rattle.numbers.specs.Lists.{tabulate}
 use Rattle.numbers.proofs.Lists.{tabulate_same, tabulate_join, length_tabulate, get_d_tabulate, is_tabulate, part_end}
 use Rattle.reference.specs.Frames.{Run, frame_count}

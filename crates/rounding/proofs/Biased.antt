@@ -1,15 +1,9 @@
 -- A sum biased by an even number b + b of steps D, rounded by the one sum and the bias taken away: R of the sum. D is
 -- 2^q, half its half.
-use mathlib.Core.Path.{◌≡◌, sym, ◌∙◌, ap, ap₂}
-use mathlib.Core.Logic.{⊎_elim}
-use Prim.Native.Nat.{ℕ, suc, ◌+◌, ◌*◌, ◌-◌, ◌/◌, ◌%◌, ◌<◌, ◌≤◌, ◌^◌}
-use native.Mathlib.Nat.{div-add-mod', mod-lt}
-use native.Mathlib.Omega.{arith}
+use Rattle.std.proofs.Common.{◌≡◌, sym, ◌∙◌, ap, ap₂, ⊎_elim, ℕ, suc, ◌+◌, ◌*◌, ◌-◌, ◌/◌, ◌%◌, ◌<◌, ◌≤◌, ◌^◌, div-add-mod', mod-lt, arith, pow_pos, pow-add, ℤ}
+use Rattle.std.proofs.Common.{pos, negsuc, neg_ℤ, nat_abs, ◌+ℤ◌, ◌-ℤ◌, ◌*ℤ◌}
 use lib.Arith.{digits_div}
-use lib.Pow.{pow_pos}
-use Rattle.std.proofs.lemmas.Nat.{pow-add}
 use Rattle.std.proofs.Math.Nat.{mul-div_cancel}
-use lib.IntN.{ℤ, pos, negsuc, neg_ℤ, nat_abs, ◌+ℤ◌, ◌-ℤ◌, ◌*ℤ◌}
 use lib.Signed.{shr_z}
 use Rattle.numbers.proofs.Integers.{zext, add_parts, pp_neg, nn_neg, add_mul, neg_mul}
 use Rattle.numbers.proofs.Lists.{below_or}

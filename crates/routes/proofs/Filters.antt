@@ -1,12 +1,7 @@
 -- What the filters of `filters` give over the first e places of an array that holds a signal; the taps of a filter in
 -- halves; and the values between those of w.
-use mathlib.Core.Path.{◌≡◌, refl, ◌∙◌, ap}
-use mathlib.Core.List.{List}
-use Prim.Native.Nat.{ℕ, ◌+◌, ◌-◌, ◌*◌, ◌/◌, ◌%◌, ◌^◌, ◌≤◌, ◌<◌}
-use native.Mathlib.Omega.{arith}
-use lib.IntN.{ℤ, pos, nat_abs, ◌+ℤ◌}
-use lib.ListN.{length, take, drop, length-append}
-use lib.Seq.{get_or-take, take_at, drop_at, take_all}
+use Rattle.std.proofs.Common.{◌≡◌, refl, ◌∙◌, ap, List, ℕ, ◌+◌, ◌-◌, ◌*◌, ◌/◌, ◌%◌, ◌^◌, ◌≤◌, ◌<◌, arith, ℤ, pos, nat_abs, ◌+ℤ◌, length, take, drop}
+use Rattle.std.proofs.Common.{length-append, get_or-take, take_at, drop_at, take_all}
 use Rattle.numbers.specs.Sums.{at0}
 use Rattle.numbers.specs.Lists.{total, tabulate}
 use Rattle.numbers.specs.inner.Lists.{Held}

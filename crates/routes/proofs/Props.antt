@@ -1,6 +1,5 @@
 -- The tables and the taps of a route are facts: there is one proof of each at most.
-use mathlib.Core.List.{List}
-use lib.IntN.{ℤ}
+use Rattle.std.proofs.Common.{List, ℤ}
 use Rattle.std.proofs.Props.{props}
 use Rattle.reference.specs.declared.Converter.{Converter}
 use Rattle.routes.specs.declared.Route.{Route}

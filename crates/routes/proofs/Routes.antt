@@ -1,14 +1,7 @@
 -- The routes of the reference are routes here, with every filter that 17 and 18 let through; sizes of their y.
-use mathlib.Core.Path.{◌≡◌, refl, ap, ◌∙◌}
-use mathlib.Core.Bool.{true, false, ◌&&◌}
-use mathlib.Core.List.{List}
-use Prim.Native.Nat.{ℕ, ◌^◌, ◌≤◌, ◌<◌}
-use native.Mathlib.Nat.{le_antisymm}
-use native.Mathlib.Omega.{arith}
-use borrow.Author.Tests.{leb-true, not-false}
-use lib.Dec.{lit≤, lit<, leb}
-use lib.IntN.{ℤ, pos, negsuc, nat_abs}
-use lib.ListN.{length, take, length-take}
+use Rattle.std.proofs.Common.{◌≡◌, refl, ap, ◌∙◌, true, false, ◌&&◌, List, ℕ, ◌^◌, ◌≤◌, ◌<◌, le_antisymm, arith, leb-true, lit≤, lit<, leb, ℤ, pos, negsuc}
+use Rattle.std.proofs.Common.{nat_abs, length, take, length-take}
+use borrow.Author.Tests.{not-false}
 use lib.Signed.{le_z}
 use Rattle.reference.specs.Taps.{F30}
 use Rattle.reference.specs.Stages.{taps_of, whole_sum, whole_size, y}

@@ -1,12 +1,6 @@
 -- What an accepted call has, and the promises of a call that is accepted or refused.
-use mathlib.Core.Path.{◌≡◌, refl, sym, ap, ◌∙◌}
-use Rattle.std.specs.Prelude.{Ok, Err}
-use mathlib.Core.List.{List, [], ◌∷◌, ◌++◌}
-use mathlib.Core.Bool.{Bool, true, false}
-use Prim.Native.Nat.{ℕ, ◌*◌}
-use borrow.Author.Tests.{eqb-true, not-false}
-use lib.IntN.{ℤ}
-use lib.ListN.{length}
+use Rattle.std.proofs.Common.{◌≡◌, refl, sym, ap, ◌∙◌, Ok, Err, List, [], ◌∷◌, ◌++◌, Bool, true, false, ℕ, ◌*◌, eqb-true, ℤ, length}
+use borrow.Author.Tests.{not-false}
 use Rattle.reference.specs.Frames.{Run, frame_count}
 use Rattle.reference.specs.Output.{all_samples, samples, stats, s24le, frame_clips, per_frame_clips}
 use Rattle.reference.specs.Refusals.{rack, accepted, error_decision, is_accepted, Place, decide, if_present, lent_length, held_places}

@@ -1,13 +1,7 @@
 -- An absent neighbour as an empty slice: the sequence is the same, and with it all that the definition gives.
-use mathlib.Core.Path.{◌≡◌, refl, ap, ap₂, ◌∙◌}
-use mathlib.Core.List.{List, [], ◌++◌, append-nil}
-use mathlib.Core.Bool.{Bool, true, false, cond}
-use Prim.Native.Nat.{ℕ, ◌+◌, ◌*◌, ◌/◌, ◌%◌, ◌<◌}
-use native.Mathlib.Omega.{arith}
-use borrow.Author.Tests.{lt-ltb, eqb-true, not-false}
-use lib.Dec.{T, ltb}
-use lib.IntN.{ℤ}
-use lib.ListN.{length}
+use Rattle.std.proofs.Common.{◌≡◌, refl, ap, ap₂, ◌∙◌, List, [], ◌++◌, append-nil, Bool, true, false, cond, ℕ, ◌+◌, ◌*◌, ◌/◌, ◌%◌, ◌<◌, arith, lt-ltb, eqb-true}
+use Rattle.std.proofs.Common.{T, ltb, ℤ, length, None}
+use borrow.Author.Tests.{not-false}
 use lib.Ieee.{binary64, fits}
 use Rattle.numbers.specs.Lists.{tabulate, total, count}
 use Rattle.reference.specs.Frames.{Run, run, frame_length, frame_count, neighbour, sequence, channel_byte}
@@ -15,7 +9,6 @@ use Rattle.reference.specs.Stages.{taps_of, y}
 use Rattle.reference.specs.Scaling.{scaled, clamp, clips}
 use Rattle.reference.specs.Output.{samples_per_frame, unclamped, sample, clipped, item, channel_samples, all_samples, samples, channel_clips, channel_extremes, channel_stats, stats, frame_clips}
 use Rattle.reference.specs.Statistics.{extremes_of}
-use Rattle.std.specs.Prelude.{None}
 use Rattle.output.specs.inner.Fills.{Layout, parts_of}
 use Rattle.reference.specs.Refusals.{rack, accepted, decide, Datum, Place, if_present, one_long, run_length, input_places}
 use Rattle.reference.specs.declared.Converter.{Converter}

@@ -1,18 +1,8 @@
 -- Channels to a stretch of frames, stretches to the run: what the loops add up.
-use mathlib.Core.Path.{◌≡◌, refl, sym, ap, ◌∙◌}
-use mathlib.Core.Logic.{⊎_elim}
-use mathlib.Core.Bool.{Bool, true, false, cond}
-use mathlib.Core.List.{List}
-use Prim.Native.Nat.{ℕ, zero, suc, ◌+◌, ◌*◌, ◌/◌, ◌%◌, ◌^◌, ◌≤◌, ◌<◌}
-use native.Mathlib.Nat.{mul-le-mul_right, le_refl}
-use native.Mathlib.Numerals.{add-one}
-use native.Mathlib.Omega.{arith}
-use borrow.Author.Tests.{lt-ltb, le-ltb}
-use lib.Dec.{ltb}
-use lib.IntN.{ℤ}
-use lib.ListN.{length, get_or, set, length-set, replicate, get_or-replicate, get_or-eq_default}
-use lib.Seq.{get_or-set_same, get_or-set_other}
-use Rattle.std.specs.Prelude.{None}
+use Rattle.std.proofs.Common.{◌≡◌, refl, sym, ap, ◌∙◌, ⊎_elim, Bool, true, false, cond, List, ℕ, zero, suc, ◌+◌, ◌*◌, ◌/◌, ◌%◌, ◌^◌, ◌≤◌, ◌<◌, mul-le-mul_right}
+use Rattle.std.proofs.Common.{le_refl, add-one, arith, lt-ltb, le-ltb, ltb, ℤ, length, get_or, set, length-set, replicate, get_or-set_same, get_or-set_other}
+use Rattle.std.proofs.Common.{None}
+use lib.ListN.{get_or-replicate, get_or-eq_default}
 use Rattle.numbers.specs.Lists.{total, count, tabulate}
 use Rattle.numbers.proofs.Lists.{get_d_any, below_or, is_tabulate}
 use Rattle.reference.specs.Frames.{Run}

@@ -1,14 +1,8 @@
 -- The statistics of a run are small, and those of its pieces join.
-use mathlib.Core.Path.{◌≡◌, refl, ap, ◌∙◌}
-use mathlib.Core.Bool.{Bool, true, false, cond, not, ◌&&◌, and-eq-true_iff, true≢false}
-use mathlib.Core.List.{List}
-use Prim.Native.Nat.{ℕ, zero, suc, ◌+◌, ◌*◌, ◌^◌, ◌≤◌, ◌<◌}
-use native.Mathlib.Nat.{mul-le-mul}
-use native.Mathlib.Omega.{arith}
-use borrow.Author.Tests.{not-false, leb-true}
-use lib.Dec.{eqb, ltb, leb}
-use lib.IntN.{ℤ, nat_abs}
-use Rattle.std.specs.Prelude.{None}
+use Rattle.std.proofs.Common.{◌≡◌, refl, ap, ◌∙◌, Bool, true, false, cond, not, ◌&&◌, true≢false, List, ℕ, zero, suc, ◌+◌, ◌*◌, ◌^◌, ◌≤◌, ◌<◌, mul-le-mul}
+use Rattle.std.proofs.Common.{arith, leb-true, eqb, ltb, leb, ℤ, nat_abs, None}
+use mathlib.Core.Bool.{and-eq-true_iff}
+use borrow.Author.Tests.{not-false}
 use Rattle.numbers.specs.Extremes.{extreme}
 use Rattle.numbers.specs.Lists.{count}
 use Rattle.numbers.proofs.Extremes.{Best, least_best, greatest_best, picked_in}

@@ -1,11 +1,5 @@
 -- Arrays of stage values: parts, two in turn, and from u in two parts to v by the half band.
-use mathlib.Core.Path.{◌≡◌, ◌∙◌, ap}
-use mathlib.Core.List.{List}
-use Prim.Native.Nat.{ℕ, ◌+◌, ◌-◌, ◌*◌, ◌/◌, ◌%◌, ◌^◌, ◌≤◌, ◌<◌}
-use native.Mathlib.Omega.{arith}
-use lib.Dec.{lit<, lit≤}
-use lib.IntN.{ℤ, pos, nat_abs}
-use lib.ListN.{length, get_or}
+use Rattle.std.proofs.Common.{◌≡◌, ◌∙◌, ap, List, ℕ, ◌+◌, ◌-◌, ◌*◌, ◌/◌, ◌%◌, ◌^◌, ◌≤◌, ◌<◌, arith, lit<, lit≤, ℤ, pos, nat_abs, length, get_or}
 use Rattle.numbers.specs.Sums.{at0}
 use Rattle.numbers.specs.inner.Lists.{Held}
 use Rattle.numbers.specs.inner.Parts.{evens, odds, interleaved}

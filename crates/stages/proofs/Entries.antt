@@ -1,11 +1,5 @@
 -- No entry of the byte tables is over 2^27 in size.
-use mathlib.Core.Path.{◌≡◌, ap}
-use mathlib.Core.Logic.{⊎_elim}
-use mathlib.Core.List.{List}
-use Prim.Native.Nat.{ℕ, zero, suc, ◌+◌, ◌-◌, ◌*◌, ◌/◌, ◌%◌, ◌^◌, ◌≤◌, ◌<◌}
-use native.Mathlib.Omega.{arith}
-use lib.Dec.{lit≤}
-use lib.IntN.{ℤ, nat_abs}
+use Rattle.std.proofs.Common.{◌≡◌, ap, ⊎_elim, List, ℕ, zero, suc, ◌+◌, ◌-◌, ◌*◌, ◌/◌, ◌%◌, ◌^◌, ◌≤◌, ◌<◌, arith, lit≤, ℤ, nat_abs}
 use Rattle.numbers.specs.Sums.{apart}
 use Rattle.numbers.specs.Lists.{total}
 use Rattle.numbers.proofs.Lists.{below_or, total_same, total_join}

@@ -1,13 +1,7 @@
 -- Arrays of small numbers: parts, filled and moved; what a filter asks of them; and new values put after a history.
-use mathlib.Core.Path.{◌≡◌, ◌∙◌, ap}
-use mathlib.Core.Logic.{⊎_elim}
-use mathlib.Core.List.{List, ◌++◌}
-use Prim.Native.Nat.{ℕ, ◌+◌, ◌-◌, ◌^◌, ◌≤◌, ◌<◌}
-use native.Mathlib.Omega.{arith}
-use native.Mathlib.Nat.{mul-le-mul_right}
-use lib.IntN.{ℤ, pos}
-use lib.ListN.{length, take, drop, replicate, length-take, length-replicate, get_or-append, get_or-replicate}
-use lib.Seq.{get_or-take, get_or-drop, get_or-append-add}
+use Rattle.std.proofs.Common.{◌≡◌, ◌∙◌, ap, ⊎_elim, List, ◌++◌, ℕ, ◌+◌, ◌-◌, ◌^◌, ◌≤◌, ◌<◌, arith, mul-le-mul_right, ℤ, pos, length, take, drop, replicate}
+use Rattle.std.proofs.Common.{length-take, get_or-take, get_or-drop, get_or-append-add}
+use lib.ListN.{length-replicate, get_or-append, get_or-replicate}
 use borrow.Rule.Slice.PartMut.{put_mid}
 use Rattle.numbers.specs.Sums.{at0}
 use Rattle.numbers.specs.inner.Lists.{Held}

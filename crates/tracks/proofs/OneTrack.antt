@@ -1,12 +1,7 @@
 -- An album of one track.
-use mathlib.Core.Path.{◌≡◌, refl, ap, ◌∙◌}
-use mathlib.Core.Logic.{⊎_elim}
-use mathlib.Core.List.{List, [], ◌∷◌, append-nil}
-use Prim.Native.Nat.{ℕ, ◌+◌, ◌*◌, ◌/◌, ◌≤◌, ◌<◌}
-use native.Mathlib.Nat.{zero-add, add-zero, le-div_iff_mul-le}
-use native.Mathlib.Omega.{arith}
-use lib.ListN.{get_or, get_or-eq_default}
-use borrow.Author.Tests.{le-ltb}
+use Rattle.std.proofs.Common.{◌≡◌, refl, ap, ◌∙◌, ⊎_elim, List, [], ◌∷◌, append-nil, ℕ, ◌+◌, ◌*◌, ◌/◌, ◌≤◌, ◌<◌, zero-add, add-zero, le-div_iff_mul-le, arith}
+use Rattle.std.proofs.Common.{get_or, le-ltb}
+use lib.ListN.{get_or-eq_default}
 use Rattle.numbers.proofs.Lists.{tabulate_same, get_d_tabulate, below_or}
 use Rattle.reference.specs.Frames.{frame_length, idle}
 use Rattle.reference.specs.Refusals.{decide}

@@ -1,13 +1,9 @@
 -- From tracks to files.
-use mathlib.Core.Path.{◌≡◌, refl, sym, ap, ap₂, subst, ◌∙◌}
-use mathlib.Core.Bool.{true, false}
-use mathlib.Core.List.{List, [], ◌∷◌, ◌++◌, map, flat_map}
-use Prim.Native.Nat.{ℕ, suc, ◌+◌, ◌-◌, ◌*◌, ◌≤◌, ◌<◌}
-use native.Mathlib.Nat.{zero-add, sub-zero, zero-mul, le_trans}
-use native.Mathlib.Omega.{arith}
-use lib.ListN.{length, take, drop, drop_of_length-le, length-take, length-drop, take-append-drop}
-use lib.Seq.{drop-drop, take-length}
-use borrow.Author.Tests.{le-ltb}
+use Rattle.std.proofs.Common.{◌≡◌, refl, sym, ap, ap₂, subst, ◌∙◌, true, false, List, [], ◌∷◌, ◌++◌, map, ℕ, suc, ◌+◌, ◌-◌, ◌*◌, ◌≤◌, ◌<◌, zero-add, zero-mul}
+use Rattle.std.proofs.Common.{le_trans, arith, length, take, drop, drop_of_length-le, length-take, length-drop, take-append-drop, drop-drop, le-ltb, Ok}
+use mathlib.Core.List.{flat_map}
+use native.Mathlib.Nat.{sub-zero}
+use lib.Seq.{take-length}
 use Rattle.numbers.specs.Lists.{tabulate, Each}
 use Rattle.numbers.proofs.Lists.{length_tabulate}
 use Rattle.text.specs.Text.{joined}
@@ -17,7 +13,6 @@ use Rattle.reference.specs.Output.{samples, stats, s24le}
 use Rattle.reference.specs.Promises.{if_lent, stats_told}
 use Rattle.reference.specs.Refusals.{rack, accepted, decide, is_accepted, held_places, input_places, convert_places}
 use Rattle.reference.specs.Statistics.{all_joined}
-use Rattle.std.specs.Prelude.{Ok}
 use Rattle.reference.specs.declared.Settings.{Settings}
 use Rattle.reference.specs.declared.Converter.{Converter}
 use Rattle.reference.specs.declared.ConvertStats.{ConvertStats}

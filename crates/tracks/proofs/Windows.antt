@@ -1,14 +1,6 @@
 -- A piece out of windows of files is the piece out of the files.
-use mathlib.Core.Path.{◌≡◌, refl, sym, ap, subst, ◌∙◌}
-use mathlib.Core.Bool.{cond}
-use mathlib.Core.Logic.{⊎_elim}
-use mathlib.Core.List.{List, [], ◌∷◌, map}
-use Prim.Native.Nat.{ℕ, ◌+◌, ◌-◌, ◌*◌, ◌/◌, ◌%◌, ◌≤◌, ◌<◌}
-use native.Mathlib.Nat.{mul_assoc, mul-le-mul_right, mod-lt, le-div_iff_mul-le, div-lt_iff_lt-mul, div-add-mod'}
-use native.Mathlib.Omega.{arith}
-use lib.Dec.{ltb}
-use lib.ListN.{get_or}
-use borrow.Author.Tests.{lt-ltb, le-ltb}
+use Rattle.std.proofs.Common.{◌≡◌, refl, sym, ap, subst, ◌∙◌, cond, ⊎_elim, List, [], ◌∷◌, map, ℕ, ◌+◌, ◌-◌, ◌*◌, ◌/◌, ◌%◌, ◌≤◌, ◌<◌, mul_assoc}
+use Rattle.std.proofs.Common.{mul-le-mul_right, mod-lt, le-div_iff_mul-le, div-lt_iff_lt-mul, div-add-mod', arith, ltb, get_or, lt-ltb, le-ltb}
 use Rattle.numbers.specs.Lists.{Each}
 use Rattle.numbers.proofs.Lists.{tabulate_same, below_or}
 use Rattle.reference.specs.Frames.{frame_length, idle}

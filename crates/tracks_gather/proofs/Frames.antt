@@ -1,14 +1,11 @@
-use Rattle.std.proofs.Common.{min}
+use Rattle.std.proofs.Common.{min, ◌≡◌, refl, sym, ap, subst, ◌∙◌, ⊎_elim, List, [], ◌∷◌, ◌++◌, append-nil, append_assoc, ℕ, zero, suc, ◌+◌, ◌-◌, ◌*◌, ◌≤◌, ◌<◌}
+use Rattle.std.proofs.Common.{zero-add, zero-mul, add-mul, mul_assoc, mul_comm, mul-le-mul_right, add-one, arith, length, get_or, take, drop, replicate}
+use Rattle.std.proofs.Common.{length-append, length-drop, drop_of_length-le, get_or-take, get_or-drop, get_or-append-add, take_at, drop_at, take_all}
 -- Frames gathered from tracks.
-use mathlib.Core.Path.{◌≡◌, refl, sym, ap, subst, ◌∙◌}
-use mathlib.Core.Logic.{⊎_elim}
-use mathlib.Core.List.{List, [], ◌∷◌, ◌++◌, flat_map, append-nil, append_assoc}
-use Prim.Native.Nat.{ℕ, zero, suc, ◌+◌, ◌-◌, ◌*◌, ◌≤◌, ◌<◌, min}
-use native.Mathlib.Nat.{zero-add, zero-mul, add-mul, mul_assoc, mul_comm, mul-sub, mul-le-mul_right, sub-zero, min-eq_right}
-use native.Mathlib.Numerals.{add-one}
-use native.Mathlib.Omega.{arith}
-use lib.ListN.{length, get_or, take, drop, replicate, length-append, length-drop, length-replicate, get_or-replicate, drop_of_length-le, get_or-append, get_or-eq_default}
-use lib.Seq.{get_or-take, get_or-drop, get_or-append-add, take_at, drop_at, take_all, drop-nil}
+use mathlib.Core.List.{flat_map}
+use native.Mathlib.Nat.{mul-sub, sub-zero, min-eq_right}
+use lib.ListN.{length-replicate, get_or-replicate, get_or-append, get_or-eq_default}
+use lib.Seq.{drop-nil}
 use Rattle.numbers.specs.Lists.{tabulate}
 use Rattle.numbers.proofs.Lists.{tabulate_join, length_tabulate, is_tabulate, get_d_any, below_or}
 use Rattle.text.specs.Text.{with_text, Printed}
@@ -77,7 +74,8 @@ lesser_times : (l k m n : ℕ) → min (l * n) (k * n) - m * n ≡ (min l k - m)
 lesser_times l k m n = rw (min_times l k n) (sub_times (min l k) m n)
 
 own_clip : (t : Track) (o a b : ℕ)
-    → let n = channels t.head.bytes in stretch t.read n (bits_per_sample t.head.bytes) (sample_count t.head.bytes) (a - o) (min (head_length t.head) (b - o)) ≡ clip (a * n) (b * n) (o * n) (track_bytes t)
+    → let n = channels t.head.bytes in
+    stretch t.read n (bits_per_sample t.head.bytes) (sample_count t.head.bytes) (a - o) (min (head_length t.head) (b - o)) ≡ clip (a * n) (b * n) (o * n) (track_bytes t)
 unfolding stretch clip track_bytes
 own_clip t o a b =
     let n = channels t.head.bytes in

@@ -1,10 +1,7 @@
 -- What a gathering has done before a track, and what is left to do.
-use mathlib.Core.Path.{◌≡◌, refl, sym, ap, subst, ◌∙◌}
-use mathlib.Core.List.{List, [], ◌∷◌}
-use Prim.Native.Nat.{ℕ, ◌+◌, ◌-◌, ◌*◌, ◌≤◌, ◌<◌, min}
-use native.Mathlib.Nat.{zero-add, sub-zero, mul_assoc, mul-le-mul_right}
-use native.Mathlib.Omega.{arith}
-use lib.ListN.{length}
+use Rattle.std.proofs.Common.{◌≡◌, refl, sym, ap, subst, ◌∙◌, List, [], ◌∷◌, ℕ, ◌+◌, ◌-◌, ◌*◌, ◌≤◌, ◌<◌, min, zero-add, mul_assoc, mul-le-mul_right, arith}
+use Rattle.std.proofs.Common.{length}
+use native.Mathlib.Nat.{sub-zero}
 use Rattle.numbers.specs.Lists.{Each}
 use Rattle.dsf.specs.Dsf.{channels}
 use Rattle.tracks.specs.Runs.{frames_from}

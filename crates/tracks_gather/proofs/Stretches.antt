@@ -1,10 +1,5 @@
 -- What one track needs.
-use mathlib.Core.Path.{◌≡◌, refl, sym, ap, ◌∙◌}
-use mathlib.Core.List.{List}
-use Prim.Native.Nat.{ℕ, ◌+◌, ◌-◌, ◌*◌, ◌/◌, ◌<◌}
-use native.Mathlib.Omega.{arith}
-use lib.ListN.{length, take, drop, length-drop}
-use lib.Seq.{get_or-drop, take_all}
+use Rattle.std.proofs.Common.{◌≡◌, refl, sym, ap, ◌∙◌, List, ℕ, ◌+◌, ◌-◌, ◌*◌, ◌/◌, ◌<◌, arith, length, take, drop, length-drop, get_or-drop, take_all}
 use Rattle.dsf.specs.Dsf.{blocks, channels, bits_per_sample, sample_count}
 use Rattle.dsf.specs.Reading.{file_header}
 use Rattle.dsf.specs.declared.DsfHeader.{DsfHeader}

@@ -1,7 +1,6 @@
 -- How much a piece asks.
 use Rattle.std.proofs.Common.{◌≡◌, Some, None, Bool, true, false, ℕ, ◌+◌, ◌-◌, ◌*◌, ◌/◌, ◌≤◌, ◌<◌, List, [], ◌∷◌, length, cond, ltb, arith, refl, min}
-use native.Mathlib.Nat.{mul-le-mul_right, add-mul}
-use borrow.Author.Tests.{ltb-true}
+use Rattle.std.proofs.Common.{mul-le-mul_right, add-mul, ltb-true}
 use Rattle.reference.specs.declared.PcmRate.{PcmRate}
 use Rattle.dsf.specs.Dsf.{blocks}
 use Rattle.tracks.specs.Tracks.{Head, head_length, tracks_channels, tracks_frames}

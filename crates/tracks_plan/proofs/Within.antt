@@ -1,6 +1,5 @@
 -- What is read is in the files.
-use Rattle.std.proofs.Common.{◌≡◌, Bool, true, false, ℕ, ◌+◌, ◌*◌, ◌/◌, ◌≤◌, List, [], ◌∷◌, cond, ltb, arith}
-use native.Mathlib.Nat.{mul-le-mul_right}
+use Rattle.std.proofs.Common.{◌≡◌, Bool, true, false, ℕ, ◌+◌, ◌*◌, ◌/◌, ◌≤◌, List, [], ◌∷◌, cond, ltb, arith, mul-le-mul_right}
 use Rattle.numbers.specs.Lists.{Each}
 use Rattle.reference.specs.Refusals.{accepted, decide}
 use Rattle.dsf.specs.Dsf.{blocks, channels, needed, data_bytes}

@@ -1,13 +1,8 @@
 -- A stretch from its channels.
-use mathlib.Core.Path.{◌≡◌, refl, sym, ap, ◌∙◌}
-use mathlib.Core.Logic.{⊎_elim}
-use mathlib.Core.List.{List, ◌++◌}
-use Prim.Native.Nat.{ℕ, ◌+◌, ◌*◌, ◌-◌, ◌/◌, ◌%◌, ◌^◌, ◌≤◌, ◌<◌}
-use native.Mathlib.Nat.{add-mul, mul-le-mul_right, mod-lt, div-add-mod', div-lt_iff_lt-mul}
-use native.Mathlib.Omega.{arith}
-use lib.ListN.{length, get_or, take, drop, length-append, length-drop, get_or-append}
-use lib.Seq.{get_or-take, get_or-drop, get_or-append-add, length-take-le, ext_get_or}
-use borrow.Author.Tests.{lt-ltb}
+use Rattle.std.proofs.Common.{◌≡◌, refl, sym, ap, ◌∙◌, ⊎_elim, List, ◌++◌, ℕ, ◌+◌, ◌*◌, ◌-◌, ◌/◌, ◌%◌, ◌^◌, ◌≤◌, ◌<◌, add-mul, mul-le-mul_right, mod-lt}
+use Rattle.std.proofs.Common.{div-add-mod', div-lt_iff_lt-mul, arith, length, get_or, take, drop, length-append, length-drop, get_or-take, get_or-drop}
+use Rattle.std.proofs.Common.{get_or-append-add, length-take-le, ext_get_or, lt-ltb}
+use lib.ListN.{get_or-append}
 use Rattle.numbers.specs.Lists.{tabulate}
 use Rattle.numbers.specs.inner.Lists.{Written}
 use Rattle.numbers.proofs.Lists.{below_or, length_tabulate, get_d_tabulate}

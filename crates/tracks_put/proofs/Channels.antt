@@ -1,11 +1,6 @@
 -- A channel from its pieces.
-use mathlib.Core.Path.{◌≡◌, refl, sym, ap, ◌∙◌}
-use mathlib.Core.List.{List}
-use Prim.Native.Nat.{ℕ, ◌+◌, ◌*◌, ◌-◌, ◌/◌, ◌%◌, ◌^◌, ◌≤◌, ◌<◌}
-use native.Mathlib.Nat.{add-mul, mul-le-mul_right}
-use native.Mathlib.Omega.{arith}
-use lib.ListN.{length, get_or, take, drop, length-drop}
-use lib.Seq.{get_or-take, get_or-drop, length-take-le}
+use Rattle.std.proofs.Common.{◌≡◌, refl, sym, ap, ◌∙◌, List, ℕ, ◌+◌, ◌*◌, ◌-◌, ◌/◌, ◌%◌, ◌^◌, ◌≤◌, ◌<◌, add-mul, mul-le-mul_right, arith, length, get_or, take}
+use Rattle.std.proofs.Common.{drop, length-drop, get_or-take, get_or-drop, length-take-le}
 use Rattle.numbers.specs.inner.Lists.{Written}
 use Rattle.reference.specs.Frames.{frame_length}
 use Rattle.dsf.specs.Dsf.{blocks, data_place}

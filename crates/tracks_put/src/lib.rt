@@ -23,7 +23,8 @@ struct Part {
 // A channel's bytes, block by block through a table, into places at a stride from `at` on.
 fn channel(window: &Stretch, table: &[u8; 256], channel: Channel, at: usize, out: &mut [u8])
     requires { ChannelArgs channel.channels channel.number channel.first channel.end window.now.start (length window.now.bytes.now) at (length out.old) }
-    ensures { Written 0 (λ i. at + i * channel.channels) (table_byte window.now.bytes.now table.now channel.channels window.now.start channel.number channel.first) (channel.end - channel.first) out.old out.new }
+    ensures { Written 0 (λ i. at + i * channel.channels) (table_byte window.now.bytes.now table.now channel.channels window.now.start channel.number channel.first)
+        (channel.end - channel.first) out.old out.new }
 {
     let stride = channel.channels as usize;
     let mut q = channel.first;

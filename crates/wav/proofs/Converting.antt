@@ -1,12 +1,6 @@
 -- What the converting writer leaves, from its places and from what `convert` leaves behind the header.
-use mathlib.Core.Path.{◌≡◌, sym, ap, ◌∙◌}
-use Rattle.std.specs.Prelude.{Err}
-use mathlib.Core.List.{List, ◌++◌}
-use mathlib.Core.Bool.{Bool, false}
-use Prim.Native.Nat.{ℕ, ◌-◌, ◌*◌, ◌≤◌}
-use native.Mathlib.Omega.{arith}
-use lib.ListN.{length, take, drop, length-drop, length-append}
-use lib.Seq.{length-take-le}
+use Rattle.std.proofs.Common.{◌≡◌, sym, ap, ◌∙◌, Err, List, ◌++◌, Bool, false, ℕ, ◌-◌, ◌*◌, ◌≤◌, arith, length, take, drop, length-drop, length-append}
+use Rattle.std.proofs.Common.{length-take-le}
 use borrow.Rule.Slice.PartMut.{put_mid}
 use Rattle.numbers.proofs.Lists.{length_tabulate}
 use Rattle.reference.specs.Codes.{hertz}

@@ -1,10 +1,5 @@
 -- A file made from a run is read back, and the writer's promise leaves nothing free.
-use mathlib.Core.Path.{◌≡◌, sym, ap, subst, ◌∙◌}
-use mathlib.Core.List.{List}
-use mathlib.Core.Bool.{Bool}
-use Prim.Native.Nat.{ℕ, ◌*◌}
-use native.Mathlib.Omega.{arith}
-use lib.ListN.{length}
+use Rattle.std.proofs.Common.{◌≡◌, sym, ap, subst, ◌∙◌, List, Bool, ℕ, ◌*◌, arith, length}
 use Rattle.reference.specs.Frames.{Run, frame_count}
 use Rattle.reference.specs.Output.{samples_per_frame, channel_samples, all_samples, samples, s24le}
 use Rattle.reference.specs.Refusals.{rack, accepted, decide}

@@ -1,12 +1,6 @@
 -- What an accepted call has.
-use mathlib.Core.Path.{◌≡◌, sym, ap, ◌∙◌}
-use mathlib.Core.List.{List, [], ◌∷◌, ◌++◌}
-use mathlib.Core.Bool.{Bool, true, not, ◌&&◌}
-use Prim.Native.Nat.{ℕ, ◌+◌, ◌-◌, ◌≤◌}
-use native.Mathlib.Omega.{arith}
-use borrow.Author.Tests.{eq-eqb, eqb-true, leb-true, not-false}
-use lib.Dec.{leb}
-use lib.ListN.{length}
+use Rattle.std.proofs.Common.{◌≡◌, sym, ap, ◌∙◌, List, [], ◌∷◌, ◌++◌, Bool, true, not, ◌&&◌, ℕ, ◌+◌, ◌-◌, ◌≤◌, arith, eq-eqb, eqb-true, leb-true, leb, length}
+use borrow.Author.Tests.{not-false}
 use Rattle.reference.specs.Frames.{Run, frame_count}
 use Rattle.reference.specs.Refusals.{Decision, accepted, decide, if_present, lent_length, rack, held_places, input_places, byte_lengths, convert_places}
 use Rattle.reference.specs.declared.Converter.{Converter}

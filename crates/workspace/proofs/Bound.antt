@@ -1,12 +1,6 @@
 -- What is bound once a call: the taps in the front of their array, the tables of a route, and what makes a run ready.
-use mathlib.Core.Path.{◌≡◌, ◌∙◌, ap₂}
-use mathlib.Core.List.{List, ◌++◌, append_assoc}
-use Prim.Native.Nat.{ℕ, ◌+◌, ◌-◌, ◌*◌, ◌/◌}
-use native.Mathlib.Omega.{arith}
+use Rattle.std.proofs.Common.{◌≡◌, ◌∙◌, ap₂, List, ◌++◌, append_assoc, ℕ, ◌+◌, ◌-◌, ◌*◌, ◌/◌, arith, ℤ, length, take, length-append, take_at}
 use borrow.Rule.Slice.PartMut.{put_mid}
-use lib.IntN.{ℤ}
-use lib.ListN.{length, take, length-append}
-use lib.Seq.{take_at}
 use Rattle.numbers.specs.Sums.{at0}
 use Rattle.lanes.specs.inner.Lanes.{Filled}
 use Rattle.filters.proofs.Signals.{is_even, is_odd}

@@ -1,5 +1,4 @@
-use Rattle.std.proofs.Common.{arith, ◌≡◌, ◌+◌, ◌*◌, ap, ◌∙◌}
-use lib.ListN.{set, length-set}
+use Rattle.std.proofs.Common.{arith, ◌≡◌, ◌+◌, ◌*◌, ap, ◌∙◌, set, length-set}
 use Rattle.numbers.proofs.Lists.{held_more}
 use Rattle.numbers.proofs.Machine.{t, val}
 use Rattle.first_stage.specs.inner.Windows.{window_sum}

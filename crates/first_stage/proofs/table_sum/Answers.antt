@@ -1,8 +1,6 @@
-use Rattle.std.proofs.Common.{rules, arith, refl, ◌≡◌, ◌+◌, ◌*◌, ◌^◌, ◌≤◌, nat_abs, ◌+ℤ◌, ℤ, to_z, of_z, w32, get_or, ap}
-use native.Mathlib.Numerals.{add-one}
+use Rattle.std.proofs.Common.{rules, arith, refl, ◌≡◌, ◌+◌, ◌*◌, ◌^◌, ◌≤◌, nat_abs, ◌+ℤ◌, ℤ, to_z, of_z, w32, get_or, ap, add-one, to_z-of_z}
 use Rattle.numbers.specs.Sums.{sum_to, at0}
 use Rattle.numbers.proofs.Integers.{sfits_abs, abs_add}
-use mir.Facts.{to_z-of_z}
 use Rattle.first_stage.proofs.table_sum.Goals as goal
 
 pub loop-j-init : goal.loop-j-init

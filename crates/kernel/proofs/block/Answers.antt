@@ -1,5 +1,4 @@
-use Rattle.std.proofs.Common.{arith, ◌∙◌, ◌*◌, ◌+◌, ◌-◌, ◌≤◌}
-use lib.Seq.{length-take-le}
+use Rattle.std.proofs.Common.{arith, ◌∙◌, ◌*◌, ◌+◌, ◌-◌, ◌≤◌, length-take-le}
 use Rattle.routes.specs.declared.Route.TheVariants.{Narrow88, Narrow176, Wide176}
 use Rattle.routes.specs.inner.Routes.{FirstTables, block_length}
 use Rattle.kernel.proofs.Blocks.{blocked_front, blocked_88, blocked_176, blocked_352, blocked_wide176, blocked_wide352}

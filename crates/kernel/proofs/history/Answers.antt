@@ -1,6 +1,4 @@
-use Rattle.std.proofs.Common.{arith, ◌+◌, ◌*◌}
-use mathlib.Core.Logic.{⊎_elim}
-use lib.Seq.{length-take-le}
+use Rattle.std.proofs.Common.{arith, ◌+◌, ◌*◌, ⊎_elim, length-take-le}
 use Rattle.numbers.proofs.Lists.{held_some, held_none}
 use Rattle.routes.specs.declared.Route.TheVariants.{Narrow88, Wide176}
 use Rattle.routes.specs.inner.Routes.{FirstTables, filter_input, stride, around, first_byte}

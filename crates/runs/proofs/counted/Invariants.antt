@@ -6,4 +6,5 @@ use Rattle.runs.specs.inner.Loops.{Covered}
 use Rattle.runs.proofs.counted.Given as goal
 
 abbrev pub invariant-loop-f : goal.invariant-loop-f
-invariant-loop-f g l = Covered g.P.Place.layout l.job.conv (job_run l.job) 0 (l.f * in_frame l.job) l.initial.out l.out l.stats.channels × Held 0 (frame_clips l.job.conv (job_run l.job)) 0 l.f l.counts
+invariant-loop-f g l = Covered g.P.Place.layout l.job.conv (job_run l.job) 0 (l.f * in_frame l.job) l.initial.out l.out l.stats.channels
+    × Held 0 (frame_clips l.job.conv (job_run l.job)) 0 l.f l.counts

@@ -1,6 +1,5 @@
-use Rattle.std.proofs.Common.{rules, arith, ◌≡◌, ◌+◌, ◌*◌}
+use Rattle.std.proofs.Common.{rules, arith, ◌≡◌, ◌+◌, ◌*◌, length-set}
 use Rattle.numbers.proofs.Lists.{held_more, held_some}
-use lib.ListN.{length-set}
 use Rattle.stages.proofs.Arrays.{interleaved_even, interleaved_odd}
 use Rattle.stages.proofs.interleave.Goals as goal
 

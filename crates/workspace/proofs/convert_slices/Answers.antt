@@ -1,6 +1,5 @@
 -- `convert_slices`: what its job goes by.
-use Rattle.std.proofs.Common.{◌∙◌}
-use mathlib.Core.Logic.{⊎_elim}
+use Rattle.std.proofs.Common.{◌∙◌, ⊎_elim}
 use Rattle.routes.specs.inner.Routes.{FirstTables}
 use Rattle.workspace.proofs.Bound.{made_ready}
 use Rattle.workspace.proofs.convert_slices.Goals as goal

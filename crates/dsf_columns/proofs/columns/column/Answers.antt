@@ -35,7 +35,8 @@ pub idle_at-requires : goal.idle_at-requires
 idle_at-requires c =
     let a = c.args.channel in
     let same = c.loop-q.invariant.2.same in
-    (omega (arith, c.requires.channel), omega (arith, cells c.requires (a.end - a.first) (a.first + 4704 - a.end) (omega (arith, c.requires.some, c.requires.most))), omega (arith, lent_small c.requires))
+    let inside = cells c.requires (a.end - a.first) (a.first + 4704 - a.end) (omega (arith, c.requires.some, c.requires.most)) in
+    (omega (arith, c.requires.channel), omega (arith, inside), omega (arith, lent_small c.requires))
 
 pub loop-q-preserved : goal.loop-q-preserved
 loop-q-preserved c =

@@ -1,5 +1,4 @@
-use Rattle.std.proofs.Common.{◌≡◌, arith, refl}
-use native.Mathlib.Nat.{mul-le-mul_right}
+use Rattle.std.proofs.Common.{◌≡◌, arith, refl, mul-le-mul_right}
 use Rattle.numbers.proofs.Lists.{written_none}
 use Rattle.dsf_columns.proofs.Strides.{strided_more}
 use Rattle.dsf_columns.proofs.columns.idle_at.Goals as goal

@@ -1,5 +1,4 @@
-use Rattle.std.proofs.Common.{rules, arith, pos, refl}
-use lib.Seq.{ext_get_or}
+use Rattle.std.proofs.Common.{rules, arith, pos, refl, ext_get_or}
 use Rattle.numbers.proofs.Lists.{written_more}
 use Rattle.filters.proofs.copy.widen_taps.Goals as goal
 

@@ -6,7 +6,8 @@ use Rattle.lanes.proofs.Arms.add.Given as goal
 
 abbrev pub invariant-loop-b : goal.invariant-loop-b
 invariant-loop-b l =
-    Written (pos 0) (λ k. k) (λ k. at0 l.initial.y k +ℤ arms l.self.h.now (biased_at l.self.v.now) l.from (l.self.end + k - 1) (l.self.up + k) (length l.self.h.now - l.from)) (14 * l.b) l.initial.y l.y
+    Written (pos 0) (λ k. k) (λ k. at0 l.initial.y k +ℤ arms l.self.h.now (biased_at l.self.v.now) l.from (l.self.end + k - 1) (l.self.up + k) (length l.self.h.now - l.from))
+    (14 * l.b) l.initial.y l.y
 
 abbrev pub invariant-loop-k : goal.invariant-loop-k
 invariant-loop-k l =

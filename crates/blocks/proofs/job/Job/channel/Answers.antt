@@ -1,6 +1,4 @@
-use Rattle.std.proofs.Common.{ℕ, true, ◌≡◌, ◌+◌, ◌*◌, ◌/◌, ◌%◌, ◌-◌, ◌≤◌, ◌<◌, length, take, refl, ap, ◌∙◌, arith}
-use lib.Dec.{eqb}
-use lib.Seq.{length-take-le}
+use Rattle.std.proofs.Common.{ℕ, true, ◌≡◌, ◌+◌, ◌*◌, ◌/◌, ◌%◌, ◌-◌, ◌≤◌, ◌<◌, length, take, refl, ap, ◌∙◌, arith, eqb, length-take-le}
 use Rattle.reference.proofs.Frames.{frame_samples}
 use Rattle.routes.specs.inner.Routes.{stride, first_byte, history_from, block_length}
 use Rattle.routes.proofs.Routes.{a_frame}
@@ -73,7 +71,8 @@ overflow_add-n g c =
 pub write-more-requires-clause-place : goal.write-more-requires-clause-place
 write-more-requires-clause-place g c =
     let job = c.args.self.now in
-    (c.requires.place.0, omega (arith, ends job c.args.n c.args.frames c.loop-b-test.true c.samples_per_frame-spf.ensures.0 c.block_length-m.ensures.0 c.requires.place.1, length-take-le c.block_length-m.result c.block.new.y (omega arith)))
+    let near = ends job c.args.n c.args.frames c.loop-b-test.true c.samples_per_frame-spf.ensures.0 c.block_length-m.ensures.0 c.requires.place.1 in
+    (c.requires.place.0, omega (arith, near, length-take-le c.block_length-m.result c.block.new.y (omega arith)))
 
 pub write-more-requires-clause-held : goal.write-more-requires-clause-held
 write-more-requires-clause-held g c =
