@@ -308,7 +308,7 @@ fn cut(r: &mut Random, t: &mut Tally) {
     let settings = Settings { rate: r.below(3), cutoff: r.below(3), channels: 1 + r.below(6) as u8, db: r.below(36) as f64 - 12.0 };
     let ch = usize::from(settings.channels);
     let size = FRAME * ch;
-    let n = 1 + r.below(8);
+    let n = 1 + r.below(20);
     let album = content(r, ch, n + 2);
     let (gain, theirs) = (port::gain(settings.db).unwrap(), original::gain(settings.db).unwrap());
     let Ok(mut converter) = original::open(settings, theirs) else { return };

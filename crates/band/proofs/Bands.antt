@@ -7,9 +7,9 @@ use Rattle.numbers.proofs.Lists.{length_tabulate, get_d_tabulate, written_then, 
 use Rattle.numbers.proofs.Integers.{abs_add}
 use Rattle.reference.specs.Rounding.{R}
 use Rattle.reference.specs.Taps.{HB}
-use Rattle.lanes.specs.inner.Lanes.{Filled, biased_at, arms, Added}
+use Rattle.lanes.specs.inner.Lanes.{Filled, copied, arms, Added}
 use Rattle.filters.specs.inner.Filters.{alone, odd_taps, half_rate, middle, Fit}
-use Rattle.filters.specs.inner.Biases.{biased, rounded, Sums, Biased}
+use Rattle.filters.specs.inner.Biases.{biased, rounded, Sums, Copied}
 use Rattle.band.specs.inner.Bands.{band_sum, Whole}
 use Rattle.lanes.proofs.Pairs.{product_size}
 use Rattle.filters.proofs.Bias.{back, alone_filled, half_filled, middle_filled, filled_sums}
@@ -22,9 +22,9 @@ done q y v k = R (band_sum y v k -ℤ pos (2 ^ 53)) q
 
 -- the lanes from place i on
 pub lane_sums : {L : ℕ} (y : List ℤ) (v : List ℕ) (i : ℕ) {s₀ s₁ : List ℤ} → Held (pos 0) (λ k. pos 8388608 *ℤ biased y k) i L s₀
-    → Added L (λ l. arms (odd_taps HB) (biased_at v) 0 (8 + (i + l) - 1) (8 + (i + l)) 8) s₀ s₁ → (l : ℕ) → l < L → at0 s₁ l ≡ band_sum y v (i + l)
+    → Added L (λ l. arms (odd_taps HB) (copied v) 0 (8 + (i + l) - 1) (8 + (i + l)) 8) s₀ s₁ → (l : ℕ) → l < L → at0 s₁ l ≡ band_sum y v (i + l)
 unfolding band_sum
-lane_sums y v i a g l m = g.is l m ∙ ap (λ (z : ℤ). z +ℤ arms (odd_taps HB) (biased_at v) 0 (8 + (i + l) - 1) (8 + (i + l)) 8) (a.is l m)
+lane_sums y v i a g l m = g.is l m ∙ ap (λ (z : ℤ). z +ℤ arms (odd_taps HB) (copied v) 0 (8 + (i + l) - 1) (8 + (i + l)) 8) (a.is l m)
 
 pub whole_sums : {L : ℕ} (y₀ : List ℤ) (v : List ℕ) (i : ℕ) {s : List ℤ} → Whole (band_sum y₀ v) i (i + L) → ((l : ℕ) → l < L → at0 s l ≡ band_sum y₀ v (i + l)) → Sums L s
 whole_sums y₀ v i w e = record { is = λ l m. rw (e l m) (w.is (i + l) (omega arith) (omega arith)); size = λ l m. rw (e l m) (w.size (i + l) (omega arith) (omega arith)) }
@@ -32,7 +32,7 @@ whole_sums y₀ v i w e = record { is = λ l m. rw (e l m) (w.is (i + l) (omega 
 -- a y that is as it was at place k
 pub band_same : (y₀ y : List ℤ) (v : List ℕ) (k : ℕ) → at0 y k ≡ at0 y₀ k → band_sum y v k ≡ band_sum y₀ v k
 unfolding band_sum biased
-band_same y₀ y v k e = ap (λ (z : ℤ). pos 8388608 *ℤ (z +ℤ pos (2 ^ 29)) +ℤ arms (odd_taps HB) (biased_at v) 0 (8 + k - 1) (8 + k) 8) e
+band_same y₀ y v k e = ap (λ (z : ℤ). pos 8388608 *ℤ (z +ℤ pos (2 ^ 29)) +ℤ arms (odd_taps HB) (copied v) 0 (8 + k - 1) (8 + k) 8) e
 
 -- a block's part of what is known of all sums
 pub whole_part : (y₀ y : List ℤ) (v : List ℕ) (i j : ℕ) {n : ℕ} → Whole (band_sum y₀ v) 0 n → ((k : ℕ) → i ≤ k → at0 y k ≡ at0 y₀ k) → j ≤ n → Whole (band_sum y v) i j
@@ -58,7 +58,7 @@ pub rounded_is : (q : ℕ) (y₀ : List ℤ) (v : List ℕ) (s : List ℤ) (i l 
 unfolding rounded
 rounded_is q y₀ v s i l e = ap (λ (z : ℤ). R (z -ℤ pos (2 ^ 53)) q) e
 
-band_is : (y : List ℤ) (v : List ℕ) (k : ℕ) → pos 8388608 *ℤ biased y k +ℤ arms (odd_taps HB) (biased_at v) 0 (8 + k - 1) (8 + k) 8 ≡ band_sum y v k
+band_is : (y : List ℤ) (v : List ℕ) (k : ℕ) → pos 8388608 *ℤ biased y k +ℤ arms (odd_taps HB) (copied v) 0 (8 + k - 1) (8 + k) 8 ≡ band_sum y v k
 unfolding band_sum
 band_is y v k = refl
 
@@ -67,7 +67,7 @@ pub odd_eight : length (odd_taps HB) ≡ 8
 unfolding HB
 odd_eight = length_odd HB
 
-module _ (y xo : List ℤ) (v : List ℕ) (long : length y + 15 ≤ length xo) (a : Biased (length xo) xo v) where
+module _ (y xo : List ℤ) (v : List ℕ) (long : length y + 15 ≤ length xo) (a : Copied (length xo) xo v) where
   first : List ℤ
   first = tabulate (λ k. pos 8388608 *ℤ biased y k) 0 (length y)
 
@@ -84,13 +84,13 @@ module _ (y xo : List ℤ) (v : List ℕ) (long : length y + 15 ≤ length xo) (
       written_all (length_tabulate (λ k. pos 8388608 *ℤ biased y k) 0 (length y))
       (λ k m. get_d_tabulate (λ k. pos 8388608 *ℤ biased y k) 0 (length y) k (pos 0) m ∙ ap (λ (j : ℕ). pos 8388608 *ℤ biased y j) (omega arith))
 
-  second_filled : Filled (λ k. at0 first k +ℤ arms (odd_taps HB) (biased_at v) 0 (length (odd_taps HB) + k - 1) (length (odd_taps HB) + k) (length (odd_taps HB) - 0)) first second
+  second_filled : Filled (λ k. at0 first k +ℤ arms (odd_taps HB) (copied v) 0 (length (odd_taps HB) + k - 1) (length (odd_taps HB) + k) (length (odd_taps HB) - 0)) first second
   unfolding second
   second_filled =
       written_all (length_tabulate (band_sum y v) 0 (length y) ∙ sym first_filled.same)
       (λ k m.
       let n : k < length y = omega (arith, first_filled.same) in
-      rw odd_eight (second_at k n ∙ sym (band_is y v k) ∙ ap (λ (z : ℤ). z +ℤ arms (odd_taps HB) (biased_at v) 0 (8 + k - 1) (8 + k) 8) (sym (first_filled.done k n))))
+      rw odd_eight (second_at k n ∙ sym (band_is y v k) ∙ ap (λ (z : ℤ). z +ℤ arms (odd_taps HB) (copied v) 0 (8 + k - 1) (8 + k) 8) (sym (first_filled.done k n))))
 
   biased_sums : Filled (λ k. half_rate alone (odd_taps HB) y xo k +ℤ pos (2 ^ 53)) y second
   biased_sums = half_filled alone (odd_taps HB) y xo v (omega (arith, odd_eight)) a (halves_phases halves_HB filter_HB) (alone_filled y first_filled) second_filled

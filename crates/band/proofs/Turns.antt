@@ -7,8 +7,8 @@ use Rattle.numbers.specs.Lists.{tabulate}
 use Rattle.numbers.proofs.Integers.{abs_add, sums}
 use Rattle.reference.specs.Taps.{HB}
 use Rattle.reference.specs.Stages.{tap}
-use Rattle.lanes.specs.inner.Lanes.{biased_at, arm, arms, Low, Lanes, Added}
-use Rattle.lanes.proofs.Pairs.{biased_size, pair_size}
+use Rattle.lanes.specs.inner.Lanes.{copied, arm, arms, Low, Lanes, Added}
+use Rattle.lanes.proofs.Pairs.{copied_size, pair_size}
 use Rattle.lanes.proofs.Places.{lanes_then}
 use Rattle.filters.specs.inner.Filters.{odd_taps}
 use Rattle.band.specs.inner.Bands.{odd_sizes, signed}
@@ -60,12 +60,12 @@ two_size s a b i j k l p q e =
 
 -- two taps more, of sizes that the lanes have room for
 pub two_lanes : {L : ℕ} {v : List ℕ} {acc r : List ℤ} (A B : ℕ) (minus : Bool) (a b down up : ℕ) → a ≤ 2 ^ 25 → b ≤ 2 ^ 25 → Low v → Lanes L A acc
-    → Added L (λ l. signed minus a *ℤ (biased_at v (down + 2 + l) +ℤ biased_at v (up + l)) +ℤ signed minus b *ℤ (biased_at v (down + l) +ℤ biased_at v (up + 2 + l))) acc r
+    → Added L (λ l. signed minus a *ℤ (copied v (down + 2 + l) +ℤ copied v (up + l)) +ℤ signed minus b *ℤ (copied v (down + l) +ℤ copied v (up + 2 + l))) acc r
     → A + 2 * 2 ^ 56 ≤ B → Lanes L B r
 two_lanes {v = v} A B minus a b down up p q low l added m =
     let x : nat_abs (signed minus a) ≤ 2 ^ 25 = rw (signed_size minus a) p in
     let y : nat_abs (signed minus b) ≤ 2 ^ 25 = rw (signed_size minus b) q in
-    lanes_then (2 * 2 ^ 56) B added l (λ i. two_size (biased_at v) (signed minus a) (signed minus b) (down + 2 + i) (up + i) (down + i) (up + 2 + i) x y (biased_size low)) m
+    lanes_then (2 * 2 ^ 56) B added l (λ i. two_size (copied v) (signed minus a) (signed minus b) (down + 2 + i) (up + i) (down + i) (up + 2 + i) x y (copied_size low)) m
 
 pub all_eight : (h : List ℤ) (s : ℕ → ℤ) (d u : ℕ)
     → arm h s d u 0 +ℤ arm h s d u 2 +ℤ (arm h s d u 1 +ℤ arm h s d u 3) +ℤ (arm h s d u 4 +ℤ arm h s d u 6) +ℤ (arm h s d u 5 +ℤ arm h s d u 7) ≡ arms h s 0 d u 8

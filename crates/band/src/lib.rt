@@ -6,7 +6,7 @@ ghost use Rattle.numbers.specs.Sums.{at0};
 ghost use Rattle.reference.specs.Rounding.{R};
 ghost use Rattle.reference.specs.Taps.{HB};
 ghost use Rattle.numbers.specs.inner.Lists.{Held, Written};
-ghost use Rattle.lanes.specs.inner.Lanes.{Small, Filled, biased_at, arms, Low, Lanes, Added};
+ghost use Rattle.lanes.specs.inner.Lanes.{Small, Filled, copied, arms, Low, Lanes, Added};
 ghost use Rattle.filters.specs.inner.Filters.{odd_taps, alone, half_rate, middle, Fit};
 ghost use Rattle.band.specs.inner.Bands.{odd_sizes, signed, band_sum, Whole};
 ghost use Rattle.filters.specs.inner.Biases.{biased, rounded, Sums};
@@ -53,11 +53,11 @@ fn tap(s: i64, minus: bool, size: u32, w: u64) -> i64
 }
 
 // A sum gains a tap of this size, or minus it, with two values of the copy.
-#[tactic(auto, unfolding(lanes::specs::inner::Lanes::biased_at))]
+#[tactic(auto, unfolding(lanes::specs::inner::Lanes::copied))]
 fn pair(s: i64, minus: bool, size: u32, v: &[u64], i: usize, j: usize) -> i64
     requires i_in_bounds { (i < length v.now) × (j < length v.now) × (size ≤ 2 ^ 25) × (nat_abs s ≤ 126 * 2 ^ 56) }
     requires low { Low v.now }
-    ensures { result ≡ s +ℤ signed minus size *ℤ (biased_at v.now i +ℤ biased_at v.now j) }
+    ensures { result ≡ s +ℤ signed minus size *ℤ (copied v.now i +ℤ copied v.now j) }
 {
     tap(s, minus, size, (v[i] + v[j]) % 4294967296)
 }
@@ -76,8 +76,8 @@ fn two<const L: usize>(
     requires down_in_bounds { (down + L + 2 ≤ length v.now) × (up + L + 2 ≤ length v.now) × (a ≤ 2 ^ 25) × (b ≤ 2 ^ 25) }
     requires low { Low v.now }
     requires lanes { Lanes L (125 * 2 ^ 56) acc }
-    ensures { Added L (λ l. signed minus a *ℤ (biased_at v.now (down + 2 + l) +ℤ biased_at v.now (up + l))
-        +ℤ signed minus b *ℤ (biased_at v.now (down + l) +ℤ biased_at v.now (up + 2 + l))) acc.entry result }
+    ensures { Added L (λ l. signed minus a *ℤ (copied v.now (down + 2 + l) +ℤ copied v.now (up + l))
+        +ℤ signed minus b *ℤ (copied v.now (down + l) +ℤ copied v.now (up + 2 + l))) acc.entry result }
 {
     let mut s = acc;
     for l in 0..L {
@@ -93,7 +93,7 @@ fn two<const L: usize>(
 fn eight<const L: usize>(acc: [i64; L], band: Band, i: usize) -> [i64; L]
     requires i_in_bounds { i + L + 15 ≤ length band.v.now }
     requires lanes { Lanes L (2 ^ 55) acc }
-    ensures { Added L (λ l. arms (odd_taps HB) (biased_at band.entry.v.now) 0 (8 + (i + l) - 1) (8 + (i + l)) 8) acc.entry result }
+    ensures { Added L (λ l. arms (odd_taps HB) (copied band.entry.v.now) 0 (8 + (i + l) - 1) (8 + (i + l)) 8) acc.entry result }
 {
     let h = band.sizes;
     let v = band.v;

@@ -51,8 +51,8 @@ impl<'a> Job<'a> {
         told
     }
 
-    // A channel of so many frames, of which the first sample is n. The history is made once for them all. The arrays are of
-    // fixed length, and filled a block at a time: nothing here is on the heap.
+    // A channel of so many frames, the first of which starts at sample n. The history is made once for them all. The
+    // arrays are of fixed length, and filled a block at a time: nothing here is on the heap.
     pub fn channel<P: Place>(
         &self,
         channel: usize,

@@ -222,7 +222,7 @@ module _ (file head : List ℕ) (n : ℕ) (h : HeadOf file head n) (b : Bytes fi
       let i : place_at g q - start < length window = omega (arith, within g q (suc q) (omega arith) (omega arith) (omega arith) (omega arith)) in
       ap (λ (x : ℕ). cond (ltb q (sample_count head / 8)) (our_byte (bits_per_sample head) x) idle) (rw p at (w.holds (place_at g q - start) i)))
       (λ t. skip (ltb q (sample_count head / 8)) _ _ (λ u. omega (arith, ltb→lt q (sample_count head / 8) u))
-        ∙ sym (skip (ltb q (sample_count head / 8)) _ _ (λ u. omega (arith, ltb→lt q (sample_count head / 8) u))))
+      ∙ sym (skip (ltb q (sample_count head / 8)) _ _ (λ u. omega (arith, ltb→lt q (sample_count head / 8) u))))
       (below_or q (sample_count head / 8))
 
   frame_is : window_frame head f window start ≡ file_frame file f

@@ -129,7 +129,7 @@ module _ (file : List ℕ) (b : Bytes file) (pl : Plain file) where
       ∙ turned_twice _ (b.each (92 + data_place n c q)) ∙ ap (λ (x : ℕ). get_or file (92 + x) 0) p)))
       (λ (i : sample_count file / 8 ≤ q).
       ap (λ (x : ℕ). get_or file (92 + x) 0) (sym p) ∙ pl.zero_padded c q h i k
-        ∙ sym (rw is_channel (skip (ltb q (sample_count file / 8)) _ _ (λ t. omega (arith, ltb→lt q (sample_count file / 8) t)))))
+      ∙ sym (rw is_channel (skip (ltb q (sample_count file / 8)) _ _ (λ t. omega (arith, ltb→lt q (sample_count file / 8) t)))))
       (below_or q (sample_count file / 8))
 
   same_body : tabulate (written_byte n fr) 0 (written_data n fr) ≡ drop 92 file

@@ -6,16 +6,16 @@ use Rattle.numbers.proofs.Lists.{written_as}
 use Rattle.numbers.proofs.Integers.{pp, nn, zext, add_parts, abs_parts, +ℤ-left-comm, add_mul}
 use Rattle.reference.specs.Rounding.{R}
 use Rattle.reference.specs.Stages.{tap, M, fir}
-use Rattle.lanes.specs.inner.Lanes.{Filled, biased_at, arms}
+use Rattle.lanes.specs.inner.Lanes.{Filled, copied, arms}
 use Rattle.filters.specs.inner.Filters.{alone, between_by, same_rate, middle, half_rate, Fit, ones, UnityGain, Phases, Between}
-use Rattle.filters.specs.inner.Biases.{biased, Biased, Sums, rounded}
+use Rattle.filters.specs.inner.Biases.{biased, Copied, Sums, rounded}
 use Rattle.filters.proofs.Pairs.{fir_is, between_is, fir_same, between_same, fir_bias, between_bias}
 use Rattle.filters.proofs.Places.{filled_then, filled_again}
 
 pub back : (z c : ℤ) → z +ℤ c -ℤ c ≡ z
 back z c = +ℤ_assoc z c (neg_ℤ c) ∙ ap (λ (k : ℤ). z +ℤ k) (+ℤ_invr c) ∙ +ℤ_idr z
 
--- a number, biased_at by as much as its size or more
+-- a number, biased by as much as its size or more
 up_is : (z : ℤ) (B : ℕ) → nat_abs z ≤ B → z +ℤ pos B ≡ pos (B + pp z - nn z)
 up_is z B h = zext _ _ (omega (arith, add_parts z (pos B), abs_parts z))
 
@@ -41,16 +41,16 @@ module _ (F : ℕ → ℤ) {old new : List ℤ} (u : Filled (λ k. F k +ℤ pos 
 -- ---- the steps
 
 -- the centre, then the pairs
-pub fir_filled : (h x : List ℤ) (v : List ℕ) {y₀ y₁ y₂ : List ℤ} → length y₀ + 2 * M h ≤ length x → Biased (length x) x v
-    → Filled (λ k. tap h 0 *ℤ biased_at v (M h + k)) y₀ y₁ → Filled (λ k. at0 y₁ k +ℤ arms h (biased_at v) 1 (M h + 1 + k - 1) (M h + k) (M h)) y₁ y₂
+pub fir_filled : (h x : List ℤ) (v : List ℕ) {y₀ y₁ y₂ : List ℤ} → length y₀ + 2 * M h ≤ length x → Copied (length x) x v
+    → Filled (λ k. tap h 0 *ℤ copied v (M h + k)) y₀ y₁ → Filled (λ k. at0 y₁ k +ℤ arms h (copied v) 1 (M h + 1 + k - 1) (M h + k) (M h)) y₁ y₂
     → Filled (λ k. fir h (biased x) (k + M h)) y₀ y₂
 fir_filled h x v long a c p =
     filled_then _ c p
     (λ k m.
     let d : M h + 1 + k - 1 ≡ k + M h = omega arith in
     let u : M h + k ≡ k + M h = omega arith in
-    rw (d, u) (sym (fir_is h (biased_at v) (k + M h) (omega arith)))
-    ∙ fir_same h (biased_at v) (biased x) (k + M h) (omega arith) (λ j q. a.is j (omega arith)))
+    rw (d, u) (sym (fir_is h (copied v) (k + M h) (omega arith)))
+    ∙ fir_same h (copied v) (biased x) (k + M h) (omega arith) (λ j q. a.is j (omega arith)))
 
 -- the centre alone
 pub alone_filled : (x : List ℤ) {old new : List ℤ} → Filled (λ k. pos 8388608 *ℤ biased x k) old new → Filled (λ k. fir alone (biased x) (k + 0)) old new
@@ -62,13 +62,13 @@ alone_filled x c =
     rw e (sym (fir_is alone (biased x) k (omega arith) ∙ +ℤ_idr (pos 8388608 *ℤ biased x k))))
 
 -- the pairs on both sides of a middle
-middle_gain : (h x : List ℤ) (v : List ℕ) (n : ℕ) → n + 2 * length h ≤ length x + 1 → Biased (length x) x v → (k : ℕ) → k < n
-    → arms h (biased_at v) 0 (length h + k - 1) (length h + k) (length h - 0) ≡ between_by h (at0 x) (k + length h - 1) +ℤ between_by h ones (length h) *ℤ pos (2 ^ 29)
+middle_gain : (h x : List ℤ) (v : List ℕ) (n : ℕ) → n + 2 * length h ≤ length x + 1 → Copied (length x) x v → (k : ℕ) → k < n
+    → arms h (copied v) 0 (length h + k - 1) (length h + k) (length h - 0) ≡ between_by h (at0 x) (k + length h - 1) +ℤ between_by h ones (length h) *ℤ pos (2 ^ 29)
 middle_gain h x v n long a k m =
     let w : length h - 0 ≡ length h = omega arith in
     let d : length h + k - 1 ≡ k + length h - 1 = omega arith in
-    rw (w, d) (between_is h (biased_at v) (k + length h - 1) (length h + k) (λ p. omega arith))
-    ∙ between_same h (biased_at v) (biased x) (k + length h - 1) (λ j p q. a.is j (omega arith))
+    rw (w, d) (between_is h (copied v) (k + length h - 1) (length h + k) (λ p. omega arith))
+    ∙ between_same h (copied v) (biased x) (k + length h - 1) (λ j p q. a.is j (omega arith))
     ∙ between_bias h x (k + length h - 1)
 
 -- ---- the bias in all is 2^53
@@ -77,13 +77,13 @@ unfolding same_rate
 same_filled h x f c = written_as c (λ k m. fir_bias h x (k + M h) ∙ ap (λ (z : ℤ). fir h (at0 x) (k + M h) +ℤ z *ℤ pos (2 ^ 29)) f.whole)
 
 -- its taps are those of a filter
-pub same_sums : (h x : List ℤ) (v : List ℕ) {y₀ y₁ y₂ : List ℤ} → UnityGain h → length y₀ + 2 * M h ≤ length x → Biased (length x) x v
-    → Filled (λ k. tap h 0 *ℤ biased_at v (M h + k)) y₀ y₁ → Filled (λ k. at0 y₁ k +ℤ arms h (biased_at v) 1 (M h + 1 + k - 1) (M h + k) (M h)) y₁ y₂
+pub same_sums : (h x : List ℤ) (v : List ℕ) {y₀ y₁ y₂ : List ℤ} → UnityGain h → length y₀ + 2 * M h ≤ length x → Copied (length x) x v
+    → Filled (λ k. tap h 0 *ℤ copied v (M h + k)) y₀ y₁ → Filled (λ k. at0 y₁ k +ℤ arms h (copied v) 1 (M h + 1 + k - 1) (M h + k) (M h)) y₁ y₂
     → Filled (λ k. same_rate h x k +ℤ pos (2 ^ 53)) y₀ y₂
 same_sums h x v f long a c p = same_filled h x f (fir_filled h x v long a c p)
 
-pub half_filled : (he ho xe xo : List ℤ) (v : List ℕ) {y₀ y₁ y₂ : List ℤ} → length y₀ + 2 * length ho ≤ length xo + 1 → Biased (length xo) xo v → Phases he ho
-    → Filled (λ k. fir he (biased xe) (k + M he)) y₀ y₁ → Filled (λ k. at0 y₁ k +ℤ arms ho (biased_at v) 0 (length ho + k - 1) (length ho + k) (length ho - 0)) y₁ y₂
+pub half_filled : (he ho xe xo : List ℤ) (v : List ℕ) {y₀ y₁ y₂ : List ℤ} → length y₀ + 2 * length ho ≤ length xo + 1 → Copied (length xo) xo v → Phases he ho
+    → Filled (λ k. fir he (biased xe) (k + M he)) y₀ y₁ → Filled (λ k. at0 y₁ k +ℤ arms ho (copied v) 0 (length ho + k - 1) (length ho + k) (length ho - 0)) y₁ y₂
     → Filled (λ k. half_rate he ho xe xo k +ℤ pos (2 ^ 53)) y₀ y₂
 unfolding half_rate same_rate middle
 half_filled he ho xe xo v {y₀} long a f c p =
@@ -98,15 +98,15 @@ half_filled he ho xe xo v {y₀} long a f c p =
 
 -- in three steps: the centre's products, the even taps' and the odd ones'
 pub half_sums : (he ho xe xo : List ℤ) (ve vo : List ℕ) {y₀ y₁ y₂ y₃ : List ℤ} → length y₀ + 2 * M he ≤ length xe → length y₀ + 2 * length ho ≤ length xo + 1
-    → Biased (length xe) xe ve → Biased (length xo) xo vo → Phases he ho → Filled (λ k. tap he 0 *ℤ biased_at ve (M he + k)) y₀ y₁
-    → Filled (λ k. at0 y₁ k +ℤ arms he (biased_at ve) 1 (M he + 1 + k - 1) (M he + k) (M he)) y₁ y₂
-    → Filled (λ k. at0 y₂ k +ℤ arms ho (biased_at vo) 0 (length ho + k - 1) (length ho + k) (length ho - 0)) y₂ y₃
+    → Copied (length xe) xe ve → Copied (length xo) xo vo → Phases he ho → Filled (λ k. tap he 0 *ℤ copied ve (M he + k)) y₀ y₁
+    → Filled (λ k. at0 y₁ k +ℤ arms he (copied ve) 1 (M he + 1 + k - 1) (M he + k) (M he)) y₁ y₂
+    → Filled (λ k. at0 y₂ k +ℤ arms ho (copied vo) 0 (length ho + k - 1) (length ho + k) (length ho - 0)) y₂ y₃
     → Filled (λ k. half_rate he ho xe xo k +ℤ pos (2 ^ 53)) y₀ y₃
 half_sums he ho xe xo ve vo l m a b f c p q = half_filled he ho xe xo vo m b f (fir_filled he xe ve l a c p) q
 
 -- here the taps' part is 2^52, and the sums started with the rest
-pub middle_filled : (h x : List ℤ) (v : List ℕ) {y₀ y₁ y₂ : List ℤ} → length y₀ + 2 * length h ≤ length x + 1 → Biased (length x) x v → Between h → Filled (λ k. pos (2 ^ 52)) y₀ y₁
-    → Filled (λ k. at0 y₁ k +ℤ arms h (biased_at v) 0 (length h + k - 1) (length h + k) (length h - 0)) y₁ y₂ → Filled (λ k. middle h x k +ℤ pos (2 ^ 53)) y₀ y₂
+pub middle_filled : (h x : List ℤ) (v : List ℕ) {y₀ y₁ y₂ : List ℤ} → length y₀ + 2 * length h ≤ length x + 1 → Copied (length x) x v → Between h → Filled (λ k. pos (2 ^ 52)) y₀ y₁
+    → Filled (λ k. at0 y₁ k +ℤ arms h (copied v) 0 (length h + k - 1) (length h + k) (length h - 0)) y₁ y₂ → Filled (λ k. middle h x k +ℤ pos (2 ^ 53)) y₀ y₂
 unfolding middle
 middle_filled h x v {y₀} long a f c p =
     filled_then _ c p

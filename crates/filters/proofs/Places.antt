@@ -5,9 +5,9 @@ use lib.ListN.{length-replicate, get_or-replicate, get_or-eq_default}
 use Rattle.numbers.specs.Sums.{at0}
 use Rattle.numbers.proofs.Integers.{abs_add}
 use Rattle.numbers.proofs.Lists.{below_or, written_all, length_tabulate, get_d_tabulate}
-use Rattle.lanes.specs.inner.Lanes.{Small, Filled, biased_at, Low}
+use Rattle.lanes.specs.inner.Lanes.{Small, Filled, copied, Low}
 use Rattle.filters.specs.inner.Filters.{seconds}
-use Rattle.filters.specs.inner.Biases.{biased, Biased}
+use Rattle.filters.specs.inner.Biases.{biased, Copied}
 
 -- ---- whole lists
 
@@ -39,9 +39,9 @@ low_zeros n = record {
     past k l = rw (length-replicate {A = ℕ} n 0) l
 
 -- place i more
-pub biased_more : {i j : ℕ} {x : List ℤ} {v : List ℕ} {r : ℕ} → Biased i x v → i < length v → pos r ≡ biased x i → r ≤ 2 ^ 30 → j ≡ i + 1 → Biased j x (set v i r)
-unfolding biased_at
-biased_more {i} {j} {x} {v} {r} a m e b next =
+pub copied_more : {i j : ℕ} {x : List ℤ} {v : List ℕ} {r : ℕ} → Copied i x v → i < length v → pos r ≡ biased x i → r ≤ 2 ^ 30 → j ≡ i + 1 → Copied j x (set v i r)
+unfolding copied
+copied_more {i} {j} {x} {v} {r} a m e b next =
     record {
       is = λ k n. ⊎_elim (λ q. ap pos (here k q) ∙ e ∙ ap (biased x) (sym q)) (λ q. ap pos (before k q) ∙ a.is k q) (eq-or-lt_of_le (up_to k n));
       low = record { size = λ k. ⊎_elim (λ l. rw (before k l) (a.low.size k)) (λ l. ⊎_elim (λ q. rw (here k (sym q)) b) (λ n. rw (after k n) (a.low.size k)) (eq-or-lt_of_le l)) (below_or k i) };

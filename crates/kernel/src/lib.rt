@@ -21,7 +21,7 @@ pub fn block_length(route: Route) -> usize
     }
 }
 
-// Values of x that a block brings. At 352,800 a frame's first block of Standard or Low brings also the 16 of w before
+// Values of x that a block brings. At 352,800 a batch's first block of Standard or Low brings also the 16 of w before
 // it. `first` is a fact of the block and picks a number, no step: there is nothing beside it that an enum would hold.
 #[tactic(auto, unfolding(routes::specs::inner::Routes::fresh))]
 pub fn fresh(route: Route, first: bool) -> usize
@@ -60,7 +60,7 @@ pub fn around(route: Route) -> usize
     }
 }
 
-// The first byte that the history of a frame depends on: as many before the byte of the frame's first sample n as
+// The first byte that the history of a batch depends on: as many before the byte of its first sample n as
 // document 01's reach. The last filter has taps up to place m.
 #[tactic(auto, unfolding(routes::specs::inner::Routes::first_byte, routes::specs::inner::Routes::history_from))]
 pub fn start(route: Route, m: usize, n: usize) -> usize

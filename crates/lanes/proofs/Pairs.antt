@@ -4,12 +4,12 @@ use Rattle.numbers.specs.Sums.{sum_to}
 use Rattle.numbers.proofs.Integers.{abs_add, abs_mul, sums}
 use Rattle.numbers.proofs.Sums.{sum_same, sum_join}
 use Rattle.reference.specs.Stages.{tap}
-use Rattle.lanes.specs.inner.Lanes.{Small, biased_at, arm, arms, fourths, Low}
+use Rattle.lanes.specs.inner.Lanes.{Small, copied, arm, arms, fourths, Low}
 
 -- ---- sizes
-pub biased_size : {v : List ℕ} → Low v → (k : ℕ) → nat_abs (biased_at v k) ≤ 2 ^ 30
-unfolding biased_at
-biased_size b k = b.size k
+pub copied_size : {v : List ℕ} → Low v → (k : ℕ) → nat_abs (copied v k) ≤ 2 ^ 30
+unfolding copied
+copied_size b k = b.size k
 
 sum_each : (n : ℕ) (f : ℕ → ℤ) (m : ℕ) → ((k : ℕ) → nat_abs (f k) ≤ m) → nat_abs (sum_to n f) ≤ n * m
 unfolding sum_to
@@ -19,8 +19,8 @@ sum_each (suc n) f m h = omega (arith, abs_add (sum_to n f) (f n), sum_each n f 
 pub product_size : (h a : ℤ) (A : ℕ) → nat_abs h ≤ 2 ^ 25 → nat_abs a ≤ A → nat_abs (h *ℤ a) ≤ 2 ^ 25 * A
 product_size h a A p q = omega (arith, abs_mul h a, mul-le-mul p q)
 
-pub centre_size : (h : ℤ) {v : List ℕ} → nat_abs h ≤ 2 ^ 25 → Low v → (k : ℕ) → nat_abs (h *ℤ biased_at v k) ≤ 2 ^ 55
-centre_size h {v} p low k = product_size h (biased_at v k) (2 ^ 30) p (biased_size low k)
+pub centre_size : (h : ℤ) {v : List ℕ} → nat_abs h ≤ 2 ^ 25 → Low v → (k : ℕ) → nat_abs (h *ℤ copied v k) ≤ 2 ^ 55
+centre_size h {v} p low k = product_size h (copied v k) (2 ^ 30) p (copied_size low k)
 
 pub pair_size : (h a b : ℤ) → nat_abs h ≤ 2 ^ 25 → nat_abs a ≤ 2 ^ 30 → nat_abs b ≤ 2 ^ 30 → nat_abs (h *ℤ (a +ℤ b)) ≤ 2 ^ 56
 pair_size h a b p q r = product_size h (a +ℤ b) (2 ^ 31) p (omega (arith, abs_add a b))

@@ -88,7 +88,7 @@ pub fn narrow176(tables: &[i32], h: &[i64], bytes: &[u8], buffers: &mut Buffers,
     buffers.move_on(168, m);
 }
 
-// At 352,800: k values of w are new, 184 in a frame's first block and 168 in the others.
+// At 352,800: k values of w are new, 184 in a batch's first block and 168 in the others.
 #[inline(always)]
 pub fn narrow352(
     tables: &[i32],

@@ -1,4 +1,4 @@
--- Channels to a stretch of frames, stretches to the run: what the loops add up.
+-- Channels to a batch of frames, batches to the run: what the loops add up.
 use Rattle.std.proofs.Common.{◌≡◌, refl, sym, ap, ◌∙◌, ⊎_elim, Bool, true, false, cond, List, ℕ, zero, suc, ◌+◌, ◌*◌, ◌/◌, ◌%◌, ◌^◌, ◌≤◌, ◌<◌, mul-le-mul_right}
 use Rattle.std.proofs.Common.{le_refl, add-one, arith, lt-ltb, le-ltb, ltb, ℤ, length, get_or, set, length-set, replicate, get_or-set_same, get_or-set_other}
 use Rattle.std.proofs.Common.{None}
@@ -133,7 +133,7 @@ module _ {A : Type 0} {o : Layout A} {conv : Converter} {r : Run} {n m : ℕ} {x
     pub columns_few : c ≤ 6 → clips ≤ 6 * m
     columns_few h = omega (arith, f.sum, clips_few conv r n m c, mul-le-mul_right m h)
 
--- ---- stretches
+-- ---- batches
 module _ {A : Type 0} {o : Layout A} {conv : Converter} {r : Run} {x : List A} where
   pub covered_none : {n : ℕ} {l : List ChannelStats} → Tallied conv r n l → Covered o conv r n n x x l
   covered_none t = record { box = no_rows (omega arith); tallied = t }

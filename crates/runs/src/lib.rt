@@ -1,4 +1,4 @@
-// The channels of some frames, and the frames of a run. Samples n count from the run's start.
+// The channels of a batch of frames, and the batches of a run. Samples n count from the run's start.
 #![tactic(auto)]
 
 ghost use Rattle.std.specs.Prelude.{◌≡◌, ◌+◌, ◌*◌, ◌≤◌, ◌<◌, ◌%◌, length};
@@ -13,11 +13,11 @@ use output::Place;
 use reference::ConvertStats;
 
 // Frames whose clips nobody asks for are converted so many at a time: a channel's history is made once for them.
-const STRETCH_FRAMES: usize = 8;
+const BATCH_FRAMES: usize = 8;
 
-// So many frames, the first of which starts at sample n. What their samples tell is joined to the statistics; their clips
-// over all channels come back.
-fn stretch<'a, P: Place>(
+// So many frames, the first of which starts at sample n. What their samples tell is joined to the statistics; their
+// clips over all channels come back.
+fn batch<'a, P: Place>(
     job: &Job<'a>,
     n: usize,
     frames: usize,
@@ -49,7 +49,7 @@ fn counted<'a, P: Place>(job: &Job<'a>, out: &mut [P], counts: &mut [u64], stats
 {
     let samples = job.conv.rate.samples_per_frame();
     for (f, count) in counts.iter_mut().enumerate() {
-        *count = stretch(job, f * samples, 1, out, stats);
+        *count = batch(job, f * samples, 1, out, stats);
     }
 }
 
@@ -63,8 +63,8 @@ fn uncounted<'a, P: Place>(job: &Job<'a>, from: usize, out: &mut [P], stats: &mu
     let samples = job.conv.rate.samples_per_frame();
     let mut f = from;
     while f < job.slices.count {
-        let frames = STRETCH_FRAMES.min(job.slices.count - f);
-        stretch(job, f * samples, frames, out, stats);
+        let frames = BATCH_FRAMES.min(job.slices.count - f);
+        batch(job, f * samples, frames, out, stats);
         f += frames;
     }
 }

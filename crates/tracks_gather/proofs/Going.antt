@@ -31,8 +31,8 @@ unfolding windowed
 windowed_alike n a b o p w [] e = tt
 windowed_alike n a b o p w (h ∷ hs) e = (e.0, windowed_alike n a b (o + head_length h) (p + read_bytes n h o a b) w hs e.1)
 
--- ---- before a track: of n channels, some bytes of an album of `total` into a buffer of `room`, out of windows w, which
--- will hold `whole`
+-- ---- before a track: of n channels, some bytes of an album of `total` into a buffer of `room`, out of windows w,
+-- which will hold `whole`
 pub record Going (n : ℕ) (span : Span) (total room : ℕ) (w whole : List ℕ) (rest : List Head) (start : Start) (out : List ℕ) : Type 0 where
   pub alike : Each (λ h. channels h.bytes ≡ n) rest
   pub gives : with_tracks n span.from span.to start.byte (windowed n span.from span.to start.byte start.window w rest) out ≡ whole

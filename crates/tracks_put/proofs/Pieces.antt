@@ -72,5 +72,5 @@ filled at old new k e w =
     let long = length-replicate k idle in
     rw r
     (is_with_text old new (replicate k idle) at (omega (arith, long)) w.same (λ j h. w.kept j (λ i m. omega arith))
-      (λ i h. w.done i (omega (arith, long)) ∙ sym (get_or-replicate k i idle 0 (omega (arith, long))))
+    (λ i h. w.done i (omega (arith, long)) ∙ sym (get_or-replicate k i idle 0 (omega (arith, long))))
     (λ j h. get_or-eq_default new 0 {n = j} (omega (arith, long, w.same)) ∙ sym (get_or-eq_default old 0 {n = j} (omega (arith, long)))))

@@ -3,15 +3,15 @@
 use Rattle.std.specs.Prelude.{◌≡◌, List, ℕ, ◌^◌, ◌≤◌, ◌<◌, ℤ, pos, nat_abs, ◌+ℤ◌, ◌-ℤ◌}
 use Rattle.numbers.specs.Sums.{at0}
 use Rattle.reference.specs.Rounding.{R}
-use Rattle.lanes.specs.inner.Lanes.{biased_at, Low}
+use Rattle.lanes.specs.inner.Lanes.{copied, Low}
 
 -- value k of x, biased
 unfoldable pub biased : List ℤ → ℕ → ℤ
 biased x k = at0 x k +ℤ pos (2 ^ 29)
 
 -- v begins with the first n values of x, each biased
-pub record Biased (n : ℕ) (x : List ℤ) (v : List ℕ) : Type 0 where
-  pub is : (k : ℕ) → k < n → biased_at v k ≡ biased x k
+pub record Copied (n : ℕ) (x : List ℤ) (v : List ℕ) : Type 0 where
+  pub is : (k : ℕ) → k < n → copied v k ≡ biased x k
   pub low : Low v
 
 -- of the first n sums none is negative, or over 2^54

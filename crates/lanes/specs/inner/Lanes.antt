@@ -9,8 +9,8 @@ pub record Small (B : ℕ) (l : List ℤ) : Type 0 where
   pub size : (i : ℕ) → nat_abs (at0 l i) ≤ B
 
 -- what a place of the copy holds
-unfoldable pub biased_at : List ℕ → ℕ → ℤ
-biased_at v k = pos (get_or v k 0)
+unfoldable pub copied : List ℕ → ℕ → ℤ
+copied v k = pos (get_or v k 0)
 
 -- no number of the copy is over 2^30
 pub record Low (v : List ℕ) : Type 0 where

@@ -99,7 +99,8 @@ pub record SomeTaps (route : Route) (h : List ℤ) : Type 0 where
   pub F : List ℤ
   pub taps : RouteTaps route F h
 
--- y of the route with the last filter F. `y` of the reference is so with `last_taps` (`y_of_is`, proofs/Routes)
+-- y of the route with the last filter F. `y` of the reference, of supported settings, is so with `last_taps`
+-- (`y_of_is`, proofs/Routes)
 unfoldable pub y_of : Route → List ℤ → (ℕ → ℕ) → ℕ → ℤ
 y_of Narrow88 F β n = y_narrow Hz88200 F β n
 y_of Narrow176 F β n = y_narrow Hz176400 F β n
@@ -151,8 +152,8 @@ block_length Narrow352 = 336
 block_length Wide176 = 84
 block_length Wide352 = 336
 
--- the values that a block brings. At 352,800 the first block of a frame brings, for Standard and Low, also those of the
--- 16 values of w before its own
+-- the values that a block brings. At 352,800 the first block of a batch brings, for Standard and Low, also those of
+-- the 16 values of w before its own
 unfoldable pub fresh : Route → Bool → ℕ
 fresh Narrow88 first = 168
 fresh Narrow176 first = 168
@@ -180,7 +181,7 @@ Kept Narrow352 F false β n l = (n % 2 ≡ 0) × Held (pos 0) (w F β) (n / 2 - 
 Kept Wide176 F first β n l = Unit {0}
 Kept Wide352 F first β n l = Unit {0}
 
--- the arrays before the block that starts at sample n, counted from the frame before the run; `first` tells a frame's
+-- the arrays before the block that starts at sample n, counted from the frame before the run; `first` tells a batch's
 -- first block
 pub record State (route : Route) (F : List ℤ) (first : Bool) (β : ℕ → ℕ) (n : ℕ) (x kept : List ℤ) : Type 0 where
   pub history : Held (pos 0) (filter_input route β) (history_from route (M F) first n) (2 * M F) x

@@ -5,8 +5,8 @@ use Rattle.blocks.specs.inner.Jobs.{job_run, in_frame}
 use Rattle.runs.proofs.Sums.{covered_more, frames_fit, frame_told}
 use Rattle.runs.proofs.counted.Goals as goal
 
-pub stretch-requires-clause-place : goal.stretch-requires-clause-place
-stretch-requires-clause-place g c =
+pub batch-requires-clause-place : goal.batch-requires-clause-place
+batch-requires-clause-place g c =
     let job = c.args.job.now in
     rw c.samples_per_frame-samples.ensures.0 (frames_fit job.conv.rate c.loop-f.f 1 job.slices.count (omega arith))
 
@@ -14,7 +14,7 @@ pub loop-f-preserved : goal.loop-f-preserved
 loop-f-preserved g c =
     let job = c.args.job.now in
     let f = c.loop-f.f in
-    let told = rw c.samples_per_frame-samples.ensures.0 at c.stretch.ensures in
+    let told = rw c.samples_per_frame-samples.ensures.0 at c.batch.ensures in
     let next : f * in_frame job + 1 * in_frame job ≡ (f + 1) * in_frame job = omega arith in
     let z : 0 + f ≡ f = omega arith in (
       rw next at (covered_more c.loop-f.invariant.0 told.covered),

@@ -19,7 +19,7 @@ pub record Tallied (conv : Converter) (r : Run) (n : ℕ) (l : List ChannelStats
   pub six : length l ≡ 6
   pub each : (j : ℕ) → get_or l j no_samples ≡ channel_tally conv r n j
 
--- a stretch: samples n, …, end - 1 of every channel are in their places, and the statistics are those of the first `end`
+-- samples n, …, end - 1 of every channel are in their places, and the statistics are those of the first `end`
 pub record Covered {A : Type 0} (o : Layout A) (conv : Converter) (r : Run) (n end : ℕ) (x y : List A) (l : List ChannelStats) : Type 0 where
   pub box : Drawn o (sample conv r) conv.channels n end 0 conv.channels x y
   pub tallied : Tallied conv r end l

@@ -1,7 +1,7 @@
 use Rattle.std.proofs.Common.{◌≡◌, arith}
 use Rattle.blocks.proofs.Sums.{made_few, run_few, ready_of}
 use Rattle.runs.proofs.Sums.{columns_none, columns_more, columns_few, between_all}
-use Rattle.runs.proofs.stretch.Goals as goal
+use Rattle.runs.proofs.batch.Goals as goal
 
 pub loop-channel-init : goal.loop-channel-init
 loop-channel-init g c = columns_none c.requires.tallied
