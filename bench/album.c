@@ -1,8 +1,9 @@
-/* Seconds that a 60-minute album takes, for every route, in stereo and six channels, as one run and in pieces; and ns a sample by the length
- * of a run, by the number of channels and by the number of a filter's taps. bench/album builds and runs it.
+/* Seconds that a 60-minute album takes, for every route, in stereo and six channels, as one run and in pieces; and ns a
+ * sample by the length of a run, by the number of channels and by the number of a filter's taps. bench/album builds and
+ * runs it.
  *
- * A stretch of the album is converted (argument: seconds of it, 20 by default) and its time scaled to 60 minutes. Conversions run in a
- * thread whose stack is painted before, so that the deepest use of it can be read off after. */
+ * A stretch of the album is converted (argument: seconds of it, 20 by default) and its time scaled to 60 minutes.
+ * Conversions run in a thread whose stack is painted before, so that the deepest use of it can be read off after. */
 #define _GNU_SOURCE
 #include <pthread.h>
 #include <stdio.h>

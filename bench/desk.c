@@ -1,6 +1,6 @@
-/* The time that the largest call of the listening desk takes: 8 frames of 6 channels with both neighbours and the counts lent, each route,
- * random bytes at 0 dB. Printed are the least, the median and the longest of 201 calls in milliseconds, and the median as a share of the
- * 8/75 s that the frames play. bench/desk builds and runs it. */
+/* The time that the largest call of the listening desk takes: 8 frames of 6 channels with both neighbours and the
+ * counts lent, each route, random bytes at 0 dB. Printed are the least, the median and the longest of 201 calls in
+ * milliseconds, and the median as a share of the 8/75 s that the frames play. bench/desk builds and runs it. */
 #define _GNU_SOURCE
 #include <stdio.h>
 #include <stdlib.h>

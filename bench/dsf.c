@@ -1,5 +1,6 @@
-/* DSF files: a frame taken out of a file beside its conversion, by channels, and by the frame's number; the writer beside the reader. bench/dsf
- * builds and runs it. Each figure is the best of the rounds (argument, 200 by default), which take all figures in turn. */
+/* DSF files: a frame taken out of a file beside its conversion, by channels, and by the frame's number; the writer
+ * beside the reader. bench/dsf builds and runs it. Each figure is the best of the rounds (argument, 200 by default),
+ * which take all figures in turn. */
 #define _GNU_SOURCE
 #include <stdio.h>
 #include <stdlib.h>

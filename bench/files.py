@@ -1,5 +1,5 @@
-"""Times of ffmpeg and of the command, in turns, on one album. A row has the least of all rounds, and a mark where half of
-the rounds took a twentieth longer or more. For bench/files."""
+"""Times of ffmpeg and of the command, in turns, on one album. A row has the least of all rounds, and a mark where half
+of the rounds took a twentieth longer or more. For bench/files."""
 import os
 import shutil
 import subprocess

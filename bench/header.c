@@ -1,9 +1,11 @@
-/* Tries what include/puigneht.h says of addresses, of the stack and of a converter's numbers. bench/header builds and runs it.
+/* Tries what include/puigneht.h says of addresses, of the stack and of a converter's numbers. bench/header builds and
+ * runs it.
  *
- * Addresses: every call is made with each of its lists at all sixteen offsets from a multiple of 16, the others at odd ones of their own;
- * answers and written lists are those at aligned addresses, and the bytes around each list are kept. Stack: each call runs in a thread
- * whose stack is painted before, so that the deepest use of it can be read off after. Numbers: with one of the three wrong by one, each call
- * that takes a converter is refused 15 and writes nothing but the refusal's data. */
+ * Addresses: every call is made with each of its lists at all sixteen offsets from a multiple of 16, the others at odd
+ * ones of their own; answers and written lists are those at aligned addresses, and the bytes around each list are kept.
+ * Stack: each call runs in a thread whose stack is painted before, so that the deepest use of it can be read off after.
+ * Numbers: with one of the three wrong by one, each call that takes a converter is refused 15 and writes nothing but
+ * the refusal's data. */
 #define _GNU_SOURCE
 #include <pthread.h>
 #include <stdio.h>
@@ -277,7 +279,8 @@ static size_t stack_of(int route, uint64_t channels, int call, unsigned char *st
     return STACK - untouched;
 }
 
-/* The call with a wrong number, each of the three, over and under; gives how many were refused 15 with all else kept. */
+/* The call with a wrong number, each of the three, over and under; gives how many were refused 15 with all else
+ * kept. */
 static unsigned long with_wrong_numbers(int route, uint64_t channels, int call) {
     size_t aligned[LISTS] = {0};
     unsigned long made = 0;

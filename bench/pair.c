@@ -10,7 +10,7 @@
 
 extern puigneht_bytes_call_ before_puigneht_convert_call;
 
-enum { MOST_FRAMES = 4, SIZE = 4704, MOST_CHANNELS = 6, FRAMES = 3, CALLS = 30 };
+enum { MOST_FRAMES = 20, SIZE = 4704, MOST_CHANNELS = 6, FRAMES = 3, CALLS = 30 };
 
 static const char *cutoffs[] = {"standard", "low", "wide"};
 static const uint32_t rates[] = {88200, 176400, 352800};

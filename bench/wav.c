@@ -1,7 +1,8 @@
-/* The second entry (header and sample bytes into an output) beside a memcpy of the sample bytes, and the header alone (a file of no
- * frames), by frames and format. bench/wav builds and runs it.
+/* The second entry (header and sample bytes into an output) beside a memcpy of the sample bytes, and the header alone
+ * (a file of no frames), by frames and format. bench/wav builds and runs it.
  *
- * A round makes the call, or the copy, often enough for some milliseconds, the two in turn; the least time of the rounds is taken. */
+ * A round makes the call, or the copy, often enough for some milliseconds, the two in turn; the least time of the
+ * rounds is taken. */
 #define _GNU_SOURCE
 #include <stdio.h>
 #include <stdlib.h>

@@ -1,5 +1,5 @@
-# Completion of puigneht for bash: commands and options are those of its own --help; then the values that an option takes,
-# and files: DSF files, and folders.
+# Completion of puigneht for bash: commands and options are those of its own --help; then the values that an option
+# takes, and files: DSF files, and folders.
 
 _puigneht_files() {
     local IFS=$'\n'

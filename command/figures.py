@@ -1,6 +1,7 @@
 #!/usr/bin/env python3
-"""Levels, info, frames and dsf beside answers from outside: the original's reports (crates/test_reports), samples of the
-original (command/stored/albums), files laid out by files.py, sums worked out here; and with calls of the system failing.
+"""Levels, info, frames and dsf beside answers from outside: the original's reports (crates/test_reports), samples of
+the original (command/stored/albums), files laid out by files.py, sums worked out here; and with calls of the system
+failing.
 
 Usage: command/figures.py [PROGRAM]        (target/puigneht if it is not given)
 
@@ -46,7 +47,7 @@ def noise(channels, count, seed):
     return [source.randbytes(count) for _ in range(channels)]
 
 
-def woven(sounds):
+def interleaved(sounds):
     """Raw frames: the channels' bytes in turn, the last frame filled up."""
     length = -(-len(sounds[0]) // FRAME) * FRAME
     return bytes(b for row in zip(*(sound.ljust(length, b"\x69") for sound in sounds)) for b in row)
@@ -136,13 +137,14 @@ def tracks(command, case, text):
         names.append(f"{k + 1}.dsf")
         put(names[-1], [sound[begin:end] for sound in sounds], 1 if k % 2 else 8, bytes(k))
     check(printed(command, ["levels", "-q", *case.options(), *names]) == text, case, "levels of tracks")
-    check(printed(command, ["frames", "-q", "-o", "-", *names]) == woven(sounds), case, "frames of tracks")
+    check(printed(command, ["frames", "-q", "-o", "-", *names]) == interleaved(sounds), case, "frames of tracks")
     for name in names:
         os.remove(name)
 
 
 def over_borders(command):
-    """One over in all, at the start: the samples of 0x00 stand at the low end from there on, over two borders of pieces."""
+    """One over in all, at the start: the samples of 0x00 stand at the low end from there on, over two borders of
+    pieces."""
     put("a.dsf", [bytes(300 * FRAME)])
     for jobs in "1", "3":
         found = LINE.findall(printed(command, ["levels", "-j", jobs, "a.dsf"]))
@@ -195,7 +197,7 @@ def dsf_files(command):
     for count in range(1, 7):
         for frames in 0, 1, 127, 128, 129, 300:
             sounds = noise(count, frames * FRAME, frames)
-            put_file("a.frames", woven(sounds), None)
+            put_file("a.frames", interleaved(sounds), None)
             right = files.laid_out(sounds, 1, 8 * frames * FRAME)
             printed(command, ["dsf", str(count), "a.frames", "new.dsf"])
             check(held("new.dsf") == right, "the file of", frames, "frames of", count)
@@ -210,7 +212,7 @@ def dsf_files(command):
 
 def few_bytes(command):
     """A pipe that comes in small parts."""
-    data = woven(noise(2, 130 * FRAME, 1))
+    data = interleaved(noise(2, 130 * FRAME, 1))
     run = subprocess.Popen([command.program, "dsf", "2", "-", "new.dsf"], stdin=subprocess.PIPE)
     source = random.Random(2)
     while data:
@@ -332,7 +334,7 @@ def faults(command):
     put("good.dsf", noise(2, 300 * FRAME, 1))
     put("mono.dsf", noise(1, 300 * FRAME, 1))
     put_file("short.dsf", held("good.dsf")[:-1], None)
-    put_file("a.frames", woven(noise(2, FRAME, 1)), None)
+    put_file("a.frames", interleaved(noise(2, FRAME, 1)), None)
     put_file("odd.frames", bytes(9407), None)
     with open("many.frames", "wb") as file:
         file.truncate(540001 * FRAME)
@@ -431,7 +433,8 @@ def held_back(command, words, call, meanwhile):
 
 
 def changed(command):
-    """An album that is changed while it is read: the report and the frames stay without their end, and no file is left."""
+    """An album that is changed while it is read: the report and the frames stay without their end, and no file is left.
+    """
     text = b"mono.dsf was changed while it was converted: an upload that goes on?\n"
     for words in ["levels", "-j", "1", "mono.dsf"], ["levels", "-j", "1", "--by", "minute", "mono.dsf"], ["frames", "-o", "-", "mono.dsf"], ["frames", "-o", "new", "mono.dsf"]:
         whole = printed(command, words)

@@ -1,10 +1,12 @@
 """Albums to try the command with, laid out from Sony's DSF document, and what Python's `wave` reads in a WAV file.
 
-files.py write PATH CHANNELS BITS SAMPLES FILL [METADATA]    BITS 1: lowest bit first, 8: highest; FILL: a byte, or `random`
-files.py long PATH FRAMES SILENT                             stereo, a sparse file of zero bytes whose last SILENT frames are silent
-files.py look PATH RATE CHANNELS FRAMES                      all fields, and the file's length
-files.py value PATH FROM TO VALUE                            all channels of sample FROM to TO (not with it) are VALUE
-files.py begins PATH OTHER SAMPLES                           the first SAMPLES samples of all channels are the same
+files.py write PATH CHANNELS BITS SAMPLES FILL [METADATA]
+                                    BITS 1: lowest bit first, 8: highest; FILL: a byte, or `random`
+files.py long PATH FRAMES SILENT    stereo, a sparse file of zero bytes whose last SILENT frames are silent
+files.py look PATH RATE CHANNELS FRAMES
+                                    all fields, and the file's length
+files.py value PATH FROM TO VALUE   all channels of sample FROM to TO (not with it) are VALUE
+files.py begins PATH OTHER SAMPLES  the first SAMPLES samples of all channels are the same
 """
 import os
 import random
@@ -39,8 +41,8 @@ def stated(file):
 
 
 def laid_out(sounds, bits, samples, metadata=0, kind=None):
-    """A file of the channels' bytes, which are the same for both bit orders: the earliest bit highest, mirrored where the lowest is the
-    earliest. It ends where its metadata begin."""
+    """A file of the channels' bytes, which are the same for both bit orders: the earliest bit highest, mirrored where
+    the lowest is the earliest. It ends where its metadata begin."""
     sounds = [s.translate(MIRROR) if bits == 1 else s for s in sounds]
     blocks = [s[g * BLOCK:(g + 1) * BLOCK].ljust(BLOCK, b"\0") for g in range(groups_of(samples)) for s in sounds]
     return header(len(sounds), bits, samples, metadata, kind) + b"".join(blocks)

@@ -1,5 +1,6 @@
 #!/usr/bin/env python3
-"""The command beside stored answers, which come from outside our code: those that compare/ wrote for the tests of the crates, and command/stored.
+"""The command beside stored answers, which come from outside our code: those that compare/ wrote for the tests of the
+crates, and command/stored.
 
 Usage: command/stored.py [PROGRAM]        (target/puigneht if it is not given)
 """
@@ -180,7 +181,8 @@ def put_taps(taps):
 
 
 def label_album(pattern, seed, neighbours, channels):
-    """The frame of a row, and the frames next to it, which are the same bytes from another seed. Gives how many are before it."""
+    """The frame of a row, and the frames next to it, which are the same bytes from another seed. Gives how many are
+    before it."""
     made = [filters.bytes_by(pattern, seed + past, channels) for past in (1, 0, 2)]
     held = [made[k] for k in range(3) if (neighbours % 2, 1, neighbours // 2)[k]]
     sounds = [bytes(b for frame in held for b in frame[c::channels]) for c in range(channels)]

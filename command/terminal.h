@@ -10,7 +10,8 @@ int character(const char *text, uint32_t *code);
 /* Each byte of a control character, and each that is no UTF-8, becomes a question mark. */
 void make_plain(char *text);
 
-/* Progress of what has a name and plays so many frames is shown on standard error, if that is a terminal and -q is not given. */
+/* Progress of what has a name and plays so many frames is shown on standard error, if that is a terminal and -q is not
+ * given. */
 void begin_progress(const char *name, uint64_t frames);
 
 /* So many frames are done. */

@@ -185,8 +185,8 @@ def turns_of(first, second):
 
 
 def more_channels(command, source):
-    """Each channel type of three to six channels: the channels of a stored stereo album in some order. Each pair of them
-    is that album's samples."""
+    """Each channel type of three to six channels: the channels of a stored stereo album in some order. Each pair of
+    them is that album's samples."""
     tried = 0
     stereo = [it for it in generated.stored() if it[0].channels == 2]
     for kind, channels in {3: 3, 4: 4, 5: 4, 6: 5, 7: 6}.items():

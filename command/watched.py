@@ -17,7 +17,8 @@ import stored
 
 
 def runs(words, columns, output=False):
-    """Standard error (and output, if that is asked for) is a terminal of so many columns. Gives the status and what it showed."""
+    """Standard error (and output, if that is asked for) is a terminal of so many columns. Gives the status and what it
+    showed."""
     main, side = pty.openpty()
     fcntl.ioctl(side, termios.TIOCSWINSZ, struct.pack("HHHH", 24, columns, 0, 0))
     process = os.fork()

@@ -1,15 +1,18 @@
 #!/usr/bin/env python3
-"""Albums of one file for crates/test_tracks/data: DSF files, and the WAV files, sheets and sentences that they are to give.
+"""Albums of one file for crates/test_tracks/data: DSF files, and the WAV files, sheets and sentences that they are to
+give.
 
-Usage: compare/albums.py SRC, in the repository's folder; SRC is the original's repository (its tap tables are read). It says how
-many of each it wrote. The files are laid out from Sony's document by command/files.py's `head`; the samples are worked out
-from document 01's formulas over whole numbers by compare/filters.py's `Channel`, tap by tap, the factor by Python's floats; the WAV file is
-written by Python's `wave`, the sheet by compare/sheets.py's formatting, sentences by Python's. Nothing of it is the library's.
+Usage: compare/albums.py SRC, in the repository's folder; SRC is the original's repository (its tap tables are read). It
+says how many of each it wrote. The files are laid out from Sony's document by command/files.py's `head`; the samples
+are worked out from document 01's formulas over whole numbers by compare/filters.py's `Channel`, tap by tap, the factor
+by Python's floats; the WAV file is written by Python's `wave`, the sheet by compare/sheets.py's formatting, sentences
+by Python's. Nothing of it is the library's.
 
-A case is a line of hexadecimal numbers. `singles`: rate, cutoff, decibels and factor (their bits), the file's length; the
-answer (12 is the header's, where a plain WAV file is asked for), two numbers of its sentence; what an album that opens has:
-channels, channel type, bytes of each channel, frames, bytes of data, bytes of a frame, bytes filled up, pieces; then where the
-stored bytes of the file, the WAV file, the sheet and the sentence stand in `single_bytes`, each with its length. `shares`:
+A case is a line of hexadecimal numbers. `singles`: rate, cutoff, decibels and factor (their bits), the file's length;
+the answer (12 is the header's, where a plain WAV file is asked for), two numbers of its sentence; what an album that
+opens has: channels, channel type, bytes of each channel, frames, bytes of data, bytes of a frame, bytes filled up,
+pieces; then where the stored bytes of the file, the WAV file, the sheet and the sentence stand in `single_bytes`, each
+with its length. `shares`:
 frames, jobs, part, its first piece and the one after its last.
 """
 import io
@@ -30,7 +33,8 @@ RATES = [88200, 176400, 352800]
 
 
 def factor(db):
-    """The gain's factor, as document 01 has it: e^(|dB| ln 10 / 20) by 25 terms at a 32nd of the exponent, squared five times."""
+    """The gain's factor, as document 01 has it: e^(|dB| ln 10 / 20) by 25 terms at a 32nd of the exponent, squared five
+    times."""
     r = abs(float(db)) * (float.fromhex("0x1.26bb1bbb55516p+1") / 20.0) / 32.0
     term = total = 1.0
     for k in range(1, 26):
@@ -42,7 +46,8 @@ def factor(db):
 
 
 def converted(t, sounds, rate, cutoff, db):
-    """The samples of a whole album, items in turn, and its statistics; a channel's last frame is filled up with 0x69."""
+    """The samples of a whole album, items in turn, and its statistics; a channel's last frame is filled up with 0x69.
+    """
     frames = -(-len(sounds[0]) // FRAME)
     count = frames * filters.PER_FRAME[rate]
     items, stats = [0] * (count * len(sounds)), sheets.none()
@@ -79,7 +84,8 @@ def double(x):
 
 
 def case(rate, cutoff, db, file, length, answer=0, said=(0, 0), numbers=(0,) * 8, wav=b"", sheet="", sentence=""):
-    """The numbers of a line without the places, and what is stored; of a file that the case before stored, nothing anew."""
+    """The numbers of a line without the places, and what is stored; of a file that the case before stored, nothing
+    anew."""
     asked = [RATES[rate], cutoff, double(float(db)), double(factor(db))]
     return [*asked, length, answer, *said, *numbers], (file, wav, sheet.encode(), sentence.encode())
 

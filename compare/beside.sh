@@ -1,8 +1,9 @@
 #!/usr/bin/env bash
 # Builds a cargo project of this folder beside the original, and runs it.
 # Usage: compare/beside.sh PROJECT SRC WORDS..
-# SRC is the original's repository. It is built as it stands, in a folder of its own. Its one dependency, thiserror, is taken from
-# Debian's package librust-thiserror-dev where that is installed, else from crates.io. WORDS go to the program.
+# SRC is the original's repository. It is built as it stands, in a folder of its own. Its one dependency, thiserror, is
+# taken from Debian's package librust-thiserror-dev where that is installed, else from crates.io. WORDS go to the
+# program.
 set -eu
 here=$(cd "$(dirname "$0")" && pwd)
 project=$1

@@ -1,18 +1,21 @@
 #!/usr/bin/env python3
-"""Settings changed while a converter is open, for crates/test_conversions/data: lists of changes, and records made by hand.
+"""Settings changed while a converter is open, for crates/test_conversions/data: lists of changes, and records made by
+hand.
 
 Usage: compare/changes.py [FOLDER]
 
-The answers are worked out here from documents 01 and 02, and not by the library. A number has 16 hexadecimal digits; a route
-is three times the cutoff and the rate, both from 0; floats are given by their bits. It says how often each answer occurs.
+The answers are worked out here from documents 01 and 02, and not by the library. A number has 16 hexadecimal digits; a
+route is three times the cutoff and the rate, both from 0; floats are given by their bits. It says how often each answer
+occurs.
 
-A row of `changes` has 86 numbers. Opening: route, channels, decibels, factor, whether a filter is given, its number of taps,
-its centre and its second tap (the others are 0); refusal and its two data; samples of a channel in a frame, reach, bytes of a
-frame. Then six changes, each twelve numbers: route, decibels, factor; refusal and its two data; of the record that is held
-then, route, decibels, factor, and the three numbers.
+A row of `changes` has 86 numbers. Opening: route, channels, decibels, factor, whether a filter is given, its number of
+taps, its centre and its second tap (the others are 0); refusal and its two data; samples of a channel in a frame,
+reach, bytes of a frame. Then six changes, each twelve numbers: route, decibels, factor; refusal and its two data; of
+the record that is held then, route, decibels, factor, and the three numbers.
 
-A row of `records` has 27: a record's route, channels, decibels, factor, number of taps, centre, second tap and three numbers; a
-change of it, as above; the bytes of a run and the items of its output, as lent to the conversions; their refusal and its data.
+A row of `records` has 27: a record's route, channels, decibels, factor, number of taps, centre, second tap and three
+numbers; a change of it, as above; the bytes of a run and the items of its output, as lent to the conversions; their
+refusal and its data.
 """
 import os
 import random

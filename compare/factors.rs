@@ -23,7 +23,7 @@ fn file<const N: usize>(name: &str, rows: impl Iterator<Item = [u64; N]>) {
 }
 
 // Made positive.
-fn lifted(n: i32) -> u64 {
+fn biased(n: i32) -> u64 {
     (i64::from(n) + (1 << 31)) as u64
 }
 
@@ -54,7 +54,7 @@ fn main() {
     let scaled = |(y, db): (i32, f64)| {
         let mut sample = [0i32];
         let clips = quantise(&[f64::from(y)], db_to_linear(db), &mut sample);
-        [lifted(y), db.to_bits(), lifted(sample[0]), clips as u64]
+        [biased(y), db.to_bits(), biased(sample[0]), clips as u64]
     };
     file("scalings", scalings(&mut random).into_iter().map(scaled));
 }

@@ -1,7 +1,8 @@
 #!/usr/bin/env bash
 # Writes factors and scalings of crates/test_conversions/data: what the original's `db_to_linear` and `quantise` give.
 # Usage: compare/factors.sh SRC [DATA]
-# SRC is the original's repository; DATA the folder that is written to. The functions are taken from its kernel.rs as they stand, and compiled with compare/factors.rs.
+# SRC is the original's repository; DATA the folder that is written to. The functions are taken from its kernel.rs as
+# they stand, and compiled with compare/factors.rs.
 set -eu
 here=$(cd "$(dirname "$0")" && pwd)
 kernel=${1:?the folder of the original}/crates/scarletbook-pcm/src/kernel.rs

@@ -1,14 +1,16 @@
 #!/usr/bin/env python3
-"""Labels' own filters for crates/test_conversions/data/filters: settings, bytes and taps, and what a conversion is to answer.
+"""Labels' own filters for crates/test_conversions/data/filters: settings, bytes and taps, and what a conversion is to
+answer.
 
 The answers are worked out here from document 01's formulas and the original's tap tables, sample by sample over whole
-numbers, and not by the library. Usage: compare/filters.py SRC [FILE [ROWS]]; SRC is the original's repository. It says how
-many rows it wrote, how many of them convert, and how many filters stand at the limits of refusal 18.
+numbers, and not by the library. Usage: compare/filters.py SRC [FILE [ROWS]]; SRC is the original's repository. It says
+how many rows it wrote, how many of them convert, and how many filters stand at the limits of refusal 18.
 
-A row is 80 numbers of 16 hexadecimal digits: route (three times the cutoff and the rate, both from 0), channels, decibels
-as bits, bytes of the run, neighbours (1 before, 2 after), pattern and seed of the bytes; refusal and its two data (0 where
-the call is accepted), the reach, two digests of the samples, the clips of two channels; the number of taps, and 117 taps by
-twos: t, or 2^31 - 1 - t where t is negative. Taps past their number are drawn by chance: no answer depends on them.
+A row is 80 numbers of 16 hexadecimal digits: route (three times the cutoff and the rate, both from 0), channels,
+decibels as bits, bytes of the run, neighbours (1 before, 2 after), pattern and seed of the bytes; refusal and its two
+data (0 where the call is accepted), the reach, two digests of the samples, the clips of two channels; the number of
+taps, and 117 taps by twos: t, or 2^31 - 1 - t where t is negative. Taps past their number are drawn by chance: no
+answer depends on them.
 Last come the lowest and the highest number before the clamp of two channels, as 64 bits, and their marks (1 and 2).
 """
 import random
@@ -121,7 +123,8 @@ def reach(rate, cutoff, count):
 
 
 def converted(t, case):
-    """The samples of one frame, items in turn, and of each channel the clips and the numbers before the clamp; 0 dB, so the factor is 1."""
+    """The samples of one frame, items in turn, and of each channel the clips and the numbers before the clamp; 0 dB, so
+    the factor is 1."""
     rate, cutoff, channels = case["route"] % 3, case["route"] // 3, case["channels"]
     made = [bytes_by(case["pattern"], case["seed"] + past, channels) for past in (1, 0, 2)]
     there = [case["neighbours"] % 2, 1, case["neighbours"] // 2]

@@ -1,9 +1,11 @@
 #!/usr/bin/env python3
-"""Tries the headers of WAV files: beside Python's `struct`, and by what other programs find in files that begin with them.
+"""Tries the headers of WAV files: beside Python's `struct`, and by what other programs find in files that begin with
+them.
 
 Usage: compare/headers.py [LIBRARY], in the repository's folder; LIBRARY has `puigneht_wave_header_call`
 (target/staticlib/libpuigneht_album.a, which `make` builds). It takes cc, ffmpeg, sox, sndfile-programs and mediainfo.
-Large files are sparse: gigabytes that take no room. It says how many of each it tried, and stops at the first that differs.
+Large files are sparse: gigabytes that take no room. It says how many of each it tried, and stops at the first that
+differs.
 """
 import ctypes
 import itertools
@@ -23,7 +25,8 @@ TYPES = {1: (0x4, "mono"), 2: (0x3, "stereo"), 3: (0x7, "3.0"), 4: (0x33, "quad"
 PCM = uuid.UUID("00000001-0000-0010-8000-00aa00389b71").bytes_le
 
 # what libsndfile remarks: on every odd data size, padded or not; on whole numbers told by a sub-format without a `fact`
-# chunk, which other formats need; and on plain files that the eight bytes before what their size counts take past 32 bits
+# chunk, which other formats need; and on plain files that the eight bytes before what their size counts take past 32
+# bits
 REMARKS = [
     "*** 'data' chunk should be an even number of bytes in length.\n",
     "**** All non-PCM format files should have a 'fact' chunk.\n",

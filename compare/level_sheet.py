@@ -1,10 +1,11 @@
 #!/usr/bin/env python3
-"""Writes command/stored/frames and frames.sheet: a line RATE CUTOFF CHANNELS DB with raw frames, which command/stored.py lays out as an
-album, and its sheet by document 01's formulas.
+"""Writes command/stored/frames and frames.sheet: a line RATE CUTOFF CHANNELS DB with raw frames, which
+command/stored.py lays out as an album, and its sheet by document 01's formulas.
 
 Usage: compare/level_sheet.py TABLES
-TABLES is the original's tables.rs. Everything is worked out here from the bytes with Python's whole numbers, tap by tap; the gain
-is in floats, in the order of `db_to_linear`. Figures of document 01 are checked first. Run in the repository's folder.
+TABLES is the original's tables.rs. Everything is worked out here from the bytes with Python's whole numbers, tap by
+tap; the gain is in floats, in the order of `db_to_linear`. Figures of document 01 are checked first. Run in the
+repository's folder.
 """
 import random
 import re
@@ -107,7 +108,8 @@ def main():
     taps = tables(sys.argv[1])
     figures(taps)
     rng = random.Random(14)
-    # Three frames of two channels: loud and quiet stretches on the left, idle with a burst over the second border on the right.
+    # Three frames of two channels: loud and quiet stretches on the left, idle with a burst over the second border on
+    # the right.
     left = []
     for _ in range(3 * FRAME // 56):
         byte = rng.choice([0x00, 0xFF, 0x69, 0x96, 0x5A, 0xEE, 0x11])

@@ -2,10 +2,10 @@
 """Level sheets for crates/test_tracks/data: statistics, and the sheet or the refusal that they have by document 02.
 
 The sheets are laid out here by Python's own formatting, and the joined statistics by Python's own numbers. A line of
-`statistics` has 31 numbers: channels, length of the output, six clip counts, six lowest, six highest, six marks, then the
-refusal's number and data (0 for none), and where its sheet stands in `sheets`, with its length, which is 0 if it is
-refused. A line of `joins` has 72: the statistics of two stretches, and those of both. Run in the repository's folder; it
-says how many it wrote.
+`statistics` has 31 numbers: channels, length of the output, six clip counts, six lowest, six highest, six marks, then
+the refusal's number and data (0 for none), and where its sheet stands in `sheets`, with its length, which is 0 if it is
+refused. A line of `joins` has 72: the statistics of two stretches, and those of both. Run in the repository's folder;
+it says how many it wrote.
 """
 import random
 

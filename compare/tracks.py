@@ -130,8 +130,8 @@ def music(channels, count):
 
 
 def converted():
-    """Of each album the ways that it is cut and converted: at frame borders, inside frames, inside blocks, and at single
-    bytes."""
+    """Of each album the ways that it is cut and converted: at frame borders, inside frames, inside blocks, and at
+    single bytes."""
     one, two, six = music(1, FRAME + 1001), music(2, FRAME + 7), music(6, FRAME + 500)
     tiny = [0, 1, 2, 3, 8, FRAME - 1, FRAME, FRAME + 1]
     yield music(1, 4 * FRAME + 1001), [FRAME - 1, 2 * FRAME + 4, 2 * FRAME + 5, 3 * FRAME], [1, 8], 0, [(88200, 0, 2, AUTO)]
@@ -225,7 +225,8 @@ class Rows:
         self.tracks += [[*self.store.placed(kept), length, 0, 0, 0] for kept, length, _ in tracks] + [[0] * 6]
 
     def taken(self, way, channels, tracks, data=b"", told=()):
-        """Of each track the stored bytes, the file's length and the bytes of a channel; the samples, if it is converted."""
+        """Of each track the stored bytes, the file's length and the bytes of a channel; the samples, if it is
+        converted."""
         album = Album(way[0], channels, [own for _, _, own in tracks])
         steps = steps_of(album, data)
         lines = [len(self.tracks), len(tracks), len(self.steps), len(steps)]

@@ -1,5 +1,6 @@
 #!/usr/bin/env python3
-"""Boards for crates/test_reports/data: a line with the turn length and a line FRAMES DUE for each album, a byte '=', and what is to be printed.
+"""Boards for crates/test_reports/data: a line with the turn length and a line FRAMES DUE for each album, a byte '=',
+and what is to be printed.
 The texts of `others` are no boards: command/stored.py makes words of them, which the command refuses as usage.
 
 The answers are worked out here, turn by turn, and not by the library. Of the small boards every order of the turns is

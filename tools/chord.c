@@ -1,5 +1,5 @@
-/* Writes a sample album: some seconds of a chord, in stereo, as a DSF file (DSD64, lowest bit first), by a delta-sigma modulator of
- * second order.
+/* Writes a sample album: some seconds of a chord, in stereo, as a DSF file (DSD64, lowest bit first), by a delta-sigma
+ * modulator of second order.
  *
  *     cc -O2 tools/chord.c -o target/chord -lm
  *     target/chord SECONDS OUT.dsf                          (1 to 3600 seconds) */
@@ -23,7 +23,8 @@ struct channel {
     double first, second;
 };
 
-/* A major, its tones a little apart on the right. A quarter of 50 % modulation each, so the chord is at most SACD's 0 dB. */
+/* A major, its tones a little apart on the right. A quarter of 50 % modulation each, so the chord is at most SACD's 0
+ * dB. */
 static const double pitches[TONES] = {220.0, 277.18, 329.63, 440.0};
 static const double detuned[CHANNELS] = {1.0, 1.002};
 static const double level = 0.125;

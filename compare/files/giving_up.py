@@ -1,8 +1,9 @@
 """Writes cases of crates/test_files: data/heads and data/uploads, as reading.py does.
 
-Request 12 of document 02 is answered by looking for a file: `continued` makes, for each channel type and bit order, the accepted file with the
-fewest samples and the least length that begins with the bytes at hand, and has layout.verdict judge it. A beginning is hopeless where there is
-none. Fewest and least are enough: more samples need more blocks, so they only raise the length that must be stated."""
+Request 12 of document 02 is answered by looking for a file: `continued` makes, for each channel type and bit order, the
+accepted file with the fewest samples and the least length that begins with the bytes at hand, and has layout.verdict
+judge it. A beginning is hopeless where there is none. Fewest and least are enough: more samples need more blocks, so
+they only raise the length that must be stated."""
 
 import itertools
 import sys
@@ -23,7 +24,8 @@ def least(known, low):
 
 
 def continued(head, length):
-    """The header of an accepted file that begins with these bytes, `length` of them, of which the first 92 are in `head`; or None."""
+    """The header of an accepted file that begins with these bytes, `length` of them, of which the first 92 are in
+    `head`; or None."""
     known = head[:min(length, 92)]
     count = least(known[64:72], 0)
     for kind, bits in itertools.product(CHANNELS, (1, 8)):
@@ -68,7 +70,8 @@ def total_of(head):
 
 
 def bytes_in_turn():
-    """Every byte of two headers changed: the whole file, and the beginnings that end right before and right after it."""
+    """Every byte of two headers changed: the whole file, and the beginnings that end right before and right after it.
+    """
     for k, at in itertools.product((0, 1), range(92)):
         for flip in (1, 128):
             value = bytes([HEADS[k][at] ^ flip])

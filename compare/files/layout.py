@@ -1,7 +1,7 @@
 """Sony's DSF files, written from lists of samples, read back and judged as request 1 of document 02 says.
 
-Made from the layout and the requests alone; nothing here is taken from the Rattle code. A channel is a string of 0s and 1s, its samples in
-order of time."""
+Made from the layout and the requests alone; nothing here is taken from the Rattle code. A channel is a string of 0s and
+1s, its samples in order of time."""
 
 import struct
 
@@ -130,7 +130,8 @@ def read(file):
 
 
 def frame(samples, f):
-    """Frame f of the channels: their bytes in turn, the earliest sample in the highest bit, idle bytes past the last sample."""
+    """Frame f of the channels: their bytes in turn, the earliest sample in the highest bit, idle bytes past the last
+    sample."""
     out = bytearray()
     for p in range(8 * FRAME * f, 8 * FRAME * (f + 1), 8):
         for channel in samples:
@@ -140,7 +141,8 @@ def frame(samples, f):
 
 
 def frame_verdict(head, length, f, size, window=None):
-    """The refusal of frame f into `size` bytes, as number and data; the window is its start and its bytes, or the whole file."""
+    """The refusal of frame f into `size` bytes, as number and data; the window is its start and its bytes, or the whole
+    file."""
     refused, (_, channels, _, count, frames) = opened(head, length)
     if refused:
         return refused, 0, 0

@@ -1,7 +1,7 @@
 """Writes cases of crates/test_files: data/written and data/lengths, as reading.py does.
 
-The file of some frames is made by layout.write from the frames' samples: request 9 of document 02 asks for it lowest bit first, padded with zero
-bytes, with no metadata and the channel types 1, 2, 3, 4, 6, 7."""
+The file of some frames is made by layout.write from the frames' samples: request 9 of document 02 asks for it lowest
+bit first, padded with zero bytes, with no metadata and the channel types 1, 2, 3, 4, 6, 7."""
 
 import itertools
 import sys

@@ -1,5 +1,5 @@
-/* Files of 1 and 3 frames and of none, at every rate, mono and stereo: FOLDER/RATE-CHANNELS-FRAMES.wav by puigneht_wav_convert, and .raw by
- * puigneht_convert. The frames are chance. */
+/* Files of 1 and 3 frames and of none, at every rate, mono and stereo: FOLDER/RATE-CHANNELS-FRAMES.wav by
+ * puigneht_wav_convert, and .raw by puigneht_convert. The frames are chance. */
 #include <stdio.h>
 #include <stdlib.h>
 #include "puigneht.h"

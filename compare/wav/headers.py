@@ -1,8 +1,9 @@
 #!/usr/bin/env python3
 """Writes data/wav_headers of crates/test_files and crates/test_conversions: the headers that Python's `wave` makes.
 
-For each rate, one and two channels, and 0, 1, 2 and 3 frames, `wave` writes a file of 24-bit samples into memory. Its data must be the
-bytes given to it, those of test_support's sequence; its first 44 bytes are kept, one header after the other.
+For each rate, one and two channels, and 0, 1, 2 and 3 frames, `wave` writes a file of 24-bit samples into memory. Its
+data must be the bytes given to it, those of test_support's sequence; its first 44 bytes are kept, one header after the
+other.
 """
 import io
 import pathlib

@@ -1,4 +1,5 @@
-"""Opens each file of a folder with Python's `wave`, ffmpeg and sox, and compares rate, channels, bits and data with what is expected.
+"""Opens each file of a folder with Python's `wave`, ffmpeg and sox, and compares rate, channels, bits and data with
+what is expected.
 
 ffmpeg and sox are not asked for the data of a file without frames: they call it empty and end with an error.
 """

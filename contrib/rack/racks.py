@@ -14,8 +14,8 @@ import summaries
 TASK = os.path.join(os.path.dirname(os.path.realpath(__file__)), "task")
 TRIES = 3
 
-MORE = """Albums are converted due first, each on one processor, and tried three times where the system fails. Run again,
-a rack makes what is missing. Exit status: 0 all done, 1 some failed, 2 usage, 3 some refused (listed, for a person).
+MORE = """Albums are converted due first, each on one processor, and tried three times where the system fails. Run
+again, a rack makes what is missing. Exit status: 0 all done, 1 some failed, 2 usage, 3 some refused (listed, for a person).
 contrib/README.md says what a list is."""
 
 

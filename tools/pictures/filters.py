@@ -32,7 +32,8 @@ def tables(text):
 
 
 def own_taps(text, name):
-    """A label's own low-pass: whole numbers from the centre, one a line, as the converter takes them (refusals 17, 18)."""
+    """A label's own low-pass: whole numbers from the centre, one a line, as the converter takes them (refusals 17, 18).
+    """
     lines = text.split("\n")
     if lines[-1] == "":
         lines.pop()

@@ -32,7 +32,8 @@ def signed(words):
 
 
 class Columns:
-    """An album cut into as many stretches as a picture is wide: of each channel clips, overs, largest and middle peak."""
+    """An album cut into as many stretches as a picture is wide: of each channel clips, overs, largest and middle peak.
+    """
 
     def __init__(self, album, most):
         n = min(most, album.frames)

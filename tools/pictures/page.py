@@ -38,7 +38,8 @@ def table(heads, rows, foot=None, left=(0,), name=()):
 
 
 def stretches(album, kind):
-    """Where there are clips or overs: (first frame, frame behind, channels), near ones together so that the rows are not too many."""
+    """Where there are clips or overs: (first frame, frame behind, channels), near ones together so that the rows are
+    not too many."""
     found = {}
     for c, row in enumerate(album.channels):
         for k, n in enumerate(getattr(row, kind)):

@@ -163,7 +163,8 @@ def run(command, settings, paths, *more):
 
 
 class Album:
-    """Channels, their names, tracks as (name, first byte, byte behind), and what is known of numbers before the clamp."""
+    """Channels, their names, tracks as (name, first byte, byte behind), and what is known of numbers before the clamp.
+    """
 
     def __init__(self, title, settings, channels, names, tracks=()):
         self.title, self.settings, self.channels, self.names, self.tracks = title, settings, channels, names, list(tracks)

@@ -1,4 +1,5 @@
-"""One DSF file, or an album that comes as tracks, to WAV files: python3 -m puigneht. The command `puigneht` has more."""
+"""One DSF file, or an album that comes as tracks, to WAV files: python3 -m puigneht. The command `puigneht` has more.
+"""
 
 from __future__ import annotations
 

@@ -22,7 +22,8 @@ class _Array(Protocol):
 Buffer = Union[bytes, bytearray, memoryview, "array.array[Any]", mmap.mmap, _Array]
 Path = Union[str, "os.PathLike[str]"]
 Samples = Any
-"""A numpy array of int32, a row a sample and a column a channel, where numpy is; else an array.array("i"), the channels in turn."""
+"""A numpy array of int32, a row a sample and a column a channel, where numpy is; else an array.array("i"), the channels
+in turn."""
 
 @functools.lru_cache(maxsize=None)
 def _numpy() -> Any:

@@ -17,7 +17,8 @@ CHANNEL_BYTES = 4704
 
 @dataclass(frozen=True)
 class Dsf:
-    """What a file holds. `bits_per_sample` 1: lowest bit first, 8: highest; `samples` are one-bit samples of a channel."""
+    """What a file holds. `bits_per_sample` 1: lowest bit first, 8: highest; `samples` are one-bit samples of a channel.
+    """
 
     channel_type: int
     channels: int
@@ -27,7 +28,8 @@ class Dsf:
 
 
 class Upload(NamedTuple):
-    """`accepted`, `unfinished` or `give up`; of the last the length of the shortest beginning that cannot be continued."""
+    """`accepted`, `unfinished` or `give up`; of the last the length of the shortest beginning that cannot be continued.
+    """
 
     state: str
     place: int | None

@@ -97,6 +97,8 @@ class AsAProgram(Case):
         self.assertEqual((self.path / "b.wav").read_bytes(), b"old")
         self.assertEqual(self.program("-f", "-o", ".", "-g", "2", "a.dsf", "b.dsf"), (0, "", ""))
         self.assertEqual((self.path / "b.wav").read_bytes(), (self.path / "b1.wav").read_bytes())
+        self.assertEqual(self.program("-f", "-o", ".", "--format", "rf64", "a.dsf", "b.dsf"), (0, "", ""))
+        self.assertEqual([(self.path / f"{name}.wav").read_bytes()[:4] for name in "ab"], [b"RF64", b"RF64"])
 
     def test_faults(self):
         (self.path / "short.dsf").write_bytes((self.path / "a.dsf").read_bytes()[:-1])

@@ -1,4 +1,5 @@
-"""What no sample shows: files put on the disk, files closed, threads, memory, and what a slip leaves as it should be."""
+"""What no sample shows: files put on the disk, files closed, threads, memory, and what a slip leaves as it should be.
+"""
 import concurrent.futures
 import contextlib
 import io

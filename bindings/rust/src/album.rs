@@ -171,12 +171,14 @@ pub struct Memory {
     scratch: Vec<u8>,
 }
 
-/// A DSF file, or an album of 1 to 99 tracks, one file each, converted as one run: so no border is heard. Threads may share it.
+/// A DSF file, or an album of 1 to 99 tracks, one file each, converted as one run: so no border is heard. Threads may
+/// share it.
 ///
 /// ```no_run
 /// use puigneht::{Album, Output, Rate, Settings};
 /// let album = Album::open_files(["01.dsf", "02.dsf"], Settings { rate: Rate::Hz176400, ..Settings::default() })?;
-/// let stats = album.write_tracks(&["01.wav", "02.wav"], Output::default(), |done, all| eprint!("\r{} %", 100 * done / all))?;
+/// let names = ["01.wav", "02.wav"];
+/// let stats = album.write_tracks(&names, Output::default(), |done, all| eprint!("\r{} %", 100 * done / all))?;
 /// print!("{}", stats.sheet(album.channels())?);
 /// # Ok::<(), puigneht::Error>(())
 /// ```
@@ -186,13 +188,15 @@ pub struct Memory {
 /// ```
 /// use puigneht::{Album, Settings};
 /// let refused = Album::open(vec![&b"RIFF"[..]], Settings::default()).err().unwrap();
-/// assert_eq!(refused.to_string(), "refused 9: not a DSF file as Sony's document lays it out: it has 4 bytes, and a header has 92");
+/// let why = "not a DSF file as Sony's document lays it out: it has 4 bytes, and a header has 92";
+/// assert_eq!(refused.to_string(), format!("refused 9: {why}"));
 /// ```
 pub struct Album<S = File> {
     sources: Vec<S>,
     files: Files,
     converter: Converter,
-    // Channels, channel type, bytes of each channel, frames, bytes of samples, bytes of a frame's samples, filled, pieces.
+    // Channels, channel type, bytes of each channel, frames, bytes of samples, bytes of a frame's samples, filled,
+    // pieces.
     numbers: [u64; 8],
     marks: Vec<u64>,
 }
@@ -217,9 +221,9 @@ impl Album<File> {
 }
 
 impl<S: Source> Album<S> {
-    /// Opens an album of 1 to 99 tracks; not understood (255) for others. Refused, by the first track of which it is so: 9, 10,
-    /// 11 for its file, 9 too for another channel type than the first's; of the first then 2, 3, 17, 18 for the settings; of any
-    /// 5 where all up to it are longer than two hours.
+    /// Opens an album of 1 to 99 tracks; not understood (255) for others. Refused, by the first track of which it is
+    /// so: 9, 10, 11 for its file, 9 too for another channel type than the first's; of the first then 2, 3, 17, 18 for
+    /// the settings; of any 5 where all up to it are longer than two hours.
     pub fn open(sources: Vec<S>, settings: Settings<'_>) -> Result<Self, Error> {
         let r = Refusal::of(Call::AlbumOpen, sources.len()).with(settings.rate as u64, settings.cutoff as u64, 0);
         let mut record = settings.record();
@@ -293,8 +297,8 @@ impl<S: Source> Album<S> {
         Ok(())
     }
 
-    /// Converts a piece into `out`, which has the length of its plan: what it needs is read, the frames next to it too. Refused
-    /// 7 for another length; an [`Error::Read`] where a track cannot be read.
+    /// Converts a piece into `out`, which has the length of its plan: what it needs is read, the frames next to it too.
+    /// Refused 7 for another length; an [`Error::Read`] where a track cannot be read.
     pub fn convert(&self, plan: &Plan, memory: &mut Memory, out: &mut [u8]) -> Result<Stats, Error> {
         let plan = &self.plan(plan.number)?; // another album's would not do
         self.read(plan, Call::AlbumPiece, memory)?;
@@ -314,7 +318,8 @@ impl<S: Source> Album<S> {
         Ok(Piece { plan, bytes, stats })
     }
 
-    /// All pieces in order: their bytes end to end are the album's samples, and their statistics joined are the album's.
+    /// All pieces in order: their bytes end to end are the album's samples, and their statistics joined are the
+    /// album's.
     ///
     /// ```
     /// # use puigneht::{dsf, Album, Settings, Stats, FRAME_BYTES};
@@ -334,8 +339,8 @@ impl<S: Source> Album<S> {
         (0..self.number_of_pieces()).map(|number| self.piece(number))
     }
 
-    /// The frames of a piece with their neighbours, not converted, as a run of [`converter`](Album::converter); the album's last
-    /// frame is filled up with 0x69.
+    /// The frames of a piece with their neighbours, not converted, as a run of [`converter`](Album::converter); the
+    /// album's last frame is filled up with 0x69.
     pub fn run<'m>(&self, number: u64, memory: &'m mut Memory) -> Result<Run<'m>, Error> {
         let plan = self.plan(number)?;
         self.read(&plan, Call::AlbumFrames, memory)?;
@@ -412,8 +417,8 @@ impl<S> Album<S> {
         pieces[0]..pieces[1]
     }
 
-    /// The WAV file of a track (from 0), or of all of them with the fill of the last frame. Refused 5 where there is no such
-    /// track; 12 where [`Format::Wav`] cannot tell the file.
+    /// The WAV file of a track (from 0), or of all of them with the fill of the last frame. Refused 5 where there is no
+    /// such track; 12 where [`Format::Wav`] cannot tell the file.
     pub fn wave(&self, track: Option<usize>, format: Format) -> Result<Wave, Refusal> {
         let mut r = self.converter.told(Call::AlbumHeader, 0);
         let (begin, end) = match track {
@@ -442,14 +447,15 @@ impl<S> Album<S> {
 
 /// All of it, by some threads.
 impl<S: Source + Sync> Album<S> {
-    /// Converts the album into its packed samples, `out`, by `jobs` threads (0: as many as there are processors), and gives what
-    /// they tell. Each thread has the pieces of one [`part`](Album::part), and for them a slice of `out` that no other has. After
-    /// each piece `progress` is called, on the caller's thread, with the pieces done and all. Refused 7 where `out` has not the
-    /// length [`data_bytes`](Album::data_bytes).
+    /// Converts the album into its packed samples, `out`, by `jobs` threads (0: as many as there are processors), and
+    /// gives what they tell. Each thread has the pieces of one [`part`](Album::part), and for them a slice of `out`
+    /// that no other has. After each piece `progress` is called, on the caller's thread, with the pieces done and all.
+    /// Refused 7 where `out` has not the length [`data_bytes`](Album::data_bytes).
     ///
-    /// Bytes and statistics are the same for any number of threads, and those of one conversion of the whole album. That is
-    /// proved, as `PlanToFiles` of crates/tracks_to_files/specs/PlanToFiles.antt: whoever makes the calls that the plan tells,
-    /// for parts of any number from 1 to 64, in whatever order, has each track's samples, and the album's, without a hole.
+    /// Bytes and statistics are the same for any number of threads, and those of one conversion of the whole album.
+    /// That is proved, as `PlanToFiles` of crates/tracks_to_files/specs/PlanToFiles.antt: whoever makes the calls that
+    /// the plan tells, for parts of any number from 1 to 64, in whatever order, has each track's samples, and the
+    /// album's, without a hole.
     ///
     /// ```
     /// # use puigneht::{dsf, Album, Settings, FRAME_BYTES};
@@ -488,7 +494,8 @@ impl<S: Source + Sync> Album<S> {
         (0..jobs).map(|part| self.part(jobs, part)).filter(|part| !part.is_empty()).collect()
     }
 
-    // Does the pieces of each part by a thread of its own, which has what stands with the part. The first failure ends all.
+    // Does the pieces of each part by a thread of its own, which has what stands with the part. The first failure ends
+    // all.
     fn each<T: Send>(
         &self, parts: Vec<(Range<u64>, T)>, work: impl Fn(&mut T, &Plan, &mut Memory) -> Result<Stats, Error> + Sync, mut progress: impl FnMut(u64, u64),
     ) -> Result<Stats, Error> {
@@ -519,14 +526,14 @@ impl<S: Source + Sync> Album<S> {
         })
     }
 
-    /// One WAV file of all, whole or not at all: it takes its name when it is complete and on the disk. Gives what its samples
-    /// tell. `progress` is called as by [`convert_parallel`](Album::convert_parallel).
+    /// One WAV file of all, whole or not at all: it takes its name when it is complete and on the disk. Gives what its
+    /// samples tell. `progress` is called as by [`convert_parallel`](Album::convert_parallel).
     pub fn write_wav(&self, path: impl AsRef<Path>, output: Output, progress: impl FnMut(u64, u64)) -> Result<Stats, Error> {
         self.write_files(&[path.as_ref()], &[self.wave(None, output.format)?], output, progress)
     }
 
-    /// A WAV file a track, all of them whole or none that is new, and what the album's samples tell. Not as many names as tracks are
-    /// an [`Error::Io`], as is a name that is a track's, or that two files are to have.
+    /// A WAV file a track, all of them whole or none that is new, and what the album's samples tell. Not as many names
+    /// as tracks are an [`Error::Io`], as is a name that is a track's, or that two files are to have.
     pub fn write_tracks<P: AsRef<Path>>(&self, paths: &[P], output: Output, progress: impl FnMut(u64, u64)) -> Result<Stats, Error> {
         if paths.len() != self.tracks() {
             return Err(io::Error::new(io::ErrorKind::InvalidInput, format!("{} names for {} tracks", paths.len(), self.tracks())).into());

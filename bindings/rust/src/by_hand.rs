@@ -1,4 +1,5 @@
-//! Records of converters that nobody can make from outside, tried by each call: refusals in their order, and lists kept.
+//! Records of converters that nobody can make from outside, tried by each call: refusals in their order, and lists
+//! kept.
 
 use crate::{calls::Record, Converter, Cutoff, Rate, Refusal, Run, Settings, FRAME_BYTES};
 

@@ -1,14 +1,15 @@
-//! The library's proved calls, each declared once, as include/puigneht.h and include/puigneht/album.h do: `[T]` is a list that
-//! is read and `[mut T]` one that is written, in C a pointer and its number of items; `[T; N]` and `[mut T; N]` are fixed
-//! lists, in C a pointer; `settings`, `run`, `album`, `told` and `data` are what many calls have. The functions made here take
-//! references, so the only `unsafe` of the crate is in this macro.
+//! The library's proved calls, each declared once, as include/puigneht.h and include/puigneht/album.h do: `[T]` is a
+//! list that is read and `[mut T]` one that is written, in C a pointer and its number of items; `[T; N]` and
+//! `[mut T; N]` are fixed lists, in C a pointer; `settings`, `run`, `album`, `told` and `data` are what many calls
+//! have. The functions made here take references, so the only `unsafe` of the crate is in this macro.
 
 use crate::{Refusal, Run};
 
 /// A converter as the calls take it: puigneht_converter.
 #[derive(Clone, Copy, Debug, PartialEq)]
 pub struct Record {
-    /// Rate, cutoff, channels, whether the taps are one's own and how many, samples in a frame, reach, bytes of a frame.
+    /// Rate, cutoff, channels, whether the taps are one's own and how many, samples in a frame, reach, bytes of a
+    /// frame.
     pub numbers: [u64; 8],
     /// Decibels and their factor.
     pub gain: [f64; 2],
@@ -37,8 +38,8 @@ macro_rules! calls {
         #[allow(clippy::too_many_arguments)]
         pub fn $name($($r)*) -> $answer {
             extern "C" { fn $name($($c)*) -> $answer; }
-            // SAFETY: each pointer and number is that of a live list. A list that is written is `&mut`, so it overlaps no other. The library keeps
-            // no pointer and has no state, and is proved to stay within its lists.
+            // SAFETY: each pointer and number is that of a live list. A list that is written is `&mut`, so it overlaps
+            // no other. The library keeps no pointer and has no state, and is proved to stay within its lists.
             unsafe { $name($($p)*) }
         }
     };

@@ -112,7 +112,8 @@ impl fmt::Display for Cutoff {
 ///
 /// ```
 /// assert_eq!(puigneht::factor(0.0), Ok(1.0));
-/// assert_eq!(puigneht::factor(25.0).unwrap_err().to_string(), "refused 3: the gain is not -120 to 24 decibels, but 25");
+/// let refused = puigneht::factor(25.0).unwrap_err();
+/// assert_eq!(refused.to_string(), "refused 3: the gain is not -120 to 24 decibels, but 25");
 /// ```
 pub fn factor(decibels: f64) -> Result<f64, Refusal> {
     gain(decibels, Refusal::of(Call::Gain, 0)).map(|[_, factor]| factor)
@@ -140,8 +141,8 @@ pub fn unpack_s24le(bytes: &[u8]) -> impl Iterator<Item = i32> + '_ {
     bytes.chunks_exact(3).map(|b| i32::from_le_bytes([0, b[0], b[1], b[2]]) >> 8)
 }
 
-/// Whole frames, and the frames next to them where there are such. [`Converter::cut`] and [`Converter::runs`] choose them, so
-/// that nobody else has to.
+/// Whole frames, and the frames next to them where there are such. [`Converter::cut`] and [`Converter::runs`] choose
+/// them, so that nobody else has to.
 #[derive(Clone, Copy, Debug, PartialEq, Eq)]
 pub struct Run<'a> {
     /// The frame before them.
@@ -180,8 +181,8 @@ pub struct Settings<'a> {
     pub channels: u8,
     /// -120 to 24, in any fraction; at 0 dB 100 % modulation is full scale.
     pub decibels: f64,
-    /// A low-pass of one's own for Standard, which is copied: 1 to [`MOST_TAPS`] taps from the centre outwards; `None` for the
-    /// built-in one.
+    /// A low-pass of one's own for Standard, which is copied: 1 to [`MOST_TAPS`] taps from the centre outwards; `None`
+    /// for the built-in one.
     pub taps: Option<&'a [i32]>,
 }
 
@@ -245,7 +246,8 @@ impl Converter {
     /// ```
     /// use puigneht::{Converter, Cutoff, Rate, Settings};
     /// let mut converter = Converter::open(Settings::default())?;
-    /// assert_eq!(converter.change(Rate::Hz88200, Cutoff::Wide, 0.0).unwrap_err().to_string(), "refused 2: wide is for 176400 and 352800");
+    /// let refused = converter.change(Rate::Hz88200, Cutoff::Wide, 0.0).unwrap_err();
+    /// assert_eq!(refused.to_string(), "refused 2: wide is for 176400 and 352800");
     /// converter.change(Rate::Hz176400, Cutoff::Wide, -3.0)?;
     /// assert_eq!((converter.rate(), converter.cutoff(), converter.decibels()), (Rate::Hz176400, Cutoff::Wide, -3.0));
     /// # Ok::<(), puigneht::Refusal>(())
@@ -310,8 +312,8 @@ impl Converter {
         self.record.numbers[7] as usize
     }
 
-    /// The samples over all channels that some frames give, for the room of [`convert_run`](Self::convert_run); three times
-    /// as many bytes for that of [`convert`](Self::convert).
+    /// The samples over all channels that some frames give, for the room of [`convert_run`](Self::convert_run); three
+    /// times as many bytes for that of [`convert`](Self::convert).
     pub fn samples_of(&self, frames: usize) -> usize {
         frames * self.samples_per_frame() * usize::from(self.channels())
     }
@@ -320,8 +322,8 @@ impl Converter {
         Refusal::of(call, length).with(self.record.numbers[0], self.record.numbers[1], self.record.numbers[2])
     }
 
-    /// 32-bit samples of a run, the channels in turn, into a slice of their number. Refused, by the first that is so: 4, 5, 13,
-    /// 14, 6.
+    /// 32-bit samples of a run, the channels in turn, into a slice of their number. Refused, by the first that is so:
+    /// 4, 5, 13, 14, 6.
     pub fn convert_run(&self, run: Run<'_>, out: &mut [i32]) -> Result<Stats, Refusal> {
         converted!(self, ConvertRun, puigneht_convert_run_call, run, false, [out])
     }
@@ -331,27 +333,28 @@ impl Converter {
         converted!(self, ConvertFrame, puigneht_convert_frame_call, run, false, [out])
     }
 
-    /// Samples of a run, three bytes each, least first; and in `counts`, if it is lent, the clipped samples of each frame.
+    /// Samples of a run, three bytes each, least first; and in `counts`, if it is lent, the clipped samples of each
+    /// frame.
     /// Refused 4, 5, 13, 14, 7, 8.
     pub fn convert(&self, run: Run<'_>, out: &mut [u8], counts: Option<&mut [u64]>) -> Result<Stats, Refusal> {
         converted!(self, Convert, puigneht_convert_call, run, counts.is_some(), [out, counts.unwrap_or(&mut [])])
     }
 
-    /// For the listening desk: [`convert`](Self::convert) of at most [`DESK_FRAMES`](crate::DESK_FRAMES) frames; more are
-    /// refused 16, in the place of 5.
+    /// For the listening desk: [`convert`](Self::convert) of at most [`DESK_FRAMES`](crate::DESK_FRAMES) frames; more
+    /// are refused 16, in the place of 5.
     pub fn desk(&self, run: Run<'_>, out: &mut [u8], counts: Option<&mut [u64]>) -> Result<Stats, Refusal> {
         converted!(self, ConvertDesk, puigneht_convert_desk_call, run, counts.is_some(), [out, counts.unwrap_or(&mut [])])
     }
 
     /// A run as a WAV file: [`convert`](Self::convert) with the plain header in front, so `out` has
-    /// [`wav::HEADER`](crate::wav::HEADER) bytes more. Refused 12, after all else, for more than two channels or more than
-    /// [`wav::MOST_DATA`](crate::wav::MOST_DATA) bytes.
+    /// [`wav::HEADER`](crate::wav::HEADER) bytes more. Refused 12, after all else, for more than two channels or more
+    /// than [`wav::MOST_DATA`](crate::wav::MOST_DATA) bytes.
     pub fn convert_wav(&self, run: Run<'_>, out: &mut [u8], counts: Option<&mut [u64]>) -> Result<Stats, Refusal> {
         converted!(self, WavConvert, puigneht_wav_convert_call, run, counts.is_some(), [out, counts.unwrap_or(&mut [])])
     }
 
-    /// `count` frames from frame `first` on, out of frames that follow each other, with the frames next to them. Frames that
-    /// are not there are left out; bytes past the last whole frame go into every run, which is then refused 4.
+    /// `count` frames from frame `first` on, out of frames that follow each other, with the frames next to them. Frames
+    /// that are not there are left out; bytes past the last whole frame go into every run, which is then refused 4.
     pub fn cut<'a>(&self, frames: &'a [u8], first: usize, count: usize) -> Run<'a> {
         let size = self.frame_bytes();
         let all = frames.len() / size;
@@ -364,8 +367,8 @@ impl Converter {
         }
     }
 
-    /// The runs of `count` frames that some frames are cut into, each with its neighbours. However they are cut, the outputs
-    /// end to end are those of one run: proved, as `CutRunsJoin` of crates/joins/specs/Joins.antt.
+    /// The runs of `count` frames that some frames are cut into, each with its neighbours. However they are cut, the
+    /// outputs end to end are those of one run: proved, as `CutRunsJoin` of crates/joins/specs/Joins.antt.
     ///
     /// ```
     /// use puigneht::{Converter, Run, Settings};

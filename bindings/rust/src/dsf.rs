@@ -1,7 +1,7 @@
 //! DSF files, in Sony's layout: a file's frames in the layout of the conversions.
 //!
-//! A file that is in memory is read by [`read`] and [`frame`]. Of any other, its first [`HEADER_BYTES`] bytes and its length
-//! are enough for [`read_header`], and the stretch that [`window`] names for [`window_frame`]. Whole albums:
+//! A file that is in memory is read by [`read`] and [`frame`]. Of any other, its first [`HEADER_BYTES`] bytes and its
+//! length are enough for [`read_header`], and the stretch that [`window`] names for [`window_frame`]. Whole albums:
 //! [`Album`](crate::Album).
 //!
 //! ```
@@ -93,16 +93,17 @@ fn writing(channels: u8, bytes: usize) -> Refusal {
 /// Frames of a stretch of [`lay_out`].
 pub const STRETCH_FRAMES: usize = 128;
 
-/// The first bytes of the DSF file of `bytes` bytes of whole frames, so that nobody holds it in memory. Refused 1, 4, 5.
+/// The first bytes of the DSF file of `bytes` bytes of whole frames, so that nobody holds it in memory. Refused 1, 4,
+/// 5.
 pub fn head(channels: u8, bytes: usize) -> Result<[u8; HEADER_BYTES], Refusal> {
     let (mut out, mut r) = ([0; HEADER_BYTES], writing(channels, bytes));
     let answer = calls::puigneht_dsf_head_call(channels, bytes, &mut out, &mut r);
     r.result(answer, out)
 }
 
-/// The data of some frames, into a slice of [`HEADER_BYTES`] bytes fewer than [`file_length`] tells of them. The header and
-/// the data of stretches of [`STRETCH_FRAMES`] frames (or a multiple; the last of as many as are left), end to end, are the
-/// file. Refused 1, 4, 5, 7.
+/// The data of some frames, into a slice of [`HEADER_BYTES`] bytes fewer than [`file_length`] tells of them. The header
+/// and the data of stretches of [`STRETCH_FRAMES`] frames (or a multiple; the last of as many as are left), end to end,
+/// are the file. Refused 1, 4, 5, 7.
 pub fn lay_out(channels: u8, frames: &[u8], out: &mut [u8]) -> Result<(), Refusal> {
     let mut r = writing(channels, frames.len());
     let answer = calls::puigneht_dsf_lay_out_call(channels, frames, out, &mut r);
@@ -125,7 +126,8 @@ pub fn give_up(file: &[u8]) -> Upload {
     give_up_header(file, file.len() as u64)
 }
 
-/// How early an upload can be given up, from the first [`HEADER_BYTES`] bytes, all where the file has fewer, and its length.
+/// How early an upload can be given up, from the first [`HEADER_BYTES`] bytes, all where the file has fewer, and its
+/// length.
 pub fn give_up_header(head: &[u8], length: u64) -> Upload {
     let mut place = 0;
     match calls::puigneht_dsf_give_up_header_call(head, length, &mut place) {

@@ -7,11 +7,12 @@ pub(crate) const LINES: usize = 864;
 /// Bytes of the last line.
 pub(crate) const LAST_LINE: usize = 144;
 
-/// The level report, frame by frame: a line for each channel, `frame N channel C clipped K low L high H over O`, with its
-/// clipped samples, its lowest and highest sample, and the overs by the studio rule whose third sample falls in the frame.
+/// The level report, frame by frame: a line for each channel, `frame N channel C clipped K low L high H over O`, with
+/// its clipped samples, its lowest and highest sample, and the overs by the studio rule whose third sample falls in the
+/// frame.
 ///
-/// What is in progress behind a frame depends on the frame with its neighbours alone. So whoever begins at frame N begins
-/// [`at`](Levels::at) N - 1 and leaves the lines of that.
+/// What is in progress behind a frame depends on the frame with its neighbours alone. So whoever begins at frame N
+/// begins [`at`](Levels::at) N - 1 and leaves the lines of that.
 ///
 /// ```
 /// use puigneht::{Converter, Levels, Settings};

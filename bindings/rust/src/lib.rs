@@ -21,8 +21,8 @@
 //! # Ok::<(), puigneht::Refusal>(())
 //! ```
 //!
-//! A refused call writes nothing to what is lent. What is decided, and every sample, is decided by proved calls; this crate,
-//! which hands on to them, is tested.
+//! A refused call writes nothing to what is lent. What is decided, and every sample, is decided by proved calls; this
+//! crate, which hands on to them, is tested.
 #![warn(missing_debug_implementations, missing_docs)]
 
 mod album;

@@ -14,8 +14,8 @@ pub enum End {
     Low,
 }
 
-/// What is in progress at a place of a channel: the end at which the samples just before it stand, and how many. More than
-/// 3 count as 3; no end, or 0, is nothing, as at the start.
+/// What is in progress at a place of a channel: the end at which the samples just before it stand, and how many. More
+/// than 3 count as 3; no end, or 0, is nothing, as at the start.
 #[derive(Clone, Copy, Debug, Default, PartialEq, Eq)]
 pub struct Progress {
     /// Where they stand.
@@ -24,9 +24,9 @@ pub struct Progress {
     pub length: u64,
 }
 
-/// Overs of a channel (from 0) in samples of so many channels in turn, and what is in progress behind them: runs of three or
-/// more samples at one end of full scale, clipped or not, as long as they can be, each counted at its third sample. A channel
-/// that is not there has no samples. [`Overs`] carries what is in progress.
+/// Overs of a channel (from 0) in samples of so many channels in turn, and what is in progress behind them: runs of
+/// three or more samples at one end of full scale, clipped or not, as long as they can be, each counted at its third
+/// sample. A channel that is not there has no samples. [`Overs`] carries what is in progress.
 pub fn overs(samples: &[i32], channels: usize, channel: usize, before: Progress) -> (u64, Progress) {
     let mut told = [0, before.end as u64, before.length];
     let answer = calls::puigneht_overs_call(samples, channels, channel, &mut told);
@@ -36,11 +36,12 @@ pub fn overs(samples: &[i32], channels: usize, channel: usize, before: Progress)
     (count, Progress { end, length })
 }
 
-/// Counts the overs of each channel, stretch after stretch: it carries what is in progress where a stretch ends, so where the
-/// samples are cut makes no difference.
+/// Counts the overs of each channel, stretch after stretch: it carries what is in progress where a stretch ends, so
+/// where the samples are cut makes no difference.
 ///
-/// What is in progress at a place depends on the last three samples of each channel before it alone. So threads may count
-/// stretches in any order: each counts those three, takes [`from_here`](Overs::from_here), and counts its stretch.
+/// What is in progress at a place depends on the last three samples of each channel before it alone. So threads may
+/// count stretches in any order: each counts those three, takes [`from_here`](Overs::from_here), and counts its
+/// stretch.
 ///
 /// ```
 /// let mut overs = puigneht::Overs::new(1);

@@ -9,7 +9,8 @@ use std::fmt;
 /// ```
 /// let refusal = puigneht::dsf::read(b"RIFF").unwrap_err();
 /// assert_eq!((refusal.number, refusal.field[1]), (9, 4));
-/// assert_eq!(refusal.to_string(), "refused 9: not a DSF file as Sony's document lays it out: it has 4 bytes, and a header has 92");
+/// let why = "not a DSF file as Sony's document lays it out: it has 4 bytes, and a header has 92";
+/// assert_eq!(refusal.to_string(), format!("refused 9: {why}"));
 /// ```
 #[repr(C)]
 #[derive(Clone, Copy, Debug, Default)]
@@ -96,8 +97,8 @@ impl Refusal {
         self.result(number, accepted)
     }
 
-    /// Of track `track`, which has these first bytes, of an album whose first has `first`. Another channel type is told by
-    /// the eight bytes from byte 48 on, where it stands with the channels.
+    /// Of track `track`, which has these first bytes, of an album whose first has `first`. Another channel type is told
+    /// by the eight bytes from byte 48 on, where it stands with the channels.
     pub(crate) fn of_track(self, track: usize, number: u8, [head, first]: [&[u8]; 2], length: u64) -> Self {
         let mut r = Refusal { track: track as u8, number, length, ..self };
         if let 9..=11 = number {

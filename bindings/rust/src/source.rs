@@ -5,7 +5,8 @@ use std::os::unix::fs::{FileExt, MetadataExt};
 use std::path::Path;
 use std::{io, io::Seek};
 
-/// What a track's DSF file is read from, by threads at once: a [`File`], bytes in memory, or what else can be read at places.
+/// What a track's DSF file is read from, by threads at once: a [`File`], bytes in memory, or what else can be read at
+/// places.
 pub trait Source {
     /// Bytes of the file.
     fn length(&self) -> io::Result<u64>;

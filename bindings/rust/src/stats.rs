@@ -55,9 +55,9 @@ impl Stats {
         (200.0 * high.max(low).log10()).ceil() / 10.0
     }
 
-    /// The level sheet: a line for each of 1 to 6 channels (number, clips, lowest and highest before the clamp, or hyphens
-    /// where there are no samples), and a line with the clips of these channels summed. Refused 1; 20 where a number is too
-    /// wide for its column.
+    /// The level sheet: a line for each of 1 to 6 channels (number, clips, lowest and highest before the clamp, or
+    /// hyphens where there are no samples), and a line with the clips of these channels summed. Refused 1; 20 where a
+    /// number is too wide for its column.
     ///
     /// ```
     /// let sheet = puigneht::Stats::default().sheet(1)?;

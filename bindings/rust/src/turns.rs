@@ -20,8 +20,8 @@ pub struct Turns {
     pub late: i32,
 }
 
-/// Simulates turns of `turn` frames, 1 to 540,000, on a board with 1 to 8 albums. Each turn goes to the unfinished album
-/// that is due first, on a tie to the first in the list. No order has a smaller greatest lateness. Refused 19.
+/// Simulates turns of `turn` frames, 1 to 540,000, on a board with 1 to 8 albums. Each turn goes to the unfinished
+/// album that is due first, on a tie to the first in the list. No order has a smaller greatest lateness. Refused 19.
 ///
 /// ```
 /// use puigneht::{turns, Waiting};

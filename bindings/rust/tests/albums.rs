@@ -1,4 +1,5 @@
-//! Albums beside stored answers (crates/test_tracks/data: the original's samples of albums before they were cut), and by every way.
+//! Albums beside stored answers (crates/test_tracks/data: the original's samples of albums before they were cut), and
+//! by every way.
 
 use crate::common::{frames_of, held, laid_out, numbers, rows, sound, Folder};
 use puigneht::{

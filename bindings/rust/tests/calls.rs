@@ -184,7 +184,8 @@ fn sentences() {
     );
 }
 
-// The listening desk: 0 to 8 frames as `convert` gives them, 9 refused after a wrong length and before a wrong neighbour.
+// The listening desk: 0 to 8 frames as `convert` gives them, 9 refused after a wrong length and before a wrong
+// neighbour.
 #[test]
 fn desk() {
     let conv = Settings {

@@ -20,7 +20,8 @@ fn thirds(samples: &[i32]) -> Vec<usize> {
     all
 }
 
-// Signals with runs of every length, one to three channels, cut at random places: each piece has the overs whose third sample it has.
+// Signals with runs of every length, one to three channels, cut at random places: each piece has the overs whose third
+// sample it has.
 #[test]
 fn cut_anywhere() {
     let mut some = numbers(1);

@@ -1,5 +1,5 @@
-//! Random calls with lists that end, or begin, at memory that nobody can touch: safe code makes no undefined behaviour. What is
-//! refused leaves all that is lent as it was. 20,000 calls where this is compiled with optimization.
+//! Random calls with lists that end, or begin, at memory that nobody can touch: safe code makes no undefined behaviour.
+//! What is refused leaves all that is lent as it was. 20,000 calls where this is compiled with optimization.
 
 use crate::common::{chance, laid_out, numbers};
 use puigneht::{
@@ -32,7 +32,8 @@ impl Edged {
     fn list<T: Copy>(&mut self, n: usize, is_at_end: bool, item: T) -> &mut [T] {
         let bytes = n * std::mem::size_of::<T>();
         assert!(bytes <= ROOM);
-        // SAFETY: the bytes are within the room, aligned as their number is a multiple of T's size, and lent with `self`.
+        // SAFETY: the bytes are within the room, aligned as their number is a multiple of T's size, and lent with
+        // `self`.
         let list = unsafe { std::slice::from_raw_parts_mut(self.0.add(if is_at_end { ROOM - bytes } else { 0 }) as *mut T, n) };
         list.fill(item);
         list

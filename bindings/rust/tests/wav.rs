@@ -1,4 +1,5 @@
-// WAV files through C: beside `convert`, back again, refused, and data over the limits in mappings that are never touched.
+// WAV files through C: beside `convert`, back again, refused, and data over the limits in mappings that are never
+// touched.
 use crate::common::{alone, noise, refused, Open};
 use puigneht::wav::{header, read, write, Wav, HEADER, MOST_DATA};
 use puigneht::{Converter, Cutoff, Rate, Run, Settings, FRAME_BYTES};

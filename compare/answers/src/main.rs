@@ -90,8 +90,8 @@ fn refused(e: PcmError) -> [u64; 3] {
     }
 }
 
-// Route, channels and decibels that are refused by opening, or else by the gain call. The original makes no record of refused decibels, so the
-// factor here is 0.
+// Route, channels and decibels that are refused by opening, or else by the gain call. The original makes no record of
+// refused decibels, so the factor here is 0.
 fn settings([route, channels, db]: [u64; 3]) -> [u64; 9] {
     let config = PcmConfig::new(PcmRate::ALL[route as usize % 3], Cutoff::ALL[route as usize / 3], channels as u8);
     let e = Converter::new(config).err().or(Gain::from_db(f64::from_bits(db)).err());
@@ -99,7 +99,8 @@ fn settings([route, channels, db]: [u64; 3]) -> [u64; 9] {
     [route, channels, db, 0, 0, 0, number, first, second]
 }
 
-// The call (1 convert_run, 2 convert_frame, 3 convert), and lengths of before, run, after, output and counts: Standard at 88,200 Hz, mono.
+// The call (1 convert_run, 2 convert_frame, 3 convert), and lengths of before, run, after, output and counts: Standard
+// at 88,200 Hz, mono.
 fn lengths([call, before, run, after, out, counts]: [usize; 6]) -> [u64; 9] {
     let mut converter = Converter::new(PcmConfig::new(PcmRate::Hz88200, Cutoff::Standard, 1)).unwrap();
     let s = vec![0; 9408];

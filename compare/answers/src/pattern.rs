@@ -1,7 +1,8 @@
 // Bytes of frames by a pattern and a seed, and seeds that hit exact halves.
 pub const FRAME: usize = scarletbook_pcm::FRAME_BYTES_PER_CHANNEL;
 
-// Bytes by a pattern: 0 chance, 1 one byte, 2 loud, 3 repeating every four bytes of a channel. test_conversions/src/input.rt has the same rule.
+// Bytes by a pattern: 0 chance, 1 one byte, 2 loud, 3 repeating every four bytes of a channel.
+// test_conversions/src/input.rt has the same rule.
 pub fn bytes(pattern: u64, seed: u64, channels: usize, frames: usize) -> Vec<u8> {
     let mut x = seed;
     let mut all = vec![0; frames * FRAME * channels];
@@ -20,8 +21,8 @@ pub fn bytes(pattern: u64, seed: u64, channels: usize, frames: usize) -> Vec<u8>
     all
 }
 
-// Route and seed of mono frames in which a sum of some stage is an exact half, and its rounding shows in a sample at 18 dB: found by trying seeds
-// with halves rounded away from zero, stage by stage and sign by sign.
+// Route and seed of mono frames in which a sum of some stage is an exact half, and its rounding shows in a sample at 18
+// dB: found by trying seeds with halves rounded away from zero, stage by stage and sign by sign.
 pub const HALVES: [(u64, u64); 28] = [
     (0, 108181), (0, 113656), (1, 284017), (1, 216733), (1, 202896), (1, 218057), (2, 331248), (2, 318565), (2, 304621), (2, 303352),
     (2, 381116), (2, 309974), (3, 406710), (3, 405649), (4, 523507), (4, 535585), (4, 506649), (4, 564808), (5, 613026), (5, 612401),

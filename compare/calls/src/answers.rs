@@ -1,7 +1,8 @@
 // What a call answers, in one form for port and original, and the two sides that give it.
 use scarletbook_pcm::{Converter, Cutoff, FrameRun, Gain, PcmConfig, PcmError, PcmOut, PcmRate, Run};
 
-// Number and data of a refusal (number 0: none), and the clips of six channels. A float is its bits: a NaN counts as any NaN.
+// Number and data of a refusal (number 0: none), and the clips of six channels. A float is its bits: a NaN counts as
+// any NaN.
 #[derive(Clone, Debug, Default, PartialEq)]
 pub struct Answer {
     pub number: u8,

@@ -302,12 +302,13 @@ fn halves(t: &mut Tally) {
     }
 }
 
-// A run converted by the port in pieces, with junk outside the reach in their neighbours, beside the original's whole run.
+// A run converted by the port in pieces, with junk outside the reach in their neighbours, beside the original's whole
+// run.
 fn cut(r: &mut Random, t: &mut Tally) {
     let settings = Settings { rate: r.below(3), cutoff: r.below(3), channels: 1 + r.below(6) as u8, db: r.below(36) as f64 - 12.0 };
     let ch = usize::from(settings.channels);
     let size = FRAME * ch;
-    let n = 1 + r.below(8);
+    let n = 1 + r.below(20);
     let album = content(r, ch, n + 2);
     let (gain, theirs) = (port::gain(settings.db).unwrap(), original::gain(settings.db).unwrap());
     let Ok(mut converter) = original::open(settings, theirs) else { return };
@@ -355,7 +356,8 @@ fn packing(r: &mut Random, t: &mut Tally) {
     }
 }
 
-// Arguments that are not understood, and null for an empty list: the interface's own, with no counterpart in the original.
+// Arguments that are not understood, and null for an empty list: the interface's own, with no counterpart in the
+// original.
 fn interface(t: &mut Tally) {
     for which in 0..port::UNCLEAR {
         t.calls += 1;

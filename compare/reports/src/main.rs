@@ -1,5 +1,6 @@
-// Inputs of the level report, each written to a file of the folder that is named, and on standard output what the report of each
-// is: read off document 01, with the samples and clips of the original's `convert_frame`, and overs by document 02's rule.
+// Inputs of the level report, each written to a file of the folder that is named, and on standard output what the
+// report of each is: read off document 01, with the samples and clips of the original's `convert_frame`, and overs by
+// document 02's rule.
 use scarletbook_pcm::{Converter, Cutoff, FRAME_BYTES_PER_CHANNEL, Gain, PcmConfig, PcmRate};
 use std::fmt::Write;
 

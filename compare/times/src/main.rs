@@ -1,5 +1,5 @@
-// Port and original timed in one process on the same frames, in turns: the original as it detects the machine, and its scalar path (a copy in
-// which `Isa::detect` gives the generic one). compare/bench builds and runs it.
+// Port and original timed in one process on the same frames, in turns: the original as it detects the machine, and its
+// scalar path (a copy in which `Isa::detect` gives the generic one). compare/bench builds and runs it.
 #[path = "../../calls/src/answers.rs"]
 #[allow(dead_code)]
 mod answers;

@@ -1,6 +1,6 @@
 -- Parts are all pieces in turn, and small enough to be worked out.
-use Prim.Native.Nat.{ℕ, ◌+◌, ◌*◌, ◌/◌, ◌≤◌}
-use native.Mathlib.Nat.{mul-div_cancel, zero-div, mul-zero, mul-le-mul}
+use Rattle.std.proofs.Common.{ℕ, ◌+◌, ◌*◌, ◌/◌, ◌≤◌, mul-div_cancel, mul-zero, mul-le-mul}
+use native.Mathlib.Nat.{zero-div}
 use Rattle.tracks_open.specs.Open.{piece_total}
 use Rattle.album_parts.specs.Parts.{part_first, PartsCut}
 

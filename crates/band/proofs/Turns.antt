@@ -1,19 +1,14 @@
 -- The half band's eight odd taps, taken two at a time.
-use mathlib.Core.Path.{◌≡◌, refl, ap, ap₂}
-use mathlib.Core.Bool.{Bool, true, false, not}
-use mathlib.Core.List.{List}
-use Prim.Native.Nat.{ℕ, zero, suc, ◌+◌, ◌*◌, ◌-◌, ◌^◌, ◌%◌, ◌<◌, ◌≤◌}
-use Rattle.std.specs.Prelude.{eqb}
-use native.Mathlib.Omega.{arith}
-use lib.IntN.{ℤ, pos, nat_abs, ◌+ℤ◌, ◌*ℤ◌, +ℤ_idr, pos-*ℤ-pos, negsuc-*ℤ-pos}
-use lib.ListN.{length, get_or}
+use Rattle.std.proofs.Common.{◌≡◌, refl, ap, ap₂, Bool, true, false, not, List, ℕ, zero, suc, ◌+◌, ◌*◌, ◌-◌, ◌^◌, ◌%◌, ◌<◌, ◌≤◌, eqb, arith, ℤ, pos, nat_abs}
+use Rattle.std.proofs.Common.{◌+ℤ◌, ◌*ℤ◌, length, get_or}
+use lib.IntN.{+ℤ_idr, pos-*ℤ-pos, negsuc-*ℤ-pos}
 use Rattle.numbers.specs.Sums.{sum_to}
 use Rattle.numbers.specs.Lists.{tabulate}
 use Rattle.numbers.proofs.Integers.{abs_add, sums}
 use Rattle.reference.specs.Taps.{HB}
 use Rattle.reference.specs.Stages.{tap}
-use Rattle.lanes.specs.inner.Lanes.{raised, arm, arms, Low, Lanes, Added}
-use Rattle.lanes.proofs.Pairs.{raised_size, pair_size}
+use Rattle.lanes.specs.inner.Lanes.{copied, arm, arms, Low, Lanes, Added}
+use Rattle.lanes.proofs.Pairs.{copied_size, pair_size}
 use Rattle.lanes.proofs.Places.{lanes_then}
 use Rattle.filters.specs.inner.Filters.{odd_taps}
 use Rattle.band.specs.inner.Bands.{odd_sizes, signed}
@@ -65,11 +60,12 @@ two_size s a b i j k l p q e =
 
 -- two taps more, of sizes that the lanes have room for
 pub two_lanes : {L : ℕ} {v : List ℕ} {acc r : List ℤ} (A B : ℕ) (minus : Bool) (a b down up : ℕ) → a ≤ 2 ^ 25 → b ≤ 2 ^ 25 → Low v → Lanes L A acc
-    → Added L (λ l. signed minus a *ℤ (raised v (down + 2 + l) +ℤ raised v (up + l)) +ℤ signed minus b *ℤ (raised v (down + l) +ℤ raised v (up + 2 + l))) acc r → A + 2 * 2 ^ 56 ≤ B → Lanes L B r
+    → Added L (λ l. signed minus a *ℤ (copied v (down + 2 + l) +ℤ copied v (up + l)) +ℤ signed minus b *ℤ (copied v (down + l) +ℤ copied v (up + 2 + l))) acc r
+    → A + 2 * 2 ^ 56 ≤ B → Lanes L B r
 two_lanes {v = v} A B minus a b down up p q low l added m =
     let x : nat_abs (signed minus a) ≤ 2 ^ 25 = rw (signed_size minus a) p in
     let y : nat_abs (signed minus b) ≤ 2 ^ 25 = rw (signed_size minus b) q in
-    lanes_then (2 * 2 ^ 56) B added l (λ i. two_size (raised v) (signed minus a) (signed minus b) (down + 2 + i) (up + i) (down + i) (up + 2 + i) x y (raised_size low)) m
+    lanes_then (2 * 2 ^ 56) B added l (λ i. two_size (copied v) (signed minus a) (signed minus b) (down + 2 + i) (up + i) (down + i) (up + 2 + i) x y (copied_size low)) m
 
 pub all_eight : (h : List ℤ) (s : ℕ → ℤ) (d u : ℕ)
     → arm h s d u 0 +ℤ arm h s d u 2 +ℤ (arm h s d u 1 +ℤ arm h s d u 3) +ℤ (arm h s d u 4 +ℤ arm h s d u 6) +ℤ (arm h s d u 5 +ℤ arm h s d u 7) ≡ arms h s 0 d u 8

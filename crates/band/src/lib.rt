@@ -5,10 +5,11 @@ ghost use Rattle.std.specs.Prelude.{◌≡◌, ℕ, ◌+◌, ◌-◌, ◌*◌, �
 ghost use Rattle.numbers.specs.Sums.{at0};
 ghost use Rattle.reference.specs.Rounding.{R};
 ghost use Rattle.reference.specs.Taps.{HB};
-ghost use Rattle.lanes.specs.inner.Lanes.{Small, Filled, raised, arms, Low, Lanes, Added, Written};
+ghost use Rattle.numbers.specs.inner.Lists.{Held, Written};
+ghost use Rattle.lanes.specs.inner.Lanes.{Small, Filled, copied, arms, Low, Lanes, Added};
 ghost use Rattle.filters.specs.inner.Filters.{odd_taps, alone, half_rate, middle, Fit};
-ghost use Rattle.band.specs.inner.Bands.{odd_sizes, signed, band_sum, Hold, Whole};
-ghost use Rattle.filters.specs.inner.Lifts.{lifted, rounded, Sums};
+ghost use Rattle.band.specs.inner.Bands.{odd_sizes, signed, band_sum, Whole};
+ghost use Rattle.filters.specs.inner.Biases.{biased, rounded, Sums};
 
 // The sizes of HB's odd taps, lent, and a copy of the odd places.
 #[derive(Clone, Copy)]
@@ -20,7 +21,7 @@ struct Band<'a> {
     ghost low: { Low v.now },
 }
 
-// 2^23 times a, lifted.
+// 2^23 times a, biased.
 fn halved(a: i64) -> i64
     requires { nat_abs a ≤ 2 ^ 29 }
     ensures { result ≡ pos 8388608 *ℤ (a +ℤ pos (2 ^ 29)) }
@@ -32,7 +33,7 @@ fn halved(a: i64) -> i64
 fn centre<const L: usize>(y: &[i64], i: usize) -> [i64; L]
     requires i_in_bounds { i + L ≤ length y.now }
     requires by_index { (k : ℕ) → i ≤ k → nat_abs (at0 y.now k) ≤ 2 ^ 29 }
-    ensures { Hold L (λ l. pos 8388608 *ℤ lifted y.now (i + l)) result }
+    ensures { Held (pos 0) (λ k. pos 8388608 *ℤ biased y.now k) i L result }
 {
     let mut s = [0i64; L];
     for l in 0..L {
@@ -52,11 +53,11 @@ fn tap(s: i64, minus: bool, size: u32, w: u64) -> i64
 }
 
 // A sum gains a tap of this size, or minus it, with two values of the copy.
-#[tactic(auto, unfolding(lanes::specs::inner::Lanes::raised))]
+#[tactic(auto, unfolding(lanes::specs::inner::Lanes::copied))]
 fn pair(s: i64, minus: bool, size: u32, v: &[u64], i: usize, j: usize) -> i64
     requires i_in_bounds { (i < length v.now) × (j < length v.now) × (size ≤ 2 ^ 25) × (nat_abs s ≤ 126 * 2 ^ 56) }
     requires low { Low v.now }
-    ensures { result ≡ s +ℤ signed minus size *ℤ (raised v.now i +ℤ raised v.now j) }
+    ensures { result ≡ s +ℤ signed minus size *ℤ (copied v.now i +ℤ copied v.now j) }
 {
     tap(s, minus, size, (v[i] + v[j]) % 4294967296)
 }
@@ -75,7 +76,8 @@ fn two<const L: usize>(
     requires down_in_bounds { (down + L + 2 ≤ length v.now) × (up + L + 2 ≤ length v.now) × (a ≤ 2 ^ 25) × (b ≤ 2 ^ 25) }
     requires low { Low v.now }
     requires lanes { Lanes L (125 * 2 ^ 56) acc }
-    ensures { Added L (λ l. signed minus a *ℤ (raised v.now (down + 2 + l) +ℤ raised v.now (up + l)) +ℤ signed minus b *ℤ (raised v.now (down + l) +ℤ raised v.now (up + 2 + l))) acc.entry result }
+    ensures { Added L (λ l. signed minus a *ℤ (copied v.now (down + 2 + l) +ℤ copied v.now (up + l))
+        +ℤ signed minus b *ℤ (copied v.now (down + l) +ℤ copied v.now (up + 2 + l))) acc.entry result }
 {
     let mut s = acc;
     for l in 0..L {
@@ -91,7 +93,7 @@ fn two<const L: usize>(
 fn eight<const L: usize>(acc: [i64; L], band: Band, i: usize) -> [i64; L]
     requires i_in_bounds { i + L + 15 ≤ length band.v.now }
     requires lanes { Lanes L (2 ^ 55) acc }
-    ensures { Added L (λ l. arms (odd_taps HB) (raised band.entry.v.now) 0 (8 + (i + l) - 1) (8 + (i + l)) 8) acc.entry result }
+    ensures { Added L (λ l. arms (odd_taps HB) (copied band.entry.v.now) 0 (8 + (i + l) - 1) (8 + (i + l)) 8) acc.entry result }
 {
     let h = band.sizes;
     let v = band.v;
@@ -105,7 +107,7 @@ fn eight<const L: usize>(acc: [i64; L], band: Band, i: usize) -> [i64; L]
 fn round<const L: usize, const Q: u32>(y: &mut [i64], i: usize, s: [i64; L])
     requires i_in_bounds { (i + L ≤ length y.old) × (1 ≤ Q) × (Q ≤ 52) }
     requires sums { Sums L s }
-    ensures { Written (λ k. rounded Q s.entry (k - i)) i (i + L) y.old y.new }
+    ensures { Written (pos 0) (λ l. i + l) (rounded Q s.entry) L y.old y.new }
 {
     for l in 0..L {
         y[i + l] = rounding::div_round::<Q>(s[l]);
@@ -117,7 +119,7 @@ fn block<const L: usize, const Q: u32>(y: &mut [i64], i: usize, band: Band)
     requires i_in_bounds { (i + L ≤ length y.old) × (i + L + 15 ≤ length band.v.now) × (length band.v.now ≤ 512) × (1 ≤ Q) × (Q ≤ 52) }
     requires by_index { (k : ℕ) → i ≤ k → nat_abs (at0 y.old k) ≤ 2 ^ 29 }
     requires whole { Whole (band_sum y.old band.v.now) i (i + L) }
-    ensures { Written (λ k. R (band_sum y.old band.entry.v.now k -ℤ pos (2 ^ 53)) Q) i (i + L) y.old y.new }
+    ensures { Written (pos 0) (λ l. i + l) (λ l. R (band_sum y.old band.entry.v.now (i + l) -ℤ pos (2 ^ 53)) Q) L y.old y.new }
 {
     let s = eight(centre::<L>(y, i), band, i);
     round::<L, Q>(y, i, s);
@@ -158,7 +160,7 @@ pub fn half(y: &mut [i64], sizes: &[u32], xo: &[i64], v: &mut [u64])
     ensures filled { Filled (λ i. R (half_rate alone (odd_taps HB) y.old xo.now i) 24) y.old y.new }
     ensures still_low { Low v.new }
 {
-    filters::raise(xo, v);
+    filters::bias_all(xo, v);
     places::<24>(y, Band { sizes, v });
 }
 
@@ -172,7 +174,7 @@ pub fn interp(y: &mut [i64], sizes: &[u32], x: &[i64], v: &mut [u64])
     ensures filled { Filled (λ i. R (middle (odd_taps HB) x.now i) 23) y.old y.new }
     ensures still_low { Low v.new }
 {
-    filters::raise(x, v);
+    filters::bias_all(x, v);
     y.fill(0);
     places::<23>(y, Band { sizes, v });
 }

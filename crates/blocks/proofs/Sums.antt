@@ -1,16 +1,7 @@
--- Samples to blocks, blocks to a channel of a frame: what the loops add up.
-use mathlib.Core.Path.{◌≡◌, refl, sym, ap, ◌∙◌, subst}
-use mathlib.Core.Bool.{Bool, true, false}
-use mathlib.Core.List.{List}
-use Prim.Native.Nat.{ℕ, ◌+◌, ◌*◌, ◌/◌, ◌%◌, ◌^◌, ◌≤◌, ◌<◌}
-use native.Mathlib.Nat.{mul-le-mul}
-use native.Mathlib.Omega.{arith}
+-- Samples to blocks, blocks to a channel of some frames: what the loops add up.
+use Rattle.std.proofs.Common.{◌≡◌, refl, sym, ap, ◌∙◌, subst, Bool, true, false, List, ℕ, ◌+◌, ◌*◌, ◌/◌, ◌%◌, ◌^◌, ◌≤◌, ◌<◌, mul_assoc, mul-le-mul, arith}
+use Rattle.std.proofs.Common.{ne_eqb, eqb, get_or-take, ℤ, pos, nat_abs, length, take, length-take}
 use lib.Arith.{digits_div}
-use borrow.Author.Tests.{ne_eqb}
-use lib.Dec.{eqb}
-use lib.Seq.{get_or-take}
-use lib.IntN.{ℤ, pos, nat_abs}
-use lib.ListN.{length, take, length-take}
 use Rattle.numbers.specs.Sums.{at0}
 use Rattle.numbers.specs.inner.Lists.{Held}
 use Rattle.reference.specs.Frames.{Run, frame_length, frame_count}
@@ -20,20 +11,20 @@ use Rattle.reference.specs.Statistics.{no_samples, joined_channel}
 use Rattle.reference.specs.Output.{samples_per_frame, unclamped, sample, channel_samples}
 use Rattle.reference.specs.declared.PcmRate.{PcmRate}
 use Rattle.reference.specs.declared.PcmRate.TheVariants.{Hz88200, Hz176400, Hz352800}
-use Rattle.reference.specs.declared.Cutoff.{Cutoff}
-use Rattle.reference.specs.declared.Cutoff.TheVariants.{Standard, Low, Wide}
 use Rattle.reference.specs.declared.Converter.{Converter}
 use Rattle.reference.specs.declared.ChannelStats.{ChannelStats}
 use Rattle.reference.proofs.Frames.{frame_samples}
 use Rattle.channel_bytes.specs.inner.Lent.{Lent, lent_run, byte_at}
-use Rattle.routes.specs.inner.Routes.{last_of, y_of, stride, around, first_byte, block_length, fresh, margin_from, Kept, State}
+use Rattle.routes.specs.declared.Route.{Route}
+use Rattle.routes.specs.declared.Route.TheVariants.{Narrow88, Narrow176, Narrow352, Wide176, Wide352}
+use Rattle.routes.specs.inner.Routes.{Routed, last_of, y_of, stride, around, first_byte, block_length, fresh, history_from, Kept, State}
 use Rattle.routes.proofs.Routes.{a_frame, y_of_is, y_of_size}
 use Rattle.gain.specs.Tallies.{tally}
 use Rattle.gain.proofs.Tallies.{tally_none, tally_join, tally_same, tally_few}
 use Rattle.output.specs.inner.Fills.{Layout, Drawn}
 use Rattle.output.proofs.Boxes.{no_rows, rows}
-use Rattle.kernel.proofs.Blocks.{Margined, Blocked}
-use Rattle.blocks.proofs.Places.{whole_blocks, few_taps, last_place, first_byte_more, margin_low, block_byte_near, block_byte_next}
+use Rattle.kernel.proofs.Blocks.{HistoryHeld, Blocked}
+use Rattle.blocks.proofs.Places.{whole_blocks, few_taps, last_place, first_byte_more, history_low, block_byte_near, block_byte_next}
 use Rattle.blocks.specs.inner.Blocks.{Ready, Made}
 use Rattle.blocks.specs.declared.job.Job.{Job}
 
@@ -73,18 +64,19 @@ module _ (conv : Converter) {count : ℕ} {b f a : List ℕ} (slices : Lent conv
 
 -- ---- a block of y, from sample k of channel c on
 
-module _ {conv : Converter} {count : ℕ} {b f a : List ℕ} {tables taps : List ℤ} (ready : Ready conv count b f a tables taps) (c k m : ℕ) {ys : List ℤ}
-    (held : Held (pos 0) (y_of conv.rate conv.cutoff (last_of conv) (byte_at conv.channels b f a c)) (samples_per_frame conv.rate + k) m ys) where
+module _ {conv : Converter} {count : ℕ} {b f a : List ℕ} {tables taps : List ℤ} {route : Route} (ready : Ready conv route count b f a tables taps) (c k m : ℕ) {ys : List ℤ}
+    (held : Held (pos 0) (y_of route (last_of conv) (byte_at conv.channels b f a c)) (samples_per_frame conv.rate + k) m ys) where
   pub values_small : (i : ℕ) → i < m → nat_abs (at0 ys i) < 2 ^ 31
   values_small i l =
       let e = held.is i l in
-      rw e (omega (arith, y_of_size conv.rate conv.cutoff (last_of conv) ready.last.last (byte_at conv.channels b f a c) (samples_per_frame conv.rate + k + i)))
+      rw e (omega (arith, y_of_size route (last_of conv) ready.last.last (byte_at conv.channels b f a c) (samples_per_frame conv.rate + k + i)))
 
   value_is : (i : ℕ) → i < m → scaled conv.gain.linear (at0 ys i) ≡ unclamped conv (lent_run b f a) c (k + i)
   unfolding unclamped byte_at
   value_is i l =
       let e : samples_per_frame conv.rate + k + i ≡ samples_per_frame conv.rate + (k + i) = omega arith in
-      ap (scaled conv.gain.linear) (held.is i l ∙ y_of_is conv.rate conv.cutoff (taps_of conv.filter) (byte_at conv.channels b f a c) (samples_per_frame conv.rate + k + i)
+      let y_is = rw (← ready.routed.is) at (y_of_is conv.rate conv.cutoff (taps_of conv.filter) ready.routed.supported) in
+      ap (scaled conv.gain.linear) (held.is i l ∙ y_is (byte_at conv.channels b f a c) (samples_per_frame conv.rate + k + i)
       ∙ ap (y conv.rate conv.cutoff (taps_of conv.filter) (byte_at conv.channels b f a c)) e)
 
   -- scaled and stored
@@ -130,29 +122,26 @@ module _ {A : Type 0} {o : Layout A} {conv : Converter} {r : Run} {c n : ℕ} wh
 
 -- the arrays and the position before the block at sample n of channel c; the kernel counts from the frame before the
 -- run
-pub record Staged (conv : Converter) (β : ℕ → ℕ) (first : Bool) (n at : ℕ) (x kept : List ℤ) : Type 0 where
-  pub position : at ≡ first_byte conv.cutoff (margin_from conv.rate conv.cutoff (M (last_of conv)) first (samples_per_frame conv.rate + n) + 2 * M (last_of conv))
-  pub state : State conv.rate conv.cutoff (last_of conv) first β (samples_per_frame conv.rate + n) x kept
+pub record Staged (conv : Converter) (route : Route) (β : ℕ → ℕ) (first : Bool) (n at : ℕ) (x kept : List ℤ) : Type 0 where
+  pub position : at ≡ first_byte route (history_from route (M (last_of conv)) first (samples_per_frame conv.rate + n) + 2 * M (last_of conv))
+  pub state : State route (last_of conv) first β (samples_per_frame conv.rate + n) x kept
 
--- b blocks of m samples of a frame's channel are done
-pub record Blocks {A : Type 0} (o : Layout A) (conv : Converter) (r : Run) (β : ℕ → ℕ) (c n b m at : ℕ) (told : ChannelStats) (x kept : List ℤ) (out out' : List A) : Type 0 where
-  pub staged : Staged conv β (eqb b 0) (n + b * m) at x kept
+-- b blocks of m samples of a channel are done
+pub record Blocks {A : Type 0} (o : Layout A) (conv : Converter) (route : Route) (r : Run) (β : ℕ → ℕ) (c n b m at : ℕ) (told : ChannelStats) (x kept : List ℤ) (out out' : List A) : Type 0 where
+  pub staged : Staged conv route β (eqb b 0) (n + b * m) at x kept
   pub made : Made o conv r c n (b * m) told out out'
 
-kept_none : (rate : PcmRate) (cutoff : Cutoff) (F : List ℤ) (β : ℕ → ℕ) (n : ℕ) (l : List ℤ) → n % 2 ≡ 0 → Kept rate cutoff F true β n l
+kept_none : (route : Route) (F : List ℤ) (β : ℕ → ℕ) (n : ℕ) (l : List ℤ) → n % 2 ≡ 0 → Kept route F true β n l
 unfolding Kept
-kept_none Hz88200 cutoff F β n l e = tt
-kept_none Hz176400 cutoff F β n l e = tt
-kept_none Hz352800 Standard F β n l e = e
-kept_none Hz352800 Low F β n l e = e
-kept_none Hz352800 Wide F β n l e = tt
+kept_none Narrow88 F β n l e = tt
+kept_none Narrow176 F β n l e = tt
+kept_none Narrow352 F β n l e = e
+kept_none Wide176 F β n l e = tt
+kept_none Wide352 F β n l e = tt
 
-module _ {conv : Converter} {count : ℕ} {b f a : List ℕ} {tables taps : List ℤ} (ready : Ready conv count b f a tables taps) (β : ℕ → ℕ) (n : ℕ) where
+module _ {conv : Converter} {count : ℕ} {b f a : List ℕ} {tables taps : List ℤ} {route : Route} (ready : Ready conv route count b f a tables taps) (β : ℕ → ℕ) (n : ℕ) where
   abbrev rate : PcmRate
   rate = conv.rate
-
-  abbrev cutoff : Cutoff
-  cutoff = conv.cutoff
 
   few : M (last_of conv) ≤ 116
   few = omega (arith, few_taps ready.last, last_place ready.last)
@@ -160,53 +149,53 @@ module _ {conv : Converter} {count : ℕ} {b f a : List ℕ} {tables taps : List
   late : 1000 ≤ samples_per_frame rate + n
   late = omega (arith, a_frame rate)
 
-  -- the margin is filled
+  -- the history is filled
   pub staged_begins : {start at : ℕ} {bytes : List ℕ} {x kept : List ℤ} (last : ℕ) → last ≡ M taps
-      → n % 2 ≡ 0 → start ≡ first_byte cutoff (margin_from rate cutoff last true (samples_per_frame rate + n))
-      → at ≡ start + stride cutoff * (2 * last) → Held 0 β start (stride cutoff * (2 * last) + around cutoff) bytes → Margined cutoff (2 * last) bytes x
-      → Staged conv β true n at x kept
+      → n % 2 ≡ 0 → start ≡ first_byte route (history_from route last true (samples_per_frame rate + n))
+      → at ≡ start + stride route * (2 * last) → Held 0 β start (stride route * (2 * last) + around route) bytes → HistoryHeld route (2 * last) bytes x
+      → Staged conv route β true n at x kept
   staged_begins {kept = kept} last is even from next held gives =
       let e : last ≡ M (last_of conv) = omega (arith, is, last_place ready.last) in
-      let i = margin_from rate cutoff (M (last_of conv)) true (samples_per_frame rate + n) in
-      let low = margin_low (M (last_of conv)) (samples_per_frame rate + n) few late rate cutoff true in
+      let i = history_from route (M (last_of conv)) true (samples_per_frame rate + n) in
+      let low = history_low (M (last_of conv)) (samples_per_frame rate + n) few late route true in
       let from' = rw e at from in
       record {
-        position = rw e at next ∙ ap (λ z. z + stride cutoff * (2 * M (last_of conv))) from' ∙ sym (first_byte_more cutoff i (2 * M (last_of conv)) low);
+        position = rw e at next ∙ ap (λ z. z + stride route * (2 * M (last_of conv))) from' ∙ sym (first_byte_more route i (2 * M (last_of conv)) low);
         state = record {
-          margin = (rw e at gives) β i low (rw from' at (rw e at held));
+          history = (rw e at gives) β i low (rw from' at (rw e at held));
           w_kept =
-              kept_none rate cutoff (last_of conv) β (samples_per_frame rate + n) kept (omega (arith, even_frame rate));
+              kept_none route (last_of conv) β (samples_per_frame rate + n) kept (omega (arith, even_frame rate));
         };
       }
 
   -- a block is worked out
-  pub staged_gives : {first : Bool} {at at' new : ℕ} {bytes : List ℕ} {x kept x' kept' ys : List ℤ} → Staged conv β first n at x kept → new ≡ fresh rate cutoff first
-      → Held 0 β at (stride cutoff * new + around cutoff) bytes → at' ≡ at + stride cutoff * new → Blocked rate cutoff first taps bytes x kept x' kept' ys
-      → Held (pos 0) (y_of rate cutoff (last_of conv) β) (samples_per_frame rate + n) (block_length rate cutoff) ys × Staged conv β false (n + block_length rate cutoff) at' x' kept'
+  pub staged_gives : {first : Bool} {at at' new : ℕ} {bytes : List ℕ} {x kept x' kept' ys : List ℤ} → Staged conv route β first n at x kept → new ≡ fresh route first
+      → Held 0 β at (stride route * new + around route) bytes → at' ≡ at + stride route * new → Blocked route first taps bytes x kept x' kept' ys
+      → Held (pos 0) (y_of route (last_of conv) β) (samples_per_frame rate + n) (block_length route) ys × Staged conv route β false (n + block_length route) at' x' kept'
   staged_gives {first} s is held next gives =
       let r = gives (last_of conv) β (samples_per_frame rate + n) ready.last late (rw s.position at (rw is at held)) s.state in
-      let e : samples_per_frame rate + n + block_length rate cutoff ≡ samples_per_frame rate + (n + block_length rate cutoff) = omega arith in (
+      let e : samples_per_frame rate + n + block_length route ≡ samples_per_frame rate + (n + block_length route) = omega arith in (
         r.0,
         record {
-          position = rw is at next ∙ ap (λ z. z + stride cutoff * fresh rate cutoff first) s.position
-              ∙ rw e at (sym (block_byte_next (M (last_of conv)) (samples_per_frame rate + n) few late rate cutoff first));
+          position = rw is at next ∙ ap (λ z. z + stride route * fresh route first) s.position
+              ∙ rw e at (sym (block_byte_next (M (last_of conv)) (samples_per_frame rate + n) few late route first));
           state = rw e at r.1;
         },
       )
 
-  pub staged_near : {first : Bool} {at : ℕ} {x kept : List ℤ} → Staged conv β first n at x kept → samples_per_frame rate + n < 2 ^ 50 → at < 2 ^ 62
-  staged_near {first} s l = rw s.position (block_byte_near (M (last_of conv)) (samples_per_frame rate + n) few late rate cutoff first l)
+  pub staged_near : {first : Bool} {at : ℕ} {x kept : List ℤ} → Staged conv route β first n at x kept → samples_per_frame rate + n < 2 ^ 50 → at < 2 ^ 62
+  staged_near {first} s l = rw s.position (block_byte_near (M (last_of conv)) (samples_per_frame rate + n) few late route first l)
 
 -- ---- a job
 
 -- what it goes by
-pub ready_of : (j : Job) → Ready j.conv j.slices.count j.slices.before.now j.slices.frames.now j.slices.after.now j.tables.now j.taps.now
-ready_of j = record { slices = rw j.same at j.slices.lent; first = j.first; last = j.last; factor = j.factor }
+pub ready_of : (j : Job) → Ready j.conv j.route j.slices.count j.slices.before.now j.slices.frames.now j.slices.after.now j.tables.now j.taps.now
+ready_of j = record { slices = rw j.same at j.slices.lent; routed = j.routed; first = j.first; last = j.last; factor = j.factor }
 
--- ---- blocks of a frame's channel
+-- ---- blocks of a channel
 
-module _ {A : Type 0} {o : Layout A} {conv : Converter} {r : Run} {β : ℕ → ℕ} {c n m : ℕ} {x kept : List ℤ} {out : List A} where
-  pub blocks_none : {at : ℕ} {told : ChannelStats} → Staged conv β true n at x kept → told ≡ no_samples → Blocks o conv r β c n 0 m at told x kept out out
+module _ {A : Type 0} {o : Layout A} {conv : Converter} {route : Route} {r : Run} {β : ℕ → ℕ} {c n m : ℕ} {x kept : List ℤ} {out : List A} where
+  pub blocks_none : {at : ℕ} {told : ChannelStats} → Staged conv route β true n at x kept → told ≡ no_samples → Blocks o conv route r β c n 0 m at told x kept out out
   blocks_none s e =
       let z : 0 * m ≡ 0 = omega arith in
       let i : n + 0 ≡ n = omega arith in
@@ -214,12 +203,12 @@ module _ {A : Type 0} {o : Layout A} {conv : Converter} {r : Run} {β : ℕ → 
 
   -- one more
   pub blocks_more : {b at at' : ℕ} {told more both : ChannelStats} {x' kept' : List ℤ} {out' out'' : List A}
-      → Blocks o conv r β c n b m at told x kept out out' → m ≡ block_length conv.rate conv.cutoff
-      → Staged conv β false (n + b * m + block_length conv.rate conv.cutoff) at' x' kept'
-      → Made o conv r c (n + b * m) m more out' out'' → b * m + m < 2 ^ 64 → both ≡ joined_channel told more → Blocks o conv r β c n (b + 1) m at' both x' kept' out out''
+      → Blocks o conv route r β c n b m at told x kept out out' → m ≡ block_length route
+      → Staged conv route β false (n + b * m + block_length route) at' x' kept'
+      → Made o conv r c (n + b * m) m more out' out'' → b * m + m < 2 ^ 64 → both ≡ joined_channel told more → Blocks o conv route r β c n (b + 1) m at' both x' kept' out out''
   blocks_more {b} d is s g l j =
       let next : b * m + m ≡ (b + 1) * m = omega arith in
-      let i : n + b * m + block_length conv.rate conv.cutoff ≡ n + (b + 1) * m = omega arith in
+      let i : n + b * m + block_length route ≡ n + (b + 1) * m = omega arith in
       let later : eqb (b + 1) 0 ≡ false = ne_eqb (b + 1) 0 (λ z. omega arith) in
       record { staged = rw later (rw i at s); made = rw next at (made_join d.made g l j) }
 
@@ -232,6 +221,7 @@ pub stored : {A : Type 0} (o : Layout A) (ch : ℕ) {n c : ℕ} {l : List ℤ} {
     → (S : ℕ → ℕ → ℤ) → Held (pos 0) (S c) n b l → Drawn o S ch n (n + b) c (c + 1) x z
 stored o ch {n} {c} {l} {x} {z} a b e = subst (λ (m : ℕ). (S : ℕ → ℕ → ℤ) → Held (pos 0) (S c) n m l → Drawn o S ch n (n + m) c (c + 1) x z) e
 
--- blocks up to the end of a frame
-pub at_end : (rate : PcmRate) (cutoff : Cutoff) {b spf m : ℕ} → spf ≡ samples_per_frame rate → m ≡ block_length rate cutoff → b ≡ spf / m → b * m ≡ samples_per_frame rate
-at_end rate cutoff e f h = rw (h, e, f) (whole_blocks rate cutoff)
+-- blocks up to the end of so many frames
+pub at_end : {conv : Converter} {route : Route} → Routed conv route → (frames : ℕ) {b spf m : ℕ} → spf ≡ samples_per_frame conv.rate → m ≡ block_length route
+    → b ≡ frames * (spf / m) → b * m ≡ frames * samples_per_frame conv.rate
+at_end r frames e f h = rw (h, e, f) (mul_assoc frames _ _ ∙ ap (λ z. frames * z) (whole_blocks r))

@@ -1,13 +1,7 @@
 -- What the ranges say, from the tests and to them.
-use mathlib.Core.Path.{◌≡◌, refl, sym, ◌∙◌}
-use mathlib.Core.List.{List}
-use mathlib.Core.Bool.{Bool, true, false, true≢false, ◌&&◌}
-use Prim.Native.Nat.{ℕ, suc, ◌+◌, ◌<◌, ◌≤◌}
-use native.Mathlib.Omega.{arith}
-use borrow.Author.Tests.{leb-true, eqb-true}
+use Rattle.std.proofs.Common.{◌≡◌, refl, sym, ◌∙◌, List, Bool, true, false, true≢false, ◌&&◌, ℕ, suc, ◌+◌, ◌<◌, ◌≤◌, arith, leb-true, eqb-true, leb, eqb}
+use Rattle.std.proofs.Common.{length}
 use denote.Floats.{passes, is_true}
-use lib.Dec.{leb, eqb}
-use lib.ListN.{length}
 use Rattle.numbers.specs.Tests.{each_below}
 use Rattle.numbers.proofs.Tests.{each_below_at}
 use Rattle.boards.specs.Boards.{Board, board, within, in_range, fitting}

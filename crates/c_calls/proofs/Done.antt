@@ -1,19 +1,15 @@
 -- What a call has done, by what the API's call gave.
-use mathlib.Core.Path.{◌≡◌, refl, sym, ap, subst, ◌∙◌}
-use mathlib.Core.Bool.{true≢false}
-use Rattle.std.specs.Prelude.{Result, Ok, Err, List, [], ◌∷◌, Bool, true, false, ℕ, ℤ, Float}
+use Rattle.std.proofs.Common.{◌≡◌, refl, sym, ap, subst, ◌∙◌, Result, Ok, Err, List, [], Bool, false, ℕ, ℤ, Float}
 use Rattle.reference.specs.Frames.{Run}
 use Rattle.reference.specs.Scaling.{db_to_linear}
 use Rattle.reference.specs.Settings.{converter_of}
-use Rattle.reference.specs.Statistics.{no_stats}
 use Rattle.reference.specs.Output.{stats}
-use Rattle.reference.specs.Refusals.{rack, desk, Decision, Place, accepted, refused, decide, decision, is_accepted, if_present, gain_places, opening_places, convert_places, byte_lengths}
-use Rattle.reference.specs.Promises.{by_decision, Converted, stats_told, GainPromise, OpeningPromise, Answered, SamplesPromise, BytesPromise, if_lent}
+use Rattle.reference.specs.Refusals.{rack, desk, Decision, accepted, refused, decide, decision, is_accepted, if_present, gain_places, opening_places, convert_places, byte_lengths}
+use Rattle.reference.specs.Promises.{by_decision, Converted, GainPromise, OpeningPromise, SamplesPromise, BytesPromise, if_lent}
 use Rattle.reference.specs.Changes.{Change, change_places, changed, ChangePromise}
 use Rattle.reference.specs.declared.Gain.{Gain}
 use Rattle.reference.specs.declared.Settings.{Settings}
 use Rattle.reference.specs.declared.Converter.{Converter}
-use Rattle.reference.specs.declared.ConvertStats.{ConvertStats}
 use Rattle.reference.specs.declared.PcmError.{PcmError}
 use Rattle.reference.proofs.Promises.{exit_accepted, exit_refused}
 use Rattle.reference.proofs.Refusals.{error_refuses}

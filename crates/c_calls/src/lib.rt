@@ -3,7 +3,6 @@
 #![tactic(auto)]
 
 ghost use Rattle.c_converter.specs.Blocks.{converter_lists};
-ghost use Rattle.c_converter.specs.inner.Blocks.{as_converter};
 ghost use Rattle.c_calls.specs.Calls.{c_wanted, GainCall, OpenCall, ChangeCall};
 
 use c_converter::{Blocks, gain_of, tell_change, tell_gain, tell_opening};

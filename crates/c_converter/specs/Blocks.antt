@@ -24,12 +24,12 @@ pub record CConverter : Type 0 where
 abbrev pub converter_lists : List ℕ → List Float → List ℤ → CConverter
 converter_lists n g t = record { numbers = n; gain = g; taps = t }
 
-abbrev pub item : List ℕ → ℕ → ℕ
-item n k = get_or n k 0
+abbrev pub entry : List ℕ → ℕ → ℕ
+entry n k = get_or n k 0
 
 -- a known rate and cutoff, a byte of channels, and a flag
 abbrev pub known_numbers : List ℕ → Bool
-known_numbers n = known_rate (item n 0) && (known_cutoff (item n 1) && (known_channels (item n 2) && known_flag (item n 3)))
+known_numbers n = known_rate (entry n 0) && (known_cutoff (entry n 1) && (known_channels (entry n 2) && known_flag (entry n 3)))
 
 -- decibels and factor
 abbrev pub gain_of : List Float → Gain
@@ -39,11 +39,11 @@ gain_of g = record { db = get_or g 0 nan; linear = get_or g 1 nan }
 unfoldable pub settings_of : CConverter → Settings
 settings_of b =
     record {
-      rate = rate_of (item b.numbers 0);
-      cutoff = cutoff_of (item b.numbers 1);
-      channels = item b.numbers 2;
+      rate = rate_of (entry b.numbers 0);
+      cutoff = cutoff_of (entry b.numbers 1);
+      channels = entry b.numbers 2;
       gain = gain_of b.gain;
-      filter = then_some (flag (item b.numbers 3)) (record { taps = b.taps; count = item b.numbers 4 });
+      filter = then_some (flag (entry b.numbers 3)) (record { taps = b.taps; count = entry b.numbers 4 });
     }
 
 -- the converter that it stands for, its stored numbers as they are given
@@ -56,9 +56,9 @@ held_converter b =
       channels = s.channels;
       gain = s.gain;
       filter = filter_of s;
-      samples_per_frame = item b.numbers 5;
-      reach = item b.numbers 6;
-      frame_length = item b.numbers 7;
+      samples_per_frame = entry b.numbers 5;
+      reach = entry b.numbers 6;
+      frame_length = entry b.numbers 7;
     }
 
 -- ---- what is written

@@ -1,6 +1,5 @@
 -- What a call about a file has done, by the answer of the function that it calls.
-use mathlib.Core.Path.{◌≡◌, ap, ◌∙◌}
-use Rattle.std.specs.Prelude.{Result, List, [], ◌∷◌, ℕ, length}
+use Rattle.std.proofs.Common.{◌≡◌, ap, ◌∙◌, Result, List, [], ◌∷◌, ℕ, length}
 use Rattle.reference.specs.Refusals.{Place, decide, decision, refusal_number}
 use Rattle.reference.specs.declared.PcmError.{PcmError}
 use Rattle.dsf.specs.Reading.{OpenedPromise, HeaderPromise, file_header}

@@ -1,7 +1,5 @@
 -- What is written of a converter, read again.
-use mathlib.Core.Path.{◌≡◌, refl}
-use native.Mathlib.Omega.{arith}
-use Rattle.std.specs.Prelude.{true, List, [], ◌∷◌, ℕ, length}
+use Rattle.std.proofs.Common.{◌≡◌, refl, arith, true, List, [], ◌∷◌, ℕ, length}
 use Rattle.reference.specs.Codes.{hertz, cutoff_number}
 use Rattle.reference.specs.Settings.{filter_of, converter_of}
 use Rattle.reference.specs.Changes.{with_wanted}
@@ -11,12 +9,12 @@ use Rattle.reference.specs.declared.Cutoff.{Cutoff}
 use Rattle.reference.specs.declared.Cutoff.TheVariants.{Standard, Low, Wide}
 use Rattle.reference.proofs.Refusals.{and_right}
 use Rattle.codes.specs.Codes.{rate_of, known_rate, cutoff_of, known_cutoff}
-use Rattle.c_converter.specs.Blocks.{converter_lists, item, known_numbers, settings_of, held_converter, with_stored, with_changed, gain_floats}
+use Rattle.c_converter.specs.Blocks.{converter_lists, entry, known_numbers, settings_of, held_converter, with_stored, with_changed, gain_floats}
 use Rattle.c_calls.specs.Calls.{new_converter}
 use Rattle.c_laws.specs.Converters.{OpenedStands, ChangedStands, Stands}
 
 -- eight numbers
-eight : (n : List ℕ) → length n ≡ 8 → n ≡ item n 0 ∷ item n 1 ∷ item n 2 ∷ item n 3 ∷ item n 4 ∷ item n 5 ∷ item n 6 ∷ item n 7 ∷ []
+eight : (n : List ℕ) → length n ≡ 8 → n ≡ entry n 0 ∷ entry n 1 ∷ entry n 2 ∷ entry n 3 ∷ entry n 4 ∷ entry n 5 ∷ entry n 6 ∷ entry n 7 ∷ []
 eight [] e = absurd (omega arith)
 eight (a ∷ []) e = absurd (omega arith)
 eight (a ∷ b ∷ []) e = absurd (omega arith)
@@ -54,7 +52,7 @@ cutoff_known Wide = refl
 
 -- a statement of eight numbers, of a list of eight
 of_eight : (P : List ℕ → Type 0) → ((a b c d e f g h : ℕ) → P (a ∷ b ∷ c ∷ d ∷ e ∷ f ∷ g ∷ h ∷ [])) → (n : List ℕ) → length n ≡ 8 → P n
-of_eight P k n e = rw (eight n e) (k (item n 0) (item n 1) (item n 2) (item n 3) (item n 4) (item n 5) (item n 6) (item n 7))
+of_eight P k n e = rw (eight n e) (k (entry n 0) (entry n 1) (entry n 2) (entry n 3) (entry n 4) (entry n 5) (entry n 6) (entry n 7))
 
 pub opened_stands : OpenedStands
 unfolding held_converter settings_of converter_of

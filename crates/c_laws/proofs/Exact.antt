@@ -1,6 +1,5 @@
 -- A call leaves nothing free: two answers to it are the same, and so is what they leave in each lent list.
-use mathlib.Core.Path.{◌≡◌, refl, sym, ◌∙◌}
-use Rattle.std.specs.Prelude.{List, Bool, true, false, ℕ, Float}
+use Rattle.std.proofs.Common.{◌≡◌, refl, sym, ◌∙◌, List, Bool, true, false, ℕ, Float}
 use Rattle.reference.specs.Frames.{Run}
 use Rattle.reference.specs.Refusals.{Decision}
 use Rattle.reference.specs.declared.Converter.{Converter}

@@ -1,7 +1,5 @@
 -- A step that answers 0 was accepted.
-use mathlib.Core.Path.{◌≡◌, refl, sym, ◌∙◌}
-use mathlib.Core.Bool.{true≢false}
-use Rattle.std.specs.Prelude.{List, [], ◌∷◌, ◌++◌, Bool, true, false, cond, not, ◌&&◌, ℕ, ◌+◌, eqb, length}
+use Rattle.std.proofs.Common.{◌≡◌, refl, sym, ◌∙◌, true≢false, List, [], ◌∷◌, ◌++◌, Bool, true, false, cond, not, ◌&&◌, ℕ, ◌+◌, eqb, length}
 use mathlib.Core.List.{flat_map}
 use Rattle.reference.specs.Output.{stats}
 use Rattle.reference.specs.Refusals.{Place, accepted, refused, decide, refusal_number, opening_places, filter_places, lent_length}

@@ -1,7 +1,7 @@
 -- What is in progress, told by a call and read by the next one.
-use Rattle.std.proofs.Common.{◌≡◌, ℕ, ◌+◌, ◌*◌, ◌/◌, ◌%◌, ◌<◌, true, ltb, List, length, get_or, refl, ap, sym, ◌∙◌, zero-add, zero-mul, arith}
+use Rattle.std.proofs.Common.{◌≡◌, ℕ, ◌+◌, ◌*◌, ◌/◌, ◌%◌, ◌<◌, true, ltb, List, length, get_or, refl, ap, sym, ◌∙◌, zero-add, zero-mul, arith, Some, None}
+use Rattle.std.proofs.Common.{replicate}
 use lib.ListN.{get_or-replicate}
-use Rattle.std.specs.Prelude.{Some, None, replicate}
 use Rattle.numbers.proofs.Lists.{get_d_tabulate, is_tabulate}
 use Rattle.reference.specs.Output.{samples_per_frame, sample}
 use Rattle.overs.specs.declared.End.TheVariants.{High, Low}

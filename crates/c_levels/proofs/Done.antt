@@ -1,8 +1,7 @@
 -- What the call has done, by what is told of its frame.
-use mathlib.Core.Path.{◌≡◌, refl, sym, ap, subst, ◌∙◌}
-use native.Mathlib.Nat.{zero-add}
-use borrow.Author.Tests.{lt-ltb, le-ltb, lt-leb, le-leb}
-use Rattle.std.specs.Prelude.{Result, Ok, Err, List, [], ◌∷◌, true, false, ℕ, ◌<◌, ◌≤◌, ltb, length}
+use Rattle.std.proofs.Common.{◌≡◌, refl, sym, ap, subst, ◌∙◌, zero-add, lt-ltb, le-ltb, le-leb, Result, Ok, Err, List, [], ◌∷◌, true, false, ℕ, ◌<◌, ◌≤◌, ltb}
+use Rattle.std.proofs.Common.{length}
+use borrow.Author.Tests.{lt-leb}
 use Rattle.reference.specs.Frames.{Run}
 use Rattle.reference.specs.Output.{frame_clips}
 use Rattle.reference.specs.Refusals.{Decision, accepted, refused, decide, decision, is_accepted, convert_frame_places}

@@ -1,7 +1,7 @@
 -- A frame of an input tells what the whole input, as one run, has; and what is in progress after it is told by its
 -- samples alone, as a frame has three and more of each channel.
-use Rattle.std.proofs.Common.{◌≡◌, ℕ, suc, ◌+◌, ◌-◌, ◌*◌, ◌≤◌, Bool, true, false, cond, [], ◌∷◌, get_or, ℤ, refl, ap, sym, ◌∙◌, zero-add, arith, lt-ltb}
-use Rattle.std.specs.Prelude.{Option, Some, None}
+use Rattle.std.proofs.Common.{◌≡◌, ℕ, suc, ◌+◌, ◌-◌, ◌*◌, ◌≤◌, Bool, true, false, cond, [], ◌∷◌, get_or, ℤ, refl, ap, sym, ◌∙◌, zero-add, arith, lt-ltb, Option}
+use Rattle.std.proofs.Common.{Some, None}
 use Rattle.numbers.specs.Lists.{tabulate}
 use Rattle.numbers.proofs.Lists.{get_d_tabulate, tabulate_join}
 use Rattle.reference.specs.Output.{samples_per_frame, sample, samples}

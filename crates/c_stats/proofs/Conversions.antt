@@ -1,7 +1,5 @@
 -- What a conversion tells, by its answer.
-use mathlib.Core.Path.{◌≡◌, sym, ap, subst, ◌∙◌}
-use mathlib.Core.Bool.{true≢false}
-use Rattle.std.specs.Prelude.{Ok, Err, List, ℕ}
+use Rattle.std.proofs.Common.{◌≡◌, sym, ap, subst, ◌∙◌, true≢false, Ok, Err, List, ℕ}
 use Rattle.reference.specs.Frames.{Run}
 use Rattle.reference.specs.Output.{stats}
 use Rattle.reference.specs.Statistics.{no_stats}

@@ -1,6 +1,5 @@
 -- What a simulation has done.
-use mathlib.Core.Path.{◌≡◌, ap, ◌∙◌}
-use Rattle.std.specs.Prelude.{Result, List, ℕ, ℤ, length}
+use Rattle.std.proofs.Common.{◌≡◌, ap, ◌∙◌, Result, List, ℕ, ℤ, length}
 use Rattle.reference.specs.Refusals.{decide, decision, refusal_number}
 use Rattle.reference.specs.declared.PcmError.{PcmError}
 use Rattle.schedule.specs.Promise.{SimulatePromise, simulate_places}

@@ -1,6 +1,5 @@
 -- What is known.
-use Rattle.std.proofs.Common.{◌≡◌, Option, None, Bool, true, false, ◌&&◌, List, ℕ, length, leb, refl}
-use borrow.Author.Tests.{leb-true, eqb-true}
+use Rattle.std.proofs.Common.{◌≡◌, Option, None, Bool, true, false, ◌&&◌, List, ℕ, length, leb, refl, leb-true, eqb-true}
 use Rattle.codes.specs.inner.Codes.{if_known}
 use Rattle.reference.proofs.Refusals.{and_left, and_right}
 use Rattle.tracks_open.specs.inner.Open.{TracksArgs}

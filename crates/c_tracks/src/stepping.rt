@@ -1,5 +1,4 @@
 // A piece's frames gathered, and the piece converted.
-ghost use Rattle.std.specs.Prelude.{◌≡◌};
 ghost use Rattle.c_stats.specs.Conversions.{results};
 ghost use Rattle.c_tracks.specs.inner.Asked.{as_asked};
 ghost use Rattle.c_tracks.specs.Steps.{lists, FramesCall, StepCall};

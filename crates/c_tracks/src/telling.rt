@@ -1,5 +1,5 @@
 // What is told of an answer that may name a track.
-ghost use Rattle.std.specs.Prelude.{◌≡◌, [], ◌∷◌};
+ghost use Rattle.std.specs.Prelude.{◌≡◌};
 ghost use Rattle.c_tracks.specs.inner.Told as told;
 
 use reference::PcmError;

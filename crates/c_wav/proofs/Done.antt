@@ -1,7 +1,6 @@
 -- What a call over a WAV file has done, by the answer of the function that it calls, and what the writers find of a
 -- rate's number.
-use mathlib.Core.Path.{◌≡◌, refl, sym, ap, subst, ◌∙◌}
-use Rattle.std.specs.Prelude.{Result, Err, List, [], ◌∷◌, ℕ, Bool, true, false, not, length}
+use Rattle.std.proofs.Common.{◌≡◌, refl, sym, ap, subst, ◌∙◌, Result, Err, List, [], ◌∷◌, ℕ, true, false, not, length}
 use Rattle.reference.specs.Codes.{hertz}
 use Rattle.reference.specs.Refusals.{Place, Decision, refused, decide, decision, is_accepted, refusal_number}
 use Rattle.reference.specs.Promises.{by_decision}

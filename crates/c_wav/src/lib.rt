@@ -1,10 +1,8 @@
 // The calls over WAV files, as C has them. None asks anything, and each understands everything.
 #![tactic(auto)]
 
-ghost use Rattle.std.specs.Prelude.{◌≡◌, ◌∷◌, length};
-ghost use Rattle.reference.specs.Refusals.{decision, decide, refusal_number};
-ghost use Rattle.reference.specs.Promises.{by_decision};
-ghost use Rattle.wav_format.specs.Promises.{file_samples};
+ghost use Rattle.std.specs.Prelude.{◌≡◌};
+ghost use Rattle.reference.specs.Refusals.{decision, refusal_number};
 ghost use Rattle.codes.specs.Told.{if_ok};
 ghost use Rattle.c_wav.specs.Calls.{format_numbers, WavReadCall, WavWriteCall, WavHeaderCall};
 ghost use Rattle.c_wav.specs.inner.Made.{WavMade, HeaderMade};

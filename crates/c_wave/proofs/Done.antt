@@ -1,6 +1,5 @@
 -- What the call has done, by the answer of the function that it calls.
-use mathlib.Core.Path.{◌≡◌, sym, ap, subst, ◌∙◌}
-use Rattle.std.specs.Prelude.{Result, List, [], ◌∷◌, ℕ}
+use Rattle.std.proofs.Common.{◌≡◌, sym, ap, subst, ◌∙◌, Result, List, [], ◌∷◌, ℕ}
 use Rattle.reference.specs.Refusals.{decide, decision, refusal_number}
 use Rattle.reference.specs.declared.PcmRate.{PcmRate}
 use Rattle.reference.specs.declared.PcmError.{PcmError}

@@ -1,16 +1,10 @@
 -- The byte at a position is the byte of the frame that holds it, or idle where none does.
-use mathlib.Core.Path.{◌≡◌, refl, sym, ap, ◌∙◌}
-use mathlib.Core.Logic.{⊎_elim}
-use mathlib.Core.Bool.{Bool, true, false, cond}
-use mathlib.Core.List.{List, [], ◌∷◌, ◌++◌}
-use Prim.Native.Nat.{ℕ, zero, suc, ◌+◌, ◌-◌, ◌*◌, ◌/◌, ◌%◌, ◌≤◌, ◌<◌}
-use native.Mathlib.Nat.{mul-le-mul_right}
-use native.Mathlib.Omega.{arith}
-use borrow.Author.Tests.{eq-eqb, ne_eqb, le-leb, lt-leb, lt-ltb, leb-true, eqb-false}
+use Rattle.std.proofs.Common.{◌≡◌, refl, sym, ap, ◌∙◌, ⊎_elim, Bool, true, false, cond, List, [], ◌∷◌, ◌++◌, ℕ, zero, suc, ◌+◌, ◌-◌, ◌*◌, ◌/◌, ◌%◌, ◌≤◌, ◌<◌}
+use Rattle.std.proofs.Common.{mul-le-mul_right, arith, eq-eqb, ne_eqb, le-leb, lt-ltb, leb-true, ltb, leb, eqb, length, get_or, take, drop, length-append}
+use Rattle.std.proofs.Common.{length-drop, get_or-append-add, get_or-take, get_or-drop, length-take-le}
+use borrow.Author.Tests.{lt-leb, eqb-false}
 use lib.Arith.{digits_lt}
-use lib.Dec.{ltb, leb, eqb}
-use lib.ListN.{length, get_or, take, drop, length-append, length-drop, length-replicate, get_or-replicate, get_or-append, get_or-eq_default}
-use lib.Seq.{get_or-append-add, get_or-take, get_or-drop, length-take-le}
+use lib.ListN.{length-replicate, get_or-replicate, get_or-append, get_or-eq_default}
 use borrow.Rule.Slice.PartMut.{put_mid}
 use Rattle.numbers.specs.inner.Lists.{Held}
 use Rattle.numbers.proofs.Lists.{below_or, part_end}

@@ -1,9 +1,5 @@
 -- One number more picked from.
-use mathlib.Core.Path.{◌≡◌, refl}
-use Prim.Native.Nat.{ℕ, suc, ◌+◌}
-use native.Mathlib.Nat.{zero-add}
-use native.Mathlib.Omega.{arith}
-use lib.IntN.{ℤ}
+use Rattle.std.proofs.Common.{◌≡◌, refl, ℕ, suc, ◌+◌, zero-add, arith, ℤ}
 use Rattle.numbers.specs.Extremes.{picked, extreme}
 
 pub one_more : (pick : ℤ → ℤ → ℤ) (f : ℕ → ℤ) (k : ℕ) {x : ℤ} → x ≡ extreme pick f 0 k → pick x (f k) ≡ extreme pick f 0 (k + 1)

@@ -1,12 +1,11 @@
 -- A channel whose lowest and highest sample lie between the ends of full scale has no overs, and leaves nothing in
 -- progress.
-use Rattle.std.proofs.Common.{◌≡◌, ℕ, zero, suc, ◌+◌, ◌*◌, ◌/◌, ◌<◌, ◌≤◌, true, List, length, get_or, ℤ, pos, negsuc, ⊎_elim, le-div_iff_mul-le, arith}
+use Rattle.std.proofs.Common.{◌≡◌, ℕ, zero, suc, ◌+◌, ◌*◌, ◌/◌, ◌<◌, ◌≤◌, true, List, length, get_or, ℤ, pos, negsuc, ⊎_elim, le-div_iff_mul-le, arith, None}
 use lib.Signed.{lt_z}
 use Rattle.numbers.specs.Extremes.{lesser, greater, picked, extreme}
 use Rattle.numbers.proofs.Extremes.{Best, least_best, greatest_best}
 use Rattle.numbers.proofs.Lists.{below_or}
 use Rattle.overs.specs.Overs.{end_of, none, normal, overs_of, Progress}
-use Rattle.std.specs.Prelude.{None}
 use Rattle.overs.proofs.Laws.{channel_is, between, quiet, quiet_after}
 
 -- what is picked is no worse than any that it is picked from

@@ -1,15 +1,6 @@
 -- Three samples of which the third is at no end, where nothing is in progress before them; and samples passed over.
-use mathlib.Core.Path.{◌≡◌, refl, ap, ◌∙◌}
-use mathlib.Core.List.{◌++◌}
-use mathlib.Core.Bool.{Bool, true, false, cond}
-use mathlib.Core.Logic.{⊎_elim}
-use Prim.Native.Nat.{ℕ, ◌+◌, ◌-◌, ◌/◌, ◌≤◌}
-use native.Mathlib.Nat.{div-le_self}
-use native.Mathlib.Omega.{arith}
-use lib.Dec.{eqb}
-use lib.IntN.{ℤ}
+use Rattle.std.proofs.Common.{◌≡◌, refl, ap, ◌∙◌, ◌++◌, Bool, true, false, cond, ⊎_elim, ℕ, ◌+◌, ◌-◌, ◌/◌, ◌≤◌, div-le_self, arith, eqb, ℤ, Option, Some, None}
 use Rattle.std.specs.Option.{is_some, is_none}
-use Rattle.std.specs.Prelude.{Option, Some, None}
 use Rattle.numbers.specs.Lists.{tabulate}
 use Rattle.numbers.proofs.Lists.{tabulate_join, below_or}
 use Rattle.overs.specs.declared.End.{End}

@@ -1,7 +1,5 @@
 -- A call that is understood, and one that is not.
-use mathlib.Core.Path.{◌≡◌, refl, sym, ◌∙◌}
-use mathlib.Core.Bool.{Bool, true, false, true≢false, ◌&&◌}
-use Prim.Native.Nat.{ℕ}
+use Rattle.std.proofs.Common.{◌≡◌, refl, sym, ◌∙◌, Bool, true, false, true≢false, ◌&&◌, ℕ}
 use Rattle.codes.specs.Calls.{CCall}
 
 pub done_so : {b : Bool} {answer : ℕ} {Kept Done : Type 0} → b ≡ true → Done → CCall b answer Kept Done

@@ -1,7 +1,6 @@
 -- Known numbers, by what they are read as; and 0.0.
-use mathlib.Core.Path.{refl}
+use Rattle.std.proofs.Common.{refl, rules, Some, None, ◌≡◌, Bool, true, false}
 use lib.Ieee.{of_bits, of_int, binary64}
-use Rattle.std.proofs.Common.{rules, Some, None, ◌≡◌, Bool, true, false}
 use Rattle.reference.specs.Scaling.{whole}
 use Rattle.codes.specs.inner.Codes.{if_known}
 

@@ -1,6 +1,5 @@
 -- What an answer tells, by the places that its call tries.
-use mathlib.Core.Path.{◌≡◌, sym, ap, subst, ◌∙◌}
-use Rattle.std.specs.Prelude.{Result, Ok, Err, IfOk, List, ℕ}
+use Rattle.std.proofs.Common.{◌≡◌, sym, ap, subst, ◌∙◌, Result, Ok, Err, IfOk, List, ℕ}
 use Rattle.reference.specs.Refusals.{Decision, accepted, decision, is_accepted, Place, decide}
 use Rattle.reference.specs.Promises.{by_decision}
 use Rattle.reference.specs.declared.PcmError.{PcmError}

@@ -1,17 +1,10 @@
 -- Laws of columns: what is put after its blanks, and entries that fit.
-use mathlib.Core.Path.{◌≡◌, refl}
-use mathlib.Core.Bool.{Bool, true, false, ◌||◌}
-use mathlib.Core.List.{List, [], ◌∷◌}
-use Prim.Native.Nat.{ℕ, ◌+◌, ◌-◌, ◌≤◌}
-use native.Mathlib.Omega.{arith}
-use borrow.Author.Tests.{ltb-false, le-ltb}
-use lib.Dec.{ltb}
-use lib.IntN.{ℤ, pos, negsuc, nat_abs}
+use Rattle.std.proofs.Common.{◌≡◌, refl, Bool, true, false, ◌||◌, List, [], ◌∷◌, ℕ, ◌+◌, ◌-◌, ◌≤◌, arith, ltb-false, le-ltb, ltb, ℤ, pos, negsuc, nat_abs}
+use Rattle.std.proofs.Common.{length, replicate, length-append, Some, None}
 use lib.Signed.{lt_z}
 use mir.Val.{bool_byte}
-use lib.ListN.{length, replicate, length-append, length-replicate}
+use lib.ListN.{length-replicate}
 use Rattle.text.specs.Text.{text, decimal, signed_decimal}
-use Rattle.std.specs.Prelude.{Some, None}
 use Rattle.text.specs.inner.Writing.{Prints}
 use Rattle.text.specs.declared.putting.Text.{Text}
 use Rattle.text.proofs.Writing.{both}

@@ -1,6 +1,5 @@
 -- A change that is accepted, and one that is refused.
-use mathlib.Core.Path.{◌≡◌, sym, ap, ◌∙◌}
-use Rattle.std.specs.Prelude.{Ok, Err}
+use Rattle.std.proofs.Common.{◌≡◌, sym, ap, ◌∙◌, Ok, Err}
 use Rattle.reference.specs.Settings.{converter_of, held_settings}
 use Rattle.reference.specs.Refusals.{accepted, is_accepted, error_decision, decide}
 use Rattle.reference.specs.Changes.{Change, with_wanted, change_places, changed, ChangePromise}

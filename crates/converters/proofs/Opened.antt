@@ -1,6 +1,5 @@
 -- The promise of an opening that is accepted or refused.
-use mathlib.Core.Path.{◌≡◌, refl, ◌∙◌}
-use Rattle.std.specs.Prelude.{Ok, Err}
+use Rattle.std.proofs.Common.{◌≡◌, refl, ◌∙◌, Ok, Err}
 use Rattle.reference.specs.Refusals.{accepted, error_decision, decide, opening_places}
 use Rattle.reference.specs.Settings.{converter_of}
 use Rattle.reference.specs.Promises.{OpeningPromise}

@@ -1,11 +1,5 @@
 -- Places tried one list after the other, and what each refusal of a converter says of its place.
-use mathlib.Core.Path.{◌≡◌, refl, sym, ap, ◌∙◌}
-use mathlib.Core.List.{List, [], ◌∷◌, ◌++◌}
-use mathlib.Core.Bool.{true}
-use Prim.Native.Nat.{◌≤◌, ◌<◌}
-use borrow.Author.Tests.{ne_eqb, eq-eqb}
-use lib.Dec.{eqb}
-use Rattle.std.specs.Prelude.{Result, Ok, Err}
+use Rattle.std.proofs.Common.{◌≡◌, refl, sym, ap, ◌∙◌, List, [], ◌∷◌, ◌++◌, true, ◌≤◌, ◌<◌, ne_eqb, eq-eqb, eqb, Result, Ok, Err}
 use Rattle.std.specs.Result.{result_and}
 use Rattle.reference.specs.Output.{samples_per_frame}
 use Rattle.reference.specs.Settings.{filter_of, converter_of, held_settings, reach_of, true_numbers}

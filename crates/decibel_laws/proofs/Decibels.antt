@@ -1,13 +1,6 @@
 -- Request 13: each statement is a test that antt computes at every whole number of decibels, and a lemma that turns it
 -- into the statement.
-use mathlib.Core.Path.{◌≡◌}
-use mathlib.Core.Logic.{⊎_elim}
-use Prim.Native.Nat.{ℕ, ◌+◌, ◌-◌, ◌<◌}
-use mathlib.Core.Bool.{Bool, ◌&&◌}
-use native.Mathlib.Nat.{le_of_suc-le-suc}
-use native.Mathlib.Omega.{arith}
-use lib.Dec.{T, ltb, ltb→lt}
-use lib.IntN.{ℤ, pos, negsuc}
+use Rattle.std.proofs.Common.{◌≡◌, ⊎_elim, ℕ, ◌+◌, ◌-◌, ◌<◌, Bool, ◌&&◌, le_of_suc-le-suc, arith, T, ltb, ltb→lt, ℤ, pos, negsuc}
 use lib.Ieee.{add, mul, div, lt, of_int, of_bits}
 use lib.Ieee.Fits.{and_l, and_r}
 use Rattle.numbers.proofs.Lists.{below_or}

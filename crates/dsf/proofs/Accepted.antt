@@ -1,15 +1,10 @@
 -- An accepted file as facts, in both directions.
-use mathlib.Core.Path.{◌≡◌, ap}
-use mathlib.Core.List.{List, [], ◌∷◌}
-use mathlib.Core.Bool.{Bool, true, false, cond, not, ◌&&◌}
-use Prim.Native.Nat.{ℕ, ◌+◌, ◌%◌, ◌≤◌}
-use lib.Dec.{T, eqb, leb, leb→le, le→leb, eqb→eq, eqb_refl}
-use native.Mathlib.Omega.{arith}
-use borrow.Author.Tests.{ltb-false}
-use lib.ListN.{length}
+use Rattle.std.proofs.Common.{◌≡◌, ap, List, [], ◌∷◌, Bool, true, false, cond, not, ◌&&◌, ℕ, ◌+◌, ◌%◌, ◌≤◌, T, eqb, leb, leb→le, le→leb, eqb→eq, arith}
+use Rattle.std.proofs.Common.{ltb-false, length}
+use lib.Dec.{eqb_refl}
 use Rattle.reference.specs.Refusals.{accepted, refused, place, decide, is_accepted}
 use Rattle.reference.proofs.Refusals.{pass}
-use Rattle.dsf.specs.Dsf.{channels, layout, frequency, all, fits, stated_length, samples, data_size, needed, places_at, file_places, accepts}
+use Rattle.dsf.specs.Dsf.{channels, layout, frequency, all, fits, stated_length, sample_count, data_size, needed, places_at, file_places, accepts}
 use Rattle.dsf.specs.Reading.{header_places}
 use Rattle.dsf.proofs.Alike.{T_is, T_of, both, left, right}
 use Rattle.dsf.proofs.Tests.{channels_range}
@@ -19,7 +14,7 @@ pub record Sound (file : List ℕ) (n : ℕ) : Type 0 where
   pub long : 92 ≤ n
   pub as_laid_out : T (all (fits file) layout)
   pub at_frequency : T (fits file frequency)
-  pub whole : samples file % 8 ≡ 0
+  pub whole : sample_count file % 8 ≡ 0
   pub stated : stated_length file ≡ n
   pub sized : data_size file ≡ 12 + needed file
   pub ends : 80 + data_size file ≤ n
@@ -64,7 +59,7 @@ module _ (file : List ℕ) (n : ℕ) where
   pub sound_at : T (is_accepted (decide (places_at file n))) → Sound file n
   unfolding places_at
   sound_at h =
-      let t = apart (leb 92 n) (all (fits file) layout) (fits file frequency) (eqb (samples file % 8) 0)
+      let t = apart (leb 92 n) (all (fits file) layout) (fits file frequency) (eqb (sample_count file % 8) 0)
       (eqb (stated_length file) n) (eqb (data_size file) (12 + needed file)) (leb (80 + data_size file) n) h in
       record {
         long = leb→le _ _ t.0;
@@ -79,7 +74,8 @@ module _ (file : List ℕ) (n : ℕ) where
   pub is_sound_at : Sound file n → T (is_accepted (decide (places_at file n)))
   unfolding places_at
   is_sound_at s =
-      together (leb 92 n) (all (fits file) layout) (fits file frequency) (eqb (samples file % 8) 0) (eqb (stated_length file) n) (eqb (data_size file) (12 + needed file)) (leb (80 + data_size file) n)
+      together (leb 92 n) (all (fits file) layout) (fits file frequency) (eqb (sample_count file % 8) 0) (eqb (stated_length file) n)
+      (eqb (data_size file) (12 + needed file)) (leb (80 + data_size file) n)
       (le→leb _ _ s.long) s.as_laid_out s.at_frequency (eq→eqb _ _ s.whole) (eq→eqb _ _ s.stated) (eq→eqb _ _ s.sized) (le→leb _ _ s.ends)
 
 -- a whole file

@@ -1,15 +1,9 @@
 -- Laws of `alike`, `any` and `all`, and of tests joined.
-use mathlib.Core.Path.{◌≡◌, refl, sym, ap, ap₂, ◌∙◌}
-use mathlib.Core.List.{List, [], ◌∷◌, ◌++◌, append-nil}
-use mathlib.Core.Bool.{Bool, true, false, cond, not, ◌&&◌, ◌||◌}
-use mathlib.Core.Logic.{◌⊎◌, ◌≢◌, ⊎_elim}
-use Prim.Native.Nat.{ℕ, zero, suc, ◌+◌, ◌-◌, ◌≤◌, ◌<◌, min}
-use native.Mathlib.Omega.{arith}
-use native.Mathlib.Numerals.{add-one}
-use borrow.Author.Tests.{eq-eqb, ne_eqb}
-use lib.Dec.{T, eqb, eqb→eq, eqb_refl, leb, leb→le}
-use lib.ListN.{length, get_or, take, drop, length-drop, drop_of_length-le}
-use lib.Seq.{drop-cons, drop-nil, drop-drop, drop-append-le, take_all}
+use Rattle.std.proofs.Common.{◌≡◌, refl, sym, ap, ap₂, ◌∙◌, List, [], ◌∷◌, ◌++◌, append-nil, Bool, true, false, cond, not, ◌&&◌, ◌||◌, ◌⊎◌, ◌≢◌, ⊎_elim, ℕ}
+use Rattle.std.proofs.Common.{zero, suc, ◌+◌, ◌-◌, ◌≤◌, ◌<◌, min, arith, add-one, eq-eqb, ne_eqb, T, eqb, eqb→eq, leb, leb→le, length, get_or, take, drop}
+use Rattle.std.proofs.Common.{length-drop, drop_of_length-le, drop-cons, drop-drop, take_all}
+use lib.Dec.{eqb_refl}
+use lib.Seq.{drop-nil, drop-append-le}
 use Rattle.numbers.proofs.Lists.{below_or}
 use Rattle.numbers.specs.Lists.{Each}
 use Rattle.dsf.specs.Dsf.{Field, fixed, alike, any, all, fits}

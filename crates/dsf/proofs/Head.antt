@@ -1,20 +1,12 @@
 -- The first 92 bytes and the length decide: the tests on them are the file's.
-use mathlib.Core.Path.{◌≡◌, refl, sym, ap, ap₂, ◌∙◌}
-use mathlib.Core.List.{List, [], ◌∷◌}
-use mathlib.Core.Bool.{Bool, ◌&&◌, ◌||◌}
-use mathlib.Core.Logic.{⊎_elim}
-use Prim.Native.Nat.{ℕ, zero, suc, ◌+◌, ◌≤◌, ◌<◌}
-use native.Mathlib.Omega.{arith}
-use lib.Dec.{T, eqb, leb, leb→le}
-use borrow.Author.Tests.{lt-ltb, le-ltb}
-use lib.ListN.{length, take, drop}
-use lib.Seq.{take-take, take_all, length-take-le}
+use Rattle.std.proofs.Common.{◌≡◌, refl, sym, ap, ap₂, ◌∙◌, List, [], ◌∷◌, Bool, ◌&&◌, ◌||◌, ⊎_elim, ℕ, zero, suc, ◌+◌, ◌≤◌, ◌<◌, arith, T, eqb, leb, leb→le}
+use Rattle.std.proofs.Common.{lt-ltb, le-ltb, length, take, drop, take-take, take_all, length-take-le}
 use Rattle.numbers.proofs.Lists.{below_or}
 use Rattle.reference.specs.Refusals.{decide}
 use Rattle.reference.proofs.Refusals.{at_first, at_next}
 use Rattle.text.specs.Bytes.{number_of, number_at, bytes}
 use Rattle.dsf.specs.Dsf.{Field, pairs, orders, layout, frequency, alike, any, all, fits, stated_length, channel_type}
-use Rattle.dsf.specs.Dsf.{channels, bits_per_sample, samples, data_size, data_bytes, needed, frames, places_at, file_places}
+use Rattle.dsf.specs.Dsf.{channels, bits_per_sample, sample_count, data_size, data_bytes, needed, frames, places_at, file_places}
 use Rattle.text.specs.Text.{text}
 use Rattle.dsf.specs.Theorems.{HeaderRight}
 use Rattle.dsf.specs.Reading.{file_header, header_places}
@@ -70,8 +62,8 @@ module _ (l m : List ℕ) (e : take 92 l ≡ take 92 m) where
   unfolding ends_by all frequency bytes
   frequency_same = fits_same frequency tt
 
-  pub samples_same : samples l ≡ samples m
-  unfolding samples
+  pub samples_same : sample_count l ≡ sample_count m
+  unfolding sample_count
   samples_same = number_same 64 8 (omega arith)
 
   pub needed_same : needed l ≡ needed m

@@ -1,12 +1,8 @@
 -- A header read back, whatever follows it; and a file that begins as a header does.
-use mathlib.Core.Path.{◌≡◌, refl}
-use mathlib.Core.List.{List, [], ◌++◌}
-use Prim.Native.Nat.{ℕ}
-use lib.Dec.{T}
-use lib.ListN.{length, drop}
+use Rattle.std.proofs.Common.{◌≡◌, refl, List, [], ◌++◌, ℕ, T, length, drop}
 use Rattle.text.specs.Text.{text}
 use Rattle.text.specs.Bytes.{number_of, number_at, bytes}
-use Rattle.dsf.specs.Dsf.{pair, layout, pairs, orders, frequency, alike, any, all, fits, stated_length, channel_type, channels, bits_per_sample, samples, data_size}
+use Rattle.dsf.specs.Dsf.{pair, layout, pairs, orders, frequency, alike, any, all, fits, stated_length, channel_type, channels, bits_per_sample, sample_count, data_size}
 use Rattle.dsf.specs.Headers.{header_with}
 use Rattle.dsf.proofs.Alike.{Alike, seg, fixed_alike, all_each}
 use Rattle.text.proofs.Bytes.{padded}
@@ -40,8 +36,8 @@ module _ (xs ys : List ℕ) (t c b : ℕ) (ns : List ℕ) (z : ℕ) (r : List �
   unfolding header_with padded bytes text bits_per_sample number_at
   read_bits = refl
 
-  pub read_samples : samples (h ++ r) ≡ number_of (padded 8 ns)
-  unfolding header_with padded bytes text samples number_at
+  pub read_samples : sample_count (h ++ r) ≡ number_of (padded 8 ns)
+  unfolding header_with padded bytes text sample_count number_at
   read_samples = refl
 
   pub read_size : data_size (h ++ r) ≡ number_of (bytes 8 z)

@@ -1,11 +1,7 @@
 -- Laws of a file's fields as numbers.
-use mathlib.Core.Path.{◌≡◌, refl}
-use mathlib.Core.List.{List, [], ◌∷◌, ◌++◌}
-use Prim.Native.Nat.{ℕ, zero, suc, ◌+◌, ◌%◌, ◌≤◌}
-use native.Mathlib.Omega.{arith}
-use lib.Dec.{T, eqb, eqb_refl, ltb, ltb→lt}
-use lib.ListN.{length, take, drop, length-drop, take-append-drop}
-use lib.Seq.{length-take-le}
+use Rattle.std.proofs.Common.{◌≡◌, refl, List, [], ◌∷◌, ◌++◌, ℕ, zero, suc, ◌+◌, ◌%◌, ◌≤◌, arith, T, eqb, ltb, ltb→lt, length, take, drop, length-drop}
+use Rattle.std.proofs.Common.{take-append-drop, length-take-le}
+use lib.Dec.{eqb_refl}
 use Rattle.text.specs.Bytes.{Bytes, number_of, number_at, bytes}
 use Rattle.text.proofs.Bytes.{padded, none, cons, bytes_number, each_take, each_drop}
 use Rattle.dsf.specs.Dsf.{alike, all}

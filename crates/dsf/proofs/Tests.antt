@@ -1,19 +1,13 @@
 -- The tests of the header, as the code puts them together.
-use mathlib.Core.Path.{◌≡◌, sym, ap, ◌∙◌}
-use mathlib.Core.List.{List, [], ◌∷◌}
-use mathlib.Core.Bool.{Bool, true, false, not, ◌&&◌, or-false, and-false}
-use mathlib.Core.Logic.{⊎_elim}
-use Prim.Native.Nat.{ℕ, ◌≤◌, ◌<◌}
-use native.Mathlib.Omega.{arith}
-use lib.Dec.{T, eqb, leb, eqb→eq, lit≤}
-use lib.ListN.{length, take, drop, length-drop}
-use lib.Seq.{drop-drop}
-use borrow.Author.Tests.{le-leb, lt-leb, lt-ltb, le-ltb}
+use Rattle.std.proofs.Common.{◌≡◌, sym, ap, ◌∙◌, List, [], ◌∷◌, Bool, true, false, not, ◌&&◌, ⊎_elim, ℕ, ◌≤◌, ◌<◌, arith, T, eqb, leb, eqb→eq, lit≤, length}
+use Rattle.std.proofs.Common.{take, drop, length-drop, drop-drop, le-leb, lt-ltb, le-ltb}
+use mathlib.Core.Bool.{or-false, and-false}
+use borrow.Author.Tests.{lt-leb}
 use Rattle.numbers.proofs.Lists.{below_or}
 use Rattle.reference.specs.Refusals.{Decision, accepted, refused, place, decide}
 use Rattle.reference.proofs.Refusals.{at_first, at_next}
 use Rattle.text.specs.Bytes.{number_of, number_at, bytes}
-use Rattle.dsf.specs.Dsf.{pair, fixed, pairs, layout, alike, any, all, fits, channels, right_format, right_lengths, places_at}
+use Rattle.dsf.specs.Dsf.{pair, fixed, pairs, layout, alike, any, all, fits, channels, right_format, right_sizes, places_at}
 use Rattle.dsf.specs.Reading.{header_places}
 use Rattle.dsf.proofs.Alike.{T_of, left, right, alike_after, alike_take, any_elim, all_each}
 use Rattle.text.proofs.Bytes.{number_bytes}
@@ -50,7 +44,7 @@ module _ (file : List ℕ) (n : ℕ) where
 
   pub too_short : n < 92 → decide (places_at file n) ≡ refused 9 []
   unfolding places_at
-  too_short l = nine x (right_format file) (right_lengths file n) (rw (lt-leb 92 n l))
+  too_short l = nine x (right_format file) (right_sizes file n) (rw (lt-leb 92 n l))
 
   pub short_head : length file < 92 → decide (header_places file n) ≡ refused 9 []
   unfolding header_places
@@ -69,7 +63,7 @@ module _ (file : List ℕ) (n : ℕ) where
 
   pub wrong_layout : all (fits file) layout ≡ false → decide (header_places file n) ≡ refused 9 []
   unfolding places_at
-  wrong_layout e = either_head (nine x (right_format file) (right_lengths file n) (rw e (and-false (leb 92 n))))
+  wrong_layout e = either_head (nine x (right_format file) (right_sizes file n) (rw e (and-false (leb 92 n))))
 
   module _ (h : 92 ≤ length file) (l : 92 ≤ n) (laid : all (fits file) layout ≡ true) where
     right_layout : x ≡ true
@@ -77,15 +71,15 @@ module _ (file : List ℕ) (n : ℕ) where
 
     pub wrong_format : right_format file ≡ false → decide (header_places file n) ≡ refused 10 []
     unfolding places_at
-    wrong_format e = long_head h ∙ ten x (right_format file) (right_lengths file n) right_layout e
+    wrong_format e = long_head h ∙ ten x (right_format file) (right_sizes file n) right_layout e
 
-    pub wrong_lengths : right_format file ≡ true → right_lengths file n ≡ false → decide (header_places file n) ≡ refused 11 []
+    pub wrong_lengths : right_format file ≡ true → right_sizes file n ≡ false → decide (header_places file n) ≡ refused 11 []
     unfolding places_at
-    wrong_lengths e f = long_head h ∙ eleven x (right_format file) (right_lengths file n) right_layout e f
+    wrong_lengths e f = long_head h ∙ eleven x (right_format file) (right_sizes file n) right_layout e f
 
-    pub all_right : right_format file ≡ true → right_lengths file n ≡ true → decide (header_places file n) ≡ accepted
+    pub all_right : right_format file ≡ true → right_sizes file n ≡ true → decide (header_places file n) ≡ accepted
     unfolding places_at
-    all_right e f = long_head h ∙ none x (right_format file) (right_lengths file n) right_layout e f
+    all_right e f = long_head h ∙ none x (right_format file) (right_sizes file n) right_layout e f
 
 -- ---- the channels of a beginning that is laid out
 number_alike : (l v : List ℕ) → T (alike l v) → number_of (take (length v) l) ≤ number_of v

@@ -1,5 +1,6 @@
 -- A DSF file, as Sony's document lays it out: what stands where, what is refused, and the frames that it holds.
-use Rattle.std.specs.Prelude.{List, [], ◌∷◌, ◌++◌, Bool, true, false, cond, not, ◌&&◌, ◌||◌, ℕ, ◌+◌, ◌*◌, ◌-◌, ◌/◌, ◌%◌, ◌^◌, eqb, ltb, leb, length, get_or, drop}
+use Rattle.std.specs.Prelude.{List, [], ◌∷◌, ◌++◌, Bool, true, false, cond, not, ◌&&◌, ◌||◌, ℕ, ◌+◌, ◌*◌, ◌-◌, ◌/◌, ◌%◌, ◌^◌, eqb, ltb, leb, length, get_or}
+use Rattle.std.specs.Prelude.{drop}
 use Rattle.text.specs.Text.{text}
 use Rattle.text.specs.Bytes.{number_at, bytes}
 use Rattle.numbers.specs.Lists.{tabulate, total}
@@ -87,8 +88,8 @@ module _ (file : List ℕ) where
   bits_per_sample = number_at file 60 4
 
   -- of one channel
-  unfoldable pub samples : ℕ
-  samples = number_at file 64 8
+  unfoldable pub sample_count : ℕ
+  sample_count = number_at file 64 8
 
   unfoldable pub data_size : ℕ
   data_size = number_at file 84 8
@@ -104,7 +105,7 @@ blocks n = (n + 4095) / block
 
 -- the data's bytes, of so many channels with so many samples
 unfoldable pub data_bytes : ℕ → ℕ → ℕ
-data_bytes samples channels = blocks (samples / 8) * block * channels
+data_bytes sample_count channels = blocks (sample_count / 8) * block * channels
 
 -- where byte q of channel c stands in the data: the channels' blocks in turn
 unfoldable pub data_place : ℕ → ℕ → ℕ → ℕ
@@ -114,30 +115,30 @@ data_place channels c q = (q / block * channels + c) * block + q % block
 
 -- the frames that so many samples of a channel make, the last perhaps short
 unfoldable pub frames_in : ℕ → ℕ
-frames_in samples = (samples / 8 + 4703) / frame_bytes
+frames_in sample_count = (sample_count / 8 + 4703) / frame_bytes
 
 module _ (file : List ℕ) where
   -- the data's bytes that the sample count needs
   unfoldable pub needed : ℕ
-  needed = data_bytes (samples file) (channels file)
+  needed = data_bytes (sample_count file) (channels file)
 
   unfoldable pub frames : ℕ
-  frames = frames_in (samples file)
+  frames = frames_in (sample_count file)
 
   -- the sampling frequency, and whole bytes of samples
   abbrev pub right_format : Bool
-  right_format = fits file frequency && eqb (samples file % 8) 0
+  right_format = fits file frequency && eqb (sample_count file % 8) 0
 
   -- of a file of n bytes: the length that it states, the data chunk's size, and that it holds that chunk
-  abbrev pub right_lengths : ℕ → Bool
-  right_lengths n = eqb (stated_length file) n && (eqb (data_size file) (12 + needed) && leb (80 + data_size file) n)
+  abbrev pub right_sizes : ℕ → Bool
+  right_sizes n = eqb (stated_length file) n && (eqb (data_size file) (12 + needed) && leb (80 + data_size file) n)
 
   -- a file of n bytes: 9, then 10, then 11. Only its first 92 bytes and n are asked for
   unfoldable pub places_at : ℕ → List Place
   places_at n =
       place (not (leb 92 n && all (fits file) layout)) 9 []
       ∷ place (not right_format) 10 []
-      ∷ place (not (right_lengths n)) 11 []
+      ∷ place (not (right_sizes n)) 11 []
       ∷ []
 
   unfoldable pub file_places : List Place
@@ -165,10 +166,10 @@ unfoldable pub our_byte : ℕ → ℕ → ℕ
 our_byte bits x = cond (eqb bits 1) (turned x) x
 
 -- ---- frames in our layout, of data whose byte j is `read j`
-module _ (read : ℕ → ℕ) (channels bits samples : ℕ) where
+module _ (read : ℕ → ℕ) (channels bits sample_count : ℕ) where
   -- byte q of channel c, and idle past the last sample
   unfoldable pub sample_byte : ℕ → ℕ → ℕ
-  sample_byte c q = cond (ltb q (samples / 8)) (our_byte bits (read (data_place channels c q))) idle
+  sample_byte c q = cond (ltb q (sample_count / 8)) (our_byte bits (read (data_place channels c q))) idle
 
   -- byte j of all channels in turn: of channel j % channels its byte j / channels
   unfoldable pub turn_byte : ℕ → ℕ
@@ -184,7 +185,7 @@ module _ (file : List ℕ) where
   file_data j = get_or file (92 + j) 0
 
   abbrev pub file_frame : ℕ → List ℕ
-  file_frame = data_frame file_data (channels file) (bits_per_sample file) (samples file)
+  file_frame = data_frame file_data (channels file) (bits_per_sample file) (sample_count file)
 
 -- ---- samples
 

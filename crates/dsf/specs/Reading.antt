@@ -2,12 +2,12 @@
 use Rattle.std.specs.Prelude.{◌≡◌, List, [], ◌∷◌, ℕ, ltb, length, take, Result, IfOk}
 use Rattle.reference.specs.Refusals.{Place, place, decide, decision}
 use Rattle.reference.specs.declared.PcmError.{PcmError}
-use Rattle.dsf.specs.Dsf.{channel_type, channels, bits_per_sample, samples, frames, places_at, file_places}
+use Rattle.dsf.specs.Dsf.{channel_type, channels, bits_per_sample, sample_count, frames, places_at, file_places}
 use Rattle.dsf.specs.declared.DsfHeader.{DsfHeader}
 
 -- what a file holds
 unfoldable pub file_header : List ℕ → DsfHeader
-file_header file = record { channel_type = channel_type file; channels = channels file; bits_per_sample = bits_per_sample file; samples = samples file; frames = frames file }
+file_header file = record { channel_type = channel_type file; channels = channels file; bits_per_sample = bits_per_sample file; samples = sample_count file; frames = frames file }
 
 -- the answer of a call that tries these places: of a file that is accepted, what it holds
 pub record OpenedPromise (places : List Place) (head : List ℕ) (answer : Result DsfHeader PcmError) : Type 0 where

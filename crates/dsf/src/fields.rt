@@ -83,7 +83,7 @@ pub fn data_bytes(samples: u64, channels: u64) -> u64
 }
 
 // The data's bytes that a file's sample count and channels need.
-#[tactic(auto, using(crate::proofs::Tests::channels_few), unfolding(crate::specs::Dsf::needed, crate::specs::Dsf::samples, crate::specs::Dsf::channels))]
+#[tactic(auto, using(crate::proofs::Tests::channels_few), unfolding(crate::specs::Dsf::needed, crate::specs::Dsf::sample_count, crate::specs::Dsf::channels))]
 pub fn needs(file: &[u8]) -> u64
     requires { all (fits file.now) layout ≡ true }
     ensures { (result ≡ needed file.now) × (result ≤ 6 * (2 ^ 61 + 4095)) }

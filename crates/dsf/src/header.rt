@@ -1,7 +1,7 @@
 // The refusals of a file in their order, and the numbers of one that is accepted.
 ghost use Rattle.std.specs.Prelude.{◌≡◌, true};
 ghost use Rattle.reference.specs.Refusals.{decide, decision};
-ghost use Rattle.dsf.specs.Dsf.{layout, all, fits, right_format, right_lengths};
+ghost use Rattle.dsf.specs.Dsf.{layout, all, fits, right_format, right_sizes};
 ghost use Rattle.dsf.specs.Reading.{ReadPromise, HeaderPromise, header_places, file_header};
 
 use crate::DsfHeader;
@@ -10,7 +10,7 @@ use crate::fields::{at_frequency, laid_out, needs};
 use reference::{FRAME_BYTES, PcmError};
 
 // The frequency and whole bytes of samples: else 10.
-#[tactic(auto, unfolding(crate::specs::Dsf::samples))]
+#[tactic(auto, unfolding(crate::specs::Dsf::sample_count))]
 fn right_format(head: &[u8]) -> bool
     ensures { result ≡ right_format head.now }
 {
@@ -19,9 +19,9 @@ fn right_format(head: &[u8]) -> bool
 
 // The stated length, the data chunk's size, and the file's end: else 11.
 #[tactic(auto, unfolding(crate::specs::Dsf::stated_length, crate::specs::Dsf::data_size))]
-fn right_lengths(head: &[u8], total: u64) -> bool
+fn right_sizes(head: &[u8], total: u64) -> bool
     requires { all (fits head.now) layout ≡ true }
-    ensures { result ≡ right_lengths head.now total }
+    ensures { result ≡ right_sizes head.now total }
 {
     let need = needs(head);
     number(head, 12, 8) == total && number(head, 84, 8) == 12 + need && 92 + need <= total
@@ -38,14 +38,14 @@ fn tried(head: &[u8], total: u64) -> Result<(), PcmError>
     if !right_format(head) {
         return Err(PcmError::DsfFormat);
     }
-    if !right_lengths(head, total) {
+    if !right_sizes(head, total) {
         return Err(PcmError::DsfLength);
     }
     Ok(())
 }
 
 // The numbers in a header.
-#[tactic(auto, unfolding(crate::specs::Reading::file_header, crate::specs::Dsf::channel_type, crate::specs::Dsf::channels, crate::specs::Dsf::bits_per_sample, crate::specs::Dsf::samples, crate::specs::Dsf::frames, crate::specs::Dsf::frames_in))]
+#[tactic(auto, unfolding(crate::specs::Reading::file_header, crate::specs::Dsf::channel_type, crate::specs::Dsf::channels, crate::specs::Dsf::bits_per_sample, crate::specs::Dsf::sample_count, crate::specs::Dsf::frames, crate::specs::Dsf::frames_in))]
 pub fn header_numbers(head: &[u8]) -> DsfHeader
     ensures { result ≡ file_header head.now }
 {

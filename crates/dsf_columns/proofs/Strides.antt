@@ -1,56 +1,35 @@
 -- Bytes at a stride, and a channel put together from pieces.
-use mathlib.Core.Path.{◌≡◌, refl, sym, ap, ◌∙◌}
-use mathlib.Core.List.{List}
-use mathlib.Core.Logic.{◌≢◌, ⊎_elim}
-use Prim.Native.Nat.{ℕ, ◌+◌, ◌*◌, ◌-◌, ◌/◌, ◌%◌, ◌^◌, ◌≤◌, ◌<◌}
-use native.Mathlib.Nat.{add-mul, mul-le-mul, mul-le-mul_right}
-use native.Mathlib.Omega.{arith}
-use lib.Dec.{ltb, lt→ltb, ltb→lt}
-use lib.ListN.{length, get_or, set, take, drop, length-set, length-drop}
-use lib.Seq.{get_or-set_same, get_or-set_other, get_or-take, get_or-drop, length-take-le}
-use Rattle.numbers.proofs.Lists.{below_or}
+use Rattle.std.proofs.Common.{◌≡◌, refl, sym, ap, ◌∙◌, List, ◌≢◌, ℕ, ◌+◌, ◌*◌, ◌-◌, ◌/◌, ◌%◌, ◌^◌, ◌≤◌, ◌<◌, add-mul, mul-le-mul, mul-le-mul_right, arith, ltb}
+use Rattle.std.proofs.Common.{lt→ltb, ltb→lt, length, get_or, set, take, drop, length-drop, get_or-take, get_or-drop, length-take-le}
+use Rattle.numbers.specs.inner.Lists.{Written}
+use Rattle.numbers.proofs.Lists.{written_more, written_then}
 use Rattle.reference.specs.Frames.{idle}
 use Rattle.dsf.specs.Dsf.{blocks, data_place}
-use Rattle.dsf_columns.specs.inner.Columns.{Strided, Column, column_byte, ColumnArgs}
+use Rattle.dsf_columns.specs.inner.Columns.{column_byte, ColumnArgs}
 use Rattle.dsf_columns.proofs.Blocks.{remainder, place_below, group}
 use Rattle.dsf.proofs.Alike.{pick, skip}
 
--- ---- bytes at a stride
-module _ {f : ℕ → ℕ} {at stride : ℕ} {old : List ℕ} where
-  pub strided_none : Strided f at stride 0 old old
-  strided_none = record { same = refl; done = λ i l. absurd (omega arith); kept = λ j h. refl }
+-- ---- places at a stride, of which none comes twice
+module _ (at stride : ℕ) (some : 1 ≤ stride) where
+  apart : (i n : ℕ) → i < n → at + i * stride ≢ at + n * stride
+  apart i n l = omega (arith, mul-le-mul_right stride l)
 
-  pub strided_more : {new : List ℕ} {n j v : ℕ} → 1 ≤ stride → Strided f at stride n old new → j ≡ at + n * stride → j < length old → v ≡ f n → Strided f at stride (n + 1) old (set new j v)
-  strided_more {new} {n} {j} {v} s w p l e =
-      record {
-        same = length-set new j v ∙ w.same;
-        done = λ i m. ⊎_elim (λ b. get_or-set_other new j (at + i * stride) v 0 (omega (arith, mul-le-mul_right stride b)) ∙ w.done i b) (λ b.
-            let q : i ≡ n = omega arith in
-            rw (q, ← p) (get_or-set_same new j v 0 (omega (arith, w.same)) ∙ e)) (below_or i n);
-        kept = λ k h. get_or-set_other new j k v 0 (λ q. h n (omega arith) (q ∙ p)) ∙ w.kept k (λ i m. h i (omega arith));
-      }
+  module _ {f : ℕ → ℕ} {old : List ℕ} where
+    pub strided_more : {new : List ℕ} {n v : ℕ} → Written 0 (λ i. at + i * stride) f n old new → at + n * stride < length old → v ≡ f n
+        → Written 0 (λ i. at + i * stride) f (n + 1) old (set new (at + n * stride) v)
+    strided_more {n = n} w l e = written_more w refl (λ i m. apart i n m) (omega (arith, w.same)) e
 
--- ---- a channel from its pieces
-module _ {n c : ℕ} (l : c < n) where
-  cell : (m i : ℕ) → m * n + c + i * n ≡ (m + i) * n + c
-  cell m i = omega (arith, add-mul m i n)
+    -- and more of them, from place `to` on
+    pub strided_then : {g : ℕ → ℕ} (to : ℕ) {m s : ℕ} {mid new : List ℕ} → to ≡ at + m * stride → Written 0 (λ i. at + i * stride) f m old mid
+        → Written 0 (λ i. to + i * stride) g s mid new → ((i : ℕ) → i < s → g i ≡ f (m + i)) → Written 0 (λ i. at + i * stride) f (m + s) old new
+    strided_then to {m = m} p u w e = written_then u w (λ i l. next i) (λ i k l n z. apart i (m + k) (omega arith) (z ∙ next k)) e
+      where
+        next : (i : ℕ) → to + i * stride ≡ at + (m + i) * stride
+        next i = omega (arith, p, add-mul m i stride)
 
-  other : (k d m i : ℕ) → d < n → d ≢ c → k * n + d ≢ m * n + c + i * n
-  other k d m i h g e = g (sym (remainder k n d h) ∙ ap (λ (x : ℕ). x % n) (e ∙ cell m i) ∙ remainder (m + i) n c l)
-
-  pub column_none : {f : ℕ → ℕ} {old : List ℕ} → Column n c 0 f old old
-  column_none = record { same = refl; done = λ k h. absurd (omega arith); kept = λ k d h g. refl }
-
-  pub column_more : {f g : ℕ → ℕ} {m s : ℕ} {old mid new : List ℕ} → Column n c m f old mid → Strided g (m * n + c) n s mid new → ((i : ℕ) → i < s → g i ≡ f (m + i)) → Column n c (m + s) f old new
-  column_more {f} {g} {m} {s} {old} {mid} {new} w p e =
-      record {
-        same = p.same ∙ w.same;
-        done = λ k h. ⊎_elim (λ b. p.kept (k * n + c) (λ i j. omega (arith, mul-le-mul_right n b)) ∙ w.done k b) (λ b.
-            let q : m + (k - m) ≡ k = omega arith in
-            let r = p.done (k - m) (omega arith) ∙ e (k - m) (omega arith) in
-            rw (cell m (k - m), q) at r) (below_or k m);
-        kept = λ k d h j. p.kept (k * n + d) (λ i t. other k d m i h j) ∙ w.kept k d h j;
-      }
+-- the places of a channel are none of another's
+pub other : {n c d : ℕ} (i k : ℕ) → c < n → d < n → d ≢ c → i * n + d ≢ k * n + c
+other {n} {c} {d} i k l h g e = g (sym (remainder i n d h) ∙ ap (λ (x : ℕ). x % n) e ∙ remainder k n c l)
 
 -- ---- where the pieces stand
 module _ {n c first end start size out : ℕ} (a : ColumnArgs n c first end start size out) where
@@ -125,14 +104,15 @@ module _ {n c first end start size out : ℕ} (a : ColumnArgs n c first end star
       pub piece_fits : (from : ℕ) → from + (stop - q) ≤ size → (q - first) * n + c + length (take (from + (stop - q) - from) (drop from window)) * n < out + n
       piece_fits from g = rw (long_from from g) (cells (q - first) (stop - q) (omega (arith, a.most)))
 
-      pub piece : {old mid new : List ℕ} → Column n c (q - first) (column_byte window table n first end start c) old mid
-          → Strided (λ i. get_or table (get_or part i 0) 0) ((q - first) * n + c) n (length part) mid new → Column n c (stop - first) (column_byte window table n first end start c) old new
+      pub piece : {old mid new : List ℕ} → Written 0 (λ i. c + i * n) (column_byte window table n first end start c) (q - first) old mid
+          → Written 0 (λ i. (q - first) * n + c + i * n) (λ i. get_or table (get_or part i 0) 0) (length part) mid new
+          → Written 0 (λ i. c + i * n) (column_byte window table n first end start c) (stop - first) old new
       piece w p =
           let r : q - first + length part ≡ stop - first = omega (arith, long) in
-          rw r at (column_more a.channel w p (λ i g. let m : i < stop - q = omega (arith, long) in rw k (piece_byte q stop i f e b m)))
+          rw r at (strided_then c n (omega (arith, a.channel)) ((q - first) * n + c) (omega arith) w p (λ i g. let m : i < stop - q = omega (arith, long) in rw k (piece_byte q stop i f e b m)))
 
-    pub rest : {old mid new : List ℕ} → Column n c (end - first) (column_byte window table n first end start c) old mid
-        → Strided (λ i. idle) ((end - first) * n + c) n (first + 4704 - end) mid new → Column n c 4704 (column_byte window table n first end start c) old new
+    pub rest : {old mid new : List ℕ} → Written 0 (λ i. c + i * n) (column_byte window table n first end start c) (end - first) old mid
+        → Written 0 (λ i. (end - first) * n + c + i * n) (λ i. idle) (first + 4704 - end) mid new → Written 0 (λ i. c + i * n) (column_byte window table n first end start c) 4704 old new
     rest w p =
         let r : end - first + (first + 4704 - end) ≡ 4704 = omega (arith, a.some, a.most) in
-        rw r at (column_more a.channel w p (λ i g. idle_byte i))
+        rw r at (strided_then c n (omega (arith, a.channel)) ((end - first) * n + c) (omega arith) w p (λ i g. idle_byte i))

@@ -1,8 +1,5 @@
 -- A byte turned twice is the byte, by a test over all 256.
-use mathlib.Core.Path.{◌≡◌, refl}
-use mathlib.Core.Bool.{Bool, true, false, cond, ◌&&◌}
-use Prim.Native.Nat.{ℕ, ◌<◌}
-use lib.Dec.{T, eqb, ltb, eqb→eq}
+use Rattle.std.proofs.Common.{◌≡◌, refl, Bool, true, false, cond, ◌&&◌, ℕ, ◌<◌, T, eqb, ltb, eqb→eq}
 use Rattle.numbers.specs.Lists.{total}
 use Rattle.numbers.specs.Tests.{each_below}
 use Rattle.numbers.proofs.Tests.{each_below_at}

@@ -1,7 +1,8 @@
 // A channel of a frame: pieces of its blocks through a table of bytes, and idle bytes past the data.
-ghost use Rattle.std.specs.Prelude.{◌≡◌, ◌+◌, ◌*◌, ◌≤◌, ◌<◌, ◌^◌, length, get_or};
+ghost use Rattle.std.specs.Prelude.{◌+◌, ◌*◌, ◌≤◌, ◌<◌, ◌^◌, length, get_or};
+ghost use Rattle.numbers.specs.inner.Lists.{Written};
 ghost use Rattle.reference.specs.Frames.{idle, frame_bytes};
-ghost use Rattle.dsf_columns.specs.inner.Columns.{Strided, Column, column_byte, ColumnArgs};
+ghost use Rattle.dsf_columns.specs.inner.Columns.{column_byte, ColumnArgs};
 
 use reference::FRAME_BYTES;
 
@@ -15,7 +16,7 @@ pub struct Stretch<'a> {
 // A contiguous piece through a table, into places at a stride.
 pub fn spread(src: &[u8], table: &[u8; 256], at: usize, stride: usize, out: &mut [u8])
     requires { (1 ≤ stride) × (at + length src.now * stride < length out.old + stride) × (length out.old + stride < 2 ^ 64) }
-    ensures { Strided (λ i. get_or table.now (get_or src.now i 0) 0) at stride (length src.now) out.old out.new }
+    ensures { Written 0 (λ i. at + i * stride) (λ i. get_or table.now (get_or src.now i 0) 0) (length src.now) out.old out.new }
 {
     for k in 0..src.len() {
         out[at + k * stride] = table[src[k] as usize];
@@ -25,7 +26,7 @@ pub fn spread(src: &[u8], table: &[u8; 256], at: usize, stride: usize, out: &mut
 // Idle bytes at a stride.
 fn idle_at(count: usize, at: usize, stride: usize, out: &mut [u8])
     requires { (1 ≤ stride) × (at + count * stride < length out.old + stride) × (length out.old + stride < 2 ^ 64) }
-    ensures { Strided (λ i. idle) at stride count out.old out.new }
+    ensures { Written 0 (λ i. at + i * stride) (λ i. idle) count out.old out.new }
 {
     for k in 0..count {
         out[at + k * stride] = 105;
@@ -44,8 +45,8 @@ pub struct Channel {
 // A channel of a frame: its pieces, block by block, and idle bytes past the data.
 pub fn column(window: &Stretch, table: &[u8; 256], channel: Channel, out: &mut [u8])
     requires { ColumnArgs channel.channels channel.number channel.first channel.end window.now.start (length window.now.bytes.now) (length out.old) }
-    ensures { Column channel.channels channel.number frame_bytes
-        (column_byte window.now.bytes.now table.now channel.channels channel.first channel.end window.now.start channel.number) out.old out.new }
+    ensures { Written 0 (λ i. channel.number + i * channel.channels)
+        (column_byte window.now.bytes.now table.now channel.channels channel.first channel.end window.now.start channel.number) frame_bytes out.old out.new }
 {
     let stride = channel.channels as usize;
     let mut q = channel.first;

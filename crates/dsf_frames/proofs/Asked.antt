@@ -1,17 +1,11 @@
 -- What the places of an asked frame decide; the window that every file has past its header; and frames of windows as
 -- the file's.
-use mathlib.Core.Path.{◌≡◌, refl, sym, ap, ap₂, ◌∙◌}
-use mathlib.Core.List.{List, [], ◌∷◌, ◌++◌}
-use mathlib.Core.Bool.{Bool, true, false, cond, not, ◌&&◌, and-false}
-use mathlib.Core.Logic.{◌≢◌, ⊎_elim}
-use Rattle.std.specs.Prelude.{Result, Ok, Err, Some, None, min}
-use Prim.Native.Nat.{ℕ, suc, ◌+◌, ◌-◌, ◌*◌, ◌/◌, ◌%◌, ◌^◌, ◌≤◌, ◌<◌}
-use native.Mathlib.Nat.{mul-le-mul_right, mod-lt, div-lt_iff_lt-mul}
-use native.Mathlib.Omega.{arith}
-use borrow.Author.Tests.{le-leb, lt-leb, lt-ltb, le-ltb, eq-eqb, ne_eqb, eqb-true, leb-true, leb-false, not-false}
-use lib.Dec.{T, ltb, leb, ltb→lt}
-use lib.ListN.{length, get_or, take, drop, length-drop}
-use lib.Seq.{get_or-drop, length-take-le}
+use Rattle.std.proofs.Common.{◌≡◌, refl, sym, ap, ap₂, ◌∙◌, List, [], ◌∷◌, ◌++◌, Bool, true, false, cond, not, ◌&&◌, ◌≢◌, ⊎_elim, Result, Ok, Err, Some, None}
+use Rattle.std.proofs.Common.{min, ℕ, suc, ◌+◌, ◌-◌, ◌*◌, ◌/◌, ◌%◌, ◌^◌, ◌≤◌, ◌<◌, mul-le-mul_right, mod-lt, div-lt_iff_lt-mul, arith, le-leb, lt-ltb, le-ltb}
+use Rattle.std.proofs.Common.{eq-eqb, ne_eqb, eqb-true, leb-true, leb-false, T, ltb, leb, ltb→lt, length, get_or, take, drop, length-drop, get_or-drop}
+use Rattle.std.proofs.Common.{length-take-le}
+use mathlib.Core.Bool.{and-false}
+use borrow.Author.Tests.{lt-leb, not-false}
 use Rattle.numbers.specs.Lists.{tabulate}
 use Rattle.numbers.proofs.Lists.{below_or, length_tabulate, get_d_tabulate, is_tabulate}
 use Rattle.reference.specs.Frames.{frame_length, idle}
@@ -21,7 +15,7 @@ use Rattle.reference.specs.Promises.{by_decision}
 use Rattle.reference.specs.declared.PcmError.{PcmError}
 use Rattle.reference.proofs.Promises.{accepted_is, exit_accepted, exit_refused}
 use Rattle.text.specs.Bytes.{Bytes, number_at}
-use Rattle.dsf.specs.Dsf.{blocks, data_bytes, data_place, channels, bits_per_sample, samples, needed, frames, frames_in}
+use Rattle.dsf.specs.Dsf.{blocks, data_bytes, data_place, channels, bits_per_sample, sample_count, needed, frames, frames_in}
 use Rattle.dsf.specs.Dsf.{file_places, frame_places, accepts, our_byte, sample_byte, turn_byte, data_frame, file_data, file_frame}
 use Rattle.dsf.specs.Reading.{HeadOf, file_header, header_places}
 use Rattle.dsf.specs.declared.DsfHeader.{DsfHeader}
@@ -100,17 +94,17 @@ module _ (n s f start size room : ℕ) where
 -- ---- the rest of a file past its header is a window for each of its frames
 module _ (file : List ℕ) (f room : ℕ) where
   abbrev whole : List Place
-  whole = asked_places (channels file) (samples file) f 0 (length (drop 92 file)) room
+  whole = asked_places (channels file) (sample_count file) f 0 (length (drop 92 file)) room
 
   abbrev own : List Place
   own = place (leb (frames file) f) 5 (number f ∷ []) ∷ lent_length 7 room (frame_length (channels file)) ∷ []
 
-  covered : T (accepts file) → leb (window_end (channels file) (samples file) f) (0 + length (drop 92 file)) ≡ true
+  covered : T (accepts file) → leb (window_end (channels file) (sample_count file) f) (0 + length (drop 92 file)) ≡ true
   unfolding accepts file_places window_end blocks needed data_bytes
   covered a =
       let s = sound_at file (length file) a in
-      let last = min (samples file / 8) (f * 4704 + 4704) in
-      let k : (last + 4095) / 4096 * 4096 ≤ (samples file / 8 + 4095) / 4096 * 4096 = omega arith in
+      let last = min (sample_count file / 8) (f * 4704 + 4704) in
+      let k : (last + 4095) / 4096 * 4096 ≤ (sample_count file / 8 + 4095) / 4096 * 4096 = omega arith in
       let within : (last + 4095) / 4096 * 4096 * channels file ≤ 0 + length (drop 92 file) = omega (arith, mul-le-mul_right (channels file) k, s.sized, s.ends, length-drop 92 file) in
       le-leb _ _ within
 
@@ -118,9 +112,9 @@ module _ (file : List ℕ) (f room : ℕ) where
   unfolding frames
   same_asked a =
       ⊎_elim
-      (λ l. held (channels file) (samples file) f 0 (length (drop 92 file)) room l (omega arith) (covered a) ∙ sym (at_next _ _ (lt-leb (frames_in (samples file)) f l)))
-      (λ l. no_frame (channels file) (samples file) f 0 (length (drop 92 file)) room l ∙ sym (at_first _ _ (le-leb (frames_in (samples file)) f l)))
-      (below_or f (frames_in (samples file)))
+      (λ l. held (channels file) (sample_count file) f 0 (length (drop 92 file)) room l (omega arith) (covered a) ∙ sym (at_next _ _ (lt-leb (frames_in (sample_count file)) f l)))
+      (λ l. no_frame (channels file) (sample_count file) f 0 (length (drop 92 file)) room l ∙ sym (at_first _ _ (le-leb (frames_in (sample_count file)) f l)))
+      (below_or f (frames_in (sample_count file)))
 
   pub whole_places : decide (window_places file (length file) f 0 (length (drop 92 file)) room) ≡ decide (frame_places file f room)
   unfolding window_places frame_places accepts
@@ -136,7 +130,7 @@ module _ (file : List ℕ) (f room : ℕ) where
 pub whole_frame : (file : List ℕ) (f : ℕ) → window_frame file f (drop 92 file) 0 ≡ file_frame file f
 whole_frame file f =
     let same : window_data (drop 92 file) 0 ≡ file_data file = λ i j. at j i in
-    ap (λ (read : ℕ → ℕ). data_frame read (channels file) (bits_per_sample file) (samples file) f) same
+    ap (λ (read : ℕ → ℕ). data_frame read (channels file) (bits_per_sample file) (sample_count file) f) same
   where
     at : (j : ℕ) → get_or (drop 92 file) (j - 0) 0 ≡ get_or file (92 + j) 0
     at j = let z : j - 0 ≡ j = omega arith in rw z (get_or-drop 92 file j 0)
@@ -169,7 +163,7 @@ pub window_refused : (head : List ℕ) (n f start size : ℕ) {x out : List ℕ}
     ≡ decide (header_places head n) → Framed (window_places head n f start size (length out)) x out out (Err e)
 unfolding window_places
 window_refused head n f start size {out = out} e a =
-    let s = decide_stop (header_places head n) (asked_places (channels head) (samples head) f start size (length out)) (ap is_accepted (sym a) ∙ error_refuses e) in
+    let s = decide_stop (header_places head n) (asked_places (channels head) (sample_count head) f start size (length out)) (ap is_accepted (sym a) ∙ error_refuses e) in
     turned_down _ e (a ∙ sym s)
 
 -- ---- a frame by its bytes
@@ -191,14 +185,14 @@ module _ (file head : List ℕ) (n : ℕ) (h : HeadOf file head n) (b : Bytes fi
   few : (1 ≤ channels head) × (channels head ≤ 6)
   few = head_channels head n accepted_head
 
-  window_args : WindowArgs (channels head) (samples head) f start (length window) room
+  window_args : WindowArgs (channels head) (sample_count head) f start (length window) room
   unfolding window_places
-  window_args = args (channels head) (samples head) f start (length window) room (sym (sym (decide_skip (header_places head n) _ accepted_head) ∙ e)) few.0 few.1
+  window_args = args (channels head) (sample_count head) f start (length window) room (sym (sym (decide_skip (header_places head n) _ accepted_head) ∙ e)) few.0 few.1
 
   same_header : file_header head ≡ file_header file
   same_header = (header_right file head n h).1
 
-  same_samples : samples head ≡ samples file
+  same_samples : sample_count head ≡ sample_count file
   unfolding file_header
   same_samples = ap (λ (x : DsfHeader). x.samples) same_header
 
@@ -206,18 +200,18 @@ module _ (file head : List ℕ) (n : ℕ) (h : HeadOf file head n) (b : Bytes fi
   unfolding accepts file_places is_accepted
   long = (sound_at file (length file) (T_of (ap is_accepted (sym (header_right file head n h).0 ∙ accepted_head)))).long
 
-  small : samples head < 2 ^ 64
-  unfolding samples number_at
+  small : sample_count head < 2 ^ 64
+  unfolding sample_count number_at
   small =
       let part = take 8 (drop 64 file) in
       let size : length part ≡ 8 = length-take-le 8 (drop 64 file) (omega (arith, length-drop 64 file, long)) in
       let s = number_small part (each_take 8 (drop 64 file) (each_drop 64 b)) in
-      let p : samples file < 256 ^ 8 = rw size at s in
+      let p : sample_count file < 256 ^ 8 = rw size at s in
       omega (arith, same_samples)
 
   cell : (c k : ℕ) → c < channels head → k < 4704
-      → sample_byte (window_data window start) (channels head) (bits_per_sample head) (samples head) c (f * 4704 + k)
-      ≡ sample_byte (file_data file) (channels head) (bits_per_sample head) (samples head) c (f * 4704 + k)
+      → sample_byte (window_data window start) (channels head) (bits_per_sample head) (sample_count head) c (f * 4704 + k)
+      ≡ sample_byte (file_data file) (channels head) (bits_per_sample head) (sample_count head) c (f * 4704 + k)
   unfolding sample_byte data_place
   cell c k l m =
       let q = f * 4704 + k in
@@ -226,14 +220,15 @@ module _ (file head : List ℕ) (n : ℕ) (h : HeadOf file head n) (b : Bytes fi
       (λ t.
       let p : start + (place_at g q - start) ≡ place_at g q = omega (arith, above g q (omega arith)) in
       let i : place_at g q - start < length window = omega (arith, within g q (suc q) (omega arith) (omega arith) (omega arith) (omega arith)) in
-      ap (λ (x : ℕ). cond (ltb q (samples head / 8)) (our_byte (bits_per_sample head) x) idle) (rw p at (w.holds (place_at g q - start) i)))
-      (λ t. skip (ltb q (samples head / 8)) _ _ (λ u. omega (arith, ltb→lt q (samples head / 8) u)) ∙ sym (skip (ltb q (samples head / 8)) _ _ (λ u. omega (arith, ltb→lt q (samples head / 8) u))))
-      (below_or q (samples head / 8))
+      ap (λ (x : ℕ). cond (ltb q (sample_count head / 8)) (our_byte (bits_per_sample head) x) idle) (rw p at (w.holds (place_at g q - start) i)))
+      (λ t. skip (ltb q (sample_count head / 8)) _ _ (λ u. omega (arith, ltb→lt q (sample_count head / 8) u))
+      ∙ sym (skip (ltb q (sample_count head / 8)) _ _ (λ u. omega (arith, ltb→lt q (sample_count head / 8) u))))
+      (below_or q (sample_count head / 8))
 
   frame_is : window_frame head f window start ≡ file_frame file f
   unfolding file_header
   frame_is =
-      frame_same (window_data window start) (file_data file) (channels head) (bits_per_sample head) (samples head) f few.0 cell
+      frame_same (window_data window start) (file_data file) (channels head) (bits_per_sample head) (sample_count head) f few.0 cell
       ∙ ap (λ (x : DsfHeader). data_frame (file_data file) x.channels x.bits_per_sample x.samples f) same_header
 
 pub window_right : WindowRight

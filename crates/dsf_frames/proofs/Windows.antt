@@ -1,23 +1,18 @@
-use Rattle.std.proofs.Common.{min}
+use Rattle.std.proofs.Common.{min, ◌≡◌, sym, ap₂, ◌∙◌, List, ⊎_elim, ℕ, ◌+◌, ◌*◌, ◌-◌, ◌/◌, ◌%◌, ◌^◌, ◌<◌, add-mul, mul_assoc, mod-lt, div-add-mod'}
+use Rattle.std.proofs.Common.{div-lt_iff_lt-mul, arith, leb, ltb, lt→ltb, ltb→lt, length, get_or, le-leb}
 -- A frame out of a window, from its channels.
-use mathlib.Core.Path.{◌≡◌, sym, ap₂, ◌∙◌}
-use mathlib.Core.List.{List}
-use mathlib.Core.Logic.{⊎_elim}
-use Prim.Native.Nat.{ℕ, ◌+◌, ◌*◌, ◌-◌, ◌/◌, ◌%◌, ◌^◌, ◌<◌}
-use native.Mathlib.Nat.{add-mul, mul_assoc, mod-lt, div-add-mod', div-lt_iff_lt-mul}
-use native.Mathlib.Omega.{arith}
-use lib.Dec.{leb, ltb, lt→ltb, ltb→lt}
-use lib.ListN.{length, get_or}
-use borrow.Author.Tests.{le-leb, lt-leb}
+use borrow.Author.Tests.{lt-leb}
+use Rattle.numbers.specs.inner.Lists.{Written}
 use Rattle.numbers.proofs.Lists.{below_or, is_tabulate}
 use Rattle.reference.specs.Frames.{idle}
 use Rattle.dsf.specs.Dsf.{data_place, our_byte, sample_byte, turn_byte, data_frame}
 use Rattle.dsf_frames.specs.Reading.{window_start, window_end, window_data}
 use Rattle.dsf_frames.specs.inner.Windows.{WindowArgs}
-use Rattle.dsf_columns.specs.inner.Columns.{Column, column_byte, Ordering, ColumnArgs}
+use Rattle.dsf_columns.specs.inner.Columns.{column_byte, Ordering, ColumnArgs}
 use Rattle.dsf.specs.inner.Orders.{bit_order}
 use Rattle.dsf_columns.proofs.Turned.{ordered_is}
 use Rattle.dsf_columns.proofs.Blocks.{quotient, remainder}
+use Rattle.dsf_columns.proofs.Strides.{other}
 use Rattle.dsf.proofs.Alike.{pick, skip}
 
 -- ---- byte j of frame f: of channel j % n its byte j / n of the frame
@@ -32,10 +27,13 @@ module _ (read : ℕ → ℕ) (n bits samples' f j : ℕ) (z : 0 < n) where
 -- ---- a frame from its channels
 
 -- one channel more
-pub next : {n c : ℕ} {f : ℕ → ℕ → ℕ} {mid new : List ℕ} → c < n → ((d k : ℕ) → d < c → k < 4704 → get_or mid (k * n + d) 0 ≡ f d k) → Column n c 4704 (f c) mid new
+pub next : {n c : ℕ} {f : ℕ → ℕ → ℕ} {mid new : List ℕ} → c < n → ((d k : ℕ) → d < c → k < 4704 → get_or mid (k * n + d) 0 ≡ f d k) → Written 0 (λ i. c + i * n) (f c) 4704 mid new
     → (d k : ℕ) → d < c + 1 → k < 4704 → get_or new (k * n + d) 0 ≡ f d k
 next {n} {c} {f} {mid} {new} l h w d k m t =
-    ⊎_elim (λ b. w.kept k d (omega arith) (omega arith) ∙ h d k b t) (λ b. let e : d ≡ c = omega arith in rw e (w.done k t)) (below_or d c)
+    ⊎_elim (λ b. w.kept (k * n + d) (λ i s z. other k i l (omega arith) (omega arith) (z ∙ omega arith)) ∙ h d k b t) (λ b.
+    let e : d ≡ c = omega arith in
+    let z : c + k * n ≡ k * n + c = omega arith in
+    rw e (rw z at (w.done k t))) (below_or d c)
 
 module _ {n samples' f start size out : ℕ} (a : WindowArgs n samples' f start size out) where
   abbrev last : ℕ

@@ -1,18 +1,10 @@
 -- The first 92 bytes and the length decide whether a file is hopeful, and where it turns hopeless.
-use mathlib.Core.Path.{◌≡◌, refl, sym, ap, ◌∙◌}
-use mathlib.Core.List.{List, [], ◌∷◌}
-use mathlib.Core.Bool.{true, false, ◌&&◌, ◌||◌}
-use mathlib.Core.Logic.{⊎_elim}
-use Prim.Native.Nat.{ℕ, ◌+◌, ◌%◌, ◌≤◌, ◌<◌}
-use native.Mathlib.Omega.{arith}
-use lib.Dec.{T, T_not, eqb, ltb, leb, le→leb, ltb→lt}
-use borrow.Author.Tests.{lt-ltb}
-use lib.ListN.{length, take}
-use lib.Seq.{take-take, take_all, length-take-le}
+use Rattle.std.proofs.Common.{◌≡◌, refl, sym, ap, ◌∙◌, List, [], ◌∷◌, true, false, ◌&&◌, ◌||◌, ⊎_elim, ℕ, ◌+◌, ◌%◌, ◌≤◌, ◌<◌, arith, T, T_not, eqb, ltb, leb}
+use Rattle.std.proofs.Common.{le→leb, ltb→lt, lt-ltb, length, take, take-take, take_all, length-take-le}
 use Rattle.numbers.proofs.Lists.{below_or}
 use Rattle.reference.specs.Refusals.{decide, is_accepted}
 use Rattle.text.specs.Bytes.{bytes}
-use Rattle.dsf.specs.Dsf.{fixed, layout, frequency, all, fits, stated_length, samples, needed, accepts}
+use Rattle.dsf.specs.Dsf.{fixed, layout, frequency, all, fits, stated_length, sample_count, needed, accepts}
 use Rattle.dsf.specs.Reading.{HeadOf, header_places}
 use Rattle.dsf.proofs.Alike.{T_of, F_of, left, right, both, or_elim, or_right, ends_by}
 use Rattle.dsf.proofs.Head.{header_right, fits_same, layout_same, frequency_same, samples_same, needed_same, stated_same}
@@ -50,7 +42,7 @@ unfolding head_hopeful
 longer_head p n m l h t =
     let a = all (fits p) layout in
     let b = all (fits p) (frequency ∷ fixed 84 (bytes 8 (12 + needed p)) ∷ []) in
-    let c = eqb (samples p % 8) 0 in
+    let c = eqb (sample_count p % 8) 0 in
     let d = leb (92 + needed p) (stated_length p) in
     let t1 = right a (b && (c && (ltb m 20 || d && leb m (stated_length p)))) t in
     let t2 = right b (c && (ltb m 20 || d && leb m (stated_length p))) t1 in

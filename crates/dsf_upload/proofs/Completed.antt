@@ -1,16 +1,11 @@
 -- A hopeful beginning has an accepted continuation: its header completed, then zero bytes.
-use mathlib.Core.Path.{◌≡◌, sym, ap, ap₂, ◌∙◌}
-use mathlib.Core.List.{List, [], ◌∷◌, ◌++◌, append_assoc}
-use mathlib.Core.Logic.{⊎_elim}
-use Prim.Native.Nat.{ℕ, ◌+◌, ◌-◌, ◌^◌, ◌≤◌, ◌<◌}
-use native.Mathlib.Omega.{arith}
-use lib.Dec.{T, lit≤}
-use lib.Seq.{drop-drop}
-use lib.ListN.{length, drop, replicate, length-append, length-drop, length-replicate, drop_of_length-le}
+use Rattle.std.proofs.Common.{◌≡◌, sym, ap, ap₂, ◌∙◌, List, [], ◌∷◌, ◌++◌, append_assoc, ⊎_elim, ℕ, ◌+◌, ◌-◌, ◌^◌, ◌≤◌, ◌<◌, arith, T, lit≤, drop-drop, length}
+use Rattle.std.proofs.Common.{drop, replicate, length-append, length-drop, drop_of_length-le}
+use lib.ListN.{length-replicate}
 use Rattle.numbers.proofs.Lists.{below_or}
 use Rattle.text.specs.Text.{text}
 use Rattle.text.specs.Bytes.{Bytes, number_of, number_at, bytes}
-use Rattle.dsf.specs.Dsf.{pair, alike, any, all, fits, layout, pairs, orders, data_bytes, stated_length, channels, samples, data_size, needed}
+use Rattle.dsf.specs.Dsf.{pair, alike, any, all, fits, layout, pairs, orders, data_bytes, stated_length, channels, sample_count, data_size, needed}
 use Rattle.dsf.specs.Headers.{header_with}
 use Rattle.dsf_upload.specs.Uploads.{Continued}
 use Rattle.dsf_upload.specs.Deciding.{hopeful}
@@ -48,12 +43,12 @@ module _ (p : List ℕ) (o : Open p) (xs : List ℕ) (t c b z : ℕ) where
       (each_append (each_all (text "data") tt) (each_bytes 8 z)))))))))))))))
 
 -- ---- the sample count and the channels of a beginning
-samples_padded : (p : List ℕ) → number_of (padded 8 (drop 64 p)) ≡ samples p
-unfolding samples number_at
+samples_padded : (p : List ℕ) → number_of (padded 8 (drop 64 p)) ≡ sample_count p
+unfolding sample_count number_at
 samples_padded p = number_padded 8 (drop 64 p)
 
-no_samples : (p : List ℕ) → length p ≤ 64 → samples p ≡ 0
-unfolding samples number_at number_of
+no_samples : (p : List ℕ) → length p ≤ 64 → sample_count p ≡ 0
+unfolding sample_count number_at number_of
 no_samples p h = rw (drop_of_length-le p h)
 
 nothing_needed : (p : List ℕ) → length p ≤ 64 → needed p ≡ 0
@@ -66,10 +61,10 @@ channels_is p t c s h a =
     let w : T (alike (drop 52 p) (bytes 4 c)) = rw (drop-drop 4 48 p) at (alike_after (drop 48 p) (bytes 4 t) (bytes 4 c) a.is) in
     ap number_of (alike_take (drop 52 p) (bytes 4 c) (omega (arith, length-drop 52 p)) w) ∙ number_bytes 4 c s
 
-needed_is : (p : List ℕ) (t c : ℕ) → c < 256 ^ 4 → Alike (drop 48 p) (pair t c) → data_bytes (samples p) c ≡ needed p
+needed_is : (p : List ℕ) (t c : ℕ) → c < 256 ^ 4 → Alike (drop 48 p) (pair t c) → data_bytes (sample_count p) c ≡ needed p
 unfolding needed
 needed_is p t c s a =
-    ⊎_elim (λ l. rw (no_samples p (omega arith)) (no_data c ∙ sym (no_data (channels p)))) (λ l. ap (data_bytes (samples p)) (sym (channels_is p t c s l a)))
+    ⊎_elim (λ l. rw (no_samples p (omega arith)) (no_data c ∙ sym (no_data (channels p)))) (λ l. ap (data_bytes (sample_count p)) (sym (channels_is p t c s l a)))
     (below_or (length p) 56)
 
 small_padded : (xs : List ℕ) → Bytes xs → number_of (padded 8 xs) < 256 ^ 8
@@ -117,7 +112,7 @@ module _ (p : List ℕ) (bp : Bytes p) (o : Open p) (xs : List ℕ) (bx : Bytes 
     below : stated < 256 ^ 8
     below = small_padded xs bx
 
-    same_samples : samples (h ++ r) ≡ samples p
+    same_samples : sample_count (h ++ r) ≡ sample_count p
     same_samples = H.read_samples xs (drop 20 p) t c b (drop 64 p) size r ∙ samples_padded p
 
     same_needed : needed (h ++ r) ≡ needed p

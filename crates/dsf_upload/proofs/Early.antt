@@ -1,17 +1,11 @@
 -- `hopeful` decides whether a beginning has an accepted continuation; where a file's beginnings turn hopeless; and the
 -- promise leaves one answer.
-use mathlib.Core.Path.{◌≡◌, refl, sym, ap, ◌∙◌}
-use mathlib.Core.List.{List, [], ◌++◌, append_assoc}
-use mathlib.Core.Bool.{not}
-use mathlib.Core.Logic.{⊎_elim}
-use Prim.Native.Nat.{ℕ, suc, ◌≤◌, ◌<◌}
-use native.Mathlib.Omega.{arith}
-use lib.Dec.{T, T_not, not_T}
-use lib.ListN.{length, take, drop, take-append-drop}
-use lib.Seq.{take_all, take-take, length-take-le}
+use Rattle.std.proofs.Common.{◌≡◌, refl, sym, ap, ◌∙◌, List, [], ◌++◌, append_assoc, not, ⊎_elim, ℕ, suc, ◌≤◌, ◌<◌, arith, T, T_not, length, take, drop}
+use Rattle.std.proofs.Common.{take-append-drop, take_all, take-take, length-take-le}
+use lib.Dec.{not_T}
 use Rattle.numbers.proofs.Lists.{below_or}
 use Rattle.text.specs.Bytes.{Bytes, number_of, number_at}
-use Rattle.dsf.specs.Dsf.{alike, any, all, fits, layout, pairs, orders, frequency, stated_length, channels, samples, blocks, data_bytes, needed, accepts}
+use Rattle.dsf.specs.Dsf.{alike, any, all, fits, layout, pairs, orders, frequency, stated_length, channels, sample_count, blocks, data_bytes, needed, accepts}
 use Rattle.dsf_upload.specs.Uploads.{Continued, Hopeless, ShortestHopeless, UploadPromise}
 use Rattle.dsf_upload.specs.Deciding.{head_hopeful, hopeful}
 use Rattle.dsf_upload.specs.Theorems.{Decides, OneAnswer}
@@ -40,7 +34,7 @@ shorter_continued m n file h b c =
     continued_front (take m file) (drop m front) (each_drop m (each_take n file b)) (rw e at c)
 
 pub empty_hopeful : T (hopeful [])
-unfolding hopeful head_hopeful all fits any alike layout pairs orders frequency samples needed data_bytes blocks channels number_at number_of
+unfolding hopeful head_hopeful all fits any alike layout pairs orders frequency sample_count needed data_bytes blocks channels number_at number_of
 empty_hopeful = tt
 
 module _ (file : List ℕ) (b : Bytes file) where

@@ -1,16 +1,10 @@
 -- A beginning of an accepted file is hopeful.
-use mathlib.Core.Path.{◌≡◌, ap, ap₂, ◌∙◌}
-use mathlib.Core.List.{List, ◌++◌}
-use mathlib.Core.Logic.{⊎_elim}
-use Prim.Native.Nat.{ℕ, ◌+◌, ◌*◌, ◌/◌, ◌%◌, ◌≤◌, ◌<◌}
-use native.Mathlib.Nat.{mul-le-mul, zero-mul}
-use native.Mathlib.Omega.{arith}
-use lib.Dec.{T}
-use lib.ListN.{length, drop, length-append, drop_of_length-le}
+use Rattle.std.proofs.Common.{◌≡◌, ap, ap₂, ◌∙◌, List, ◌++◌, ⊎_elim, ℕ, ◌+◌, ◌*◌, ◌/◌, ◌%◌, ◌≤◌, ◌<◌, mul-le-mul, zero-mul, arith, T, length, drop}
+use Rattle.std.proofs.Common.{length-append, drop_of_length-le}
 use Rattle.numbers.proofs.Lists.{below_or}
 use Rattle.text.specs.Text.{text}
 use Rattle.text.specs.Bytes.{Bytes, bytes}
-use Rattle.dsf.specs.Dsf.{fixed, alike, all, fits, layout, pairs, orders, frequency, blocks, data_bytes, stated_length, channels, samples, data_size, needed, accepts}
+use Rattle.dsf.specs.Dsf.{fixed, alike, all, fits, layout, pairs, orders, frequency, blocks, data_bytes, stated_length, channels, sample_count, data_size, needed, accepts}
 use Rattle.dsf_upload.specs.Deciding.{hopeful}
 use Rattle.dsf.proofs.Alike.{all_map, fits_begin, alike_fixed, alike_begin_at, ends_by, all_map_where, fits_longer}
 use Rattle.text.proofs.Bytes.{number_at_begin, number_same}
@@ -38,19 +32,19 @@ size_alike file b h = field_alike file 84 8 b h
 
 module _ (p q : List ℕ) where
   pub needed_begin : needed p ≤ needed (p ++ q)
-  unfolding needed samples channels
+  unfolding needed sample_count channels
   needed_begin = data_more _ _ _ _ (number_at_begin 64 8 p q) (number_at_begin 52 4 p q)
 
   pub needed_same : 72 ≤ length p → needed (p ++ q) ≡ needed p
-  unfolding needed samples channels
+  unfolding needed sample_count channels
   needed_same h = ap₂ data_bytes (number_same 64 8 p q h) (number_same 52 4 p q (omega arith))
 
   pub stated_same : 20 ≤ length p → stated_length (p ++ q) ≡ stated_length p
   unfolding stated_length
   stated_same h = number_same 12 8 p q h
 
-  whole_begin : samples (p ++ q) % 8 ≡ 0 → samples p % 8 ≡ 0
-  unfolding samples
+  whole_begin : sample_count (p ++ q) % 8 ≡ 0 → sample_count p % 8 ≡ 0
+  unfolding sample_count
   whole_begin h = eighths_at 64 8 p q h
 
   pub begins : Bytes (p ++ q) → T (accepts (p ++ q)) → T (hopeful p)
@@ -74,8 +68,8 @@ module _ (p q : List ℕ) where
 
 -- ---- past the header only the stated length counts
 module _ (p q : List ℕ) (h : 92 ≤ length p) where
-  whole_longer : samples p % 8 ≡ 0 → samples (p ++ q) % 8 ≡ 0
-  unfolding samples
+  whole_longer : sample_count p % 8 ≡ 0 → sample_count (p ++ q) % 8 ≡ 0
+  unfolding sample_count
   whole_longer e = rw (number_same 64 8 p q (omega arith)) e
 
   size_ends : T (ends_by 92 (fixed 84 (bytes 8 (12 + needed p))))

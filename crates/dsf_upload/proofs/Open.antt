@@ -1,12 +1,7 @@
 -- A hopeful beginning as facts, in both directions.
-use mathlib.Core.Path.{◌≡◌}
-use mathlib.Core.List.{List}
-use mathlib.Core.Bool.{Bool, true, false, not, ◌&&◌, ◌||◌}
-use Prim.Native.Nat.{ℕ, ◌+◌, ◌%◌, ◌≤◌, ◌<◌}
-use native.Mathlib.Omega.{arith}
-use lib.Dec.{T, eqb, ltb, leb, leb→le, le→leb, ltb→lt, nltb→le, eqb→eq}
-use lib.ListN.{length}
-use Rattle.dsf.specs.Dsf.{fixed, layout, frequency, all, fits, stated_length, samples, needed}
+use Rattle.std.proofs.Common.{◌≡◌, List, Bool, true, false, not, ◌&&◌, ◌||◌, ℕ, ◌+◌, ◌%◌, ◌≤◌, ◌<◌, arith, T, eqb, ltb, leb, leb→le, le→leb, ltb→lt, nltb→le}
+use Rattle.std.proofs.Common.{eqb→eq, length}
+use Rattle.dsf.specs.Dsf.{fixed, layout, frequency, all, fits, stated_length, sample_count, needed}
 use Rattle.text.specs.Bytes.{bytes}
 use Rattle.dsf.proofs.Alike.{both, left, right, or_elim}
 use Rattle.dsf.proofs.Accepted.{eq→eqb}
@@ -16,7 +11,7 @@ pub record Open (p : List ℕ) : Type 0 where
   pub as_laid_out : T (all (fits p) layout)
   pub at_frequency : T (fits p frequency)
   pub sized : T (fits p (fixed 84 (bytes 8 (12 + needed p))))
-  pub whole : samples p % 8 ≡ 0
+  pub whole : sample_count p % 8 ≡ 0
   pub room : 20 ≤ length p → 92 + needed p ≤ stated_length p
   pub within : 20 ≤ length p → length p ≤ stated_length p
 
@@ -42,7 +37,7 @@ module _ (p : List ℕ) where
   opens h =
       let room = leb (92 + needed p) (stated_length p) in
       let within = leb (length p) (stated_length p) in
-      let t = hopes_apart (all (fits p) layout) (fits p frequency) (fits p (fixed 84 (bytes 8 (12 + needed p)))) (eqb (samples p % 8) 0) (ltb (length p) 20) room within h in
+      let t = hopes_apart (all (fits p) layout) (fits p frequency) (fits p (fixed 84 (bytes 8 (12 + needed p)))) (eqb (sample_count p % 8) 0) (ltb (length p) 20) room within h in
       record {
         as_laid_out = t.0;
         at_frequency = t.1;
@@ -56,7 +51,7 @@ module _ (p : List ℕ) where
   unfolding hopeful head_hopeful all
   is_open o =
       hopes_together (all (fits p) layout) (fits p frequency) (fits p (fixed 84 (bytes 8 (12 + needed p))))
-      (eqb (samples p % 8) 0) (ltb (length p) 20) (leb (92 + needed p) (stated_length p)) (leb (length p) (stated_length p))
+      (eqb (sample_count p % 8) 0) (ltb (length p) 20) (leb (92 + needed p) (stated_length p)) (leb (length p) (stated_length p))
       o.as_laid_out o.at_frequency o.sized (eq→eqb _ _ o.whole) (late (ltb (length p) 20) (nltb→le _ _))
     where
       late : (b : Bool) → (T (not b) → 20 ≤ length p) → T (b || leb (92 + needed p) (stated_length p) && leb (length p) (stated_length p))

@@ -29,7 +29,7 @@ fn has_room(total: u64, stated: u64, need: u64) -> bool
 }
 
 // Whether a beginning that is laid out, of so many bytes, has an accepted continuation.
-#[tactic(auto, using(crate::proofs::Joined::hopeful_is, text::proofs::Bytes::eight_bytes), unfolding(dsf::specs::Dsf::samples, dsf::specs::Dsf::stated_length))]
+#[tactic(auto, using(crate::proofs::Joined::hopeful_is, text::proofs::Bytes::eight_bytes), unfolding(dsf::specs::Dsf::sample_count, dsf::specs::Dsf::stated_length))]
 fn goes_on(head: &[u8], total: u64) -> bool
     requires { all (fits head.now) layout ≡ true }
     ensures { result ≡ head_hopeful head.now total }

@@ -1,11 +1,8 @@
 -- What a table's fields tell, one after the other.
-use mathlib.Core.Path.{◌≡◌, refl, sym, ap, ap₂, ◌∙◌}
-use lib.Dec.{leb}
-use Rattle.std.proofs.Common.{arith, Bor, add-one, drop-cons, Option, Some, None, option_map, List, [], ◌∷◌, Bool}
-use Rattle.std.proofs.Common.{true, false, cond, ◌&&◌, ◌||◌, ℕ, zero, suc, ◌+◌, ◌<◌, ◌≤◌, length, get_or, map, drop}
+use Rattle.std.proofs.Common.{◌≡◌, refl, sym, ap, ap₂, ◌∙◌, leb, arith, Bor, add-one, drop-cons, Option, Some, None, option_map, List, [], ◌∷◌, Bool, true}
+use Rattle.std.proofs.Common.{false, cond, ◌&&◌, ◌||◌, ℕ, zero, suc, ◌+◌, ◌<◌, ◌≤◌, length, get_or, map, drop, leb-true}
 use Rattle.std.proofs.Math.Seq.{take-length}
 use Rattle.std.proofs.lemmas.List.{drop_all}
-use borrow.Author.Tests.{leb-true}
 use Rattle.reference.proofs.Refusals.{and_left, and_right}
 use Rattle.text.specs.Bytes.{number_of, number_at}
 use Rattle.std.specs.List.{list_any}

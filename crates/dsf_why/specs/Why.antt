@@ -1,6 +1,6 @@
 -- Why a DSF file is refused: the first wrong field.
 use Rattle.std.specs.Prelude.{Option, Some, None, unwrap_or, option_map, List, [], ◌∷◌, cond, not, ℕ, ◌+◌, ◌%◌, min, eqb, ltb, length, get_or}
-use Rattle.dsf.specs.Dsf.{Field, layout, frequency, fits, stated_length, samples, data_size, needed}
+use Rattle.dsf.specs.Dsf.{Field, layout, frequency, fits, stated_length, sample_count, data_size, needed}
 use Rattle.text.specs.Bytes.{number_of, number_at}
 use Rattle.dsf_why.specs.declared.Why.{Why}
 
@@ -25,7 +25,7 @@ of_field head f = why f.start (number_at head f.start (length (first_value f))) 
 unfoldable pub why_laid_out : List ℕ → ℕ → Why
 why_laid_out head n =
     cond (not (fits head frequency)) (why 56 (number_at head 56 4) 2822400)
-    (cond (not (eqb (samples head % 8) 0)) (why 64 (samples head) 8)
+    (cond (not (eqb (sample_count head % 8) 0)) (why 64 (sample_count head) 8)
     (cond (not (eqb (stated_length head) n)) (why 12 (stated_length head) n)
     (cond (not (eqb (data_size head) (12 + needed head))) (why 84 (data_size head) (12 + needed head))
     (cond (ltb n (92 + needed head)) (why 92 n (92 + needed head)) (why 0 0 0)))))

@@ -1,9 +1,8 @@
 // Why a DSF file is refused: the first wrong field, what stands there, and what is asked.
 #![tactic(auto)]
 
-ghost use Rattle.std.specs.Prelude.{◌≡◌, true, false, cond, not, ◌+◌, ◌%◌, map, option_map, unwrap_or, ltb, eqb, ◌≤◌, length};
-ghost use Rattle.dsf.specs.Dsf.{all, fits, layout, frequency, samples, stated_length, data_size, needed};
-ghost use Rattle.text.specs.Bytes.{number_at};
+ghost use Rattle.std.specs.Prelude.{◌≡◌, true, ◌+◌, ◌%◌, map, option_map, ◌≤◌, length};
+ghost use Rattle.dsf.specs.Dsf.{all, fits, layout, sample_count, stated_length, data_size};
 ghost use Rattle.dsf_why.specs.inner.Fields.{field_of};
 ghost use Rattle.dsf_why.specs.Why as spelled;
 ghost use Rattle.dsf_why.specs.Why.{first_unfit, of_field, why_of};
@@ -64,7 +63,7 @@ fn layout(head: &[u8]) -> Option<Why>
 }
 
 // The first wrong number of a file that is laid out: the frequency, the samples, and the lengths.
-#[tactic(auto, unfolding(crate::specs::Why::why_laid_out, dsf::specs::Dsf::samples, dsf::specs::Dsf::stated_length, dsf::specs::Dsf::data_size))]
+#[tactic(auto, unfolding(crate::specs::Why::why_laid_out, dsf::specs::Dsf::sample_count, dsf::specs::Dsf::stated_length, dsf::specs::Dsf::data_size))]
 fn numbers(head: &[u8], length: u64) -> Why
     requires { all (fits head.now) layout ≡ true }
     ensures { result ≡ spelled.why_laid_out head.now «length» }

@@ -1,4 +1,3 @@
-pub mod Pieces
 pub mod Places
 pub mod Written
 pub mod Rewritten

@@ -1,8 +1,5 @@
 -- Which channel's byte stands at a place of the data, and where it stands.
-use mathlib.Core.Path.{◌≡◌}
-use Prim.Native.Nat.{ℕ, ◌+◌, ◌*◌, ◌/◌, ◌%◌, ◌<◌}
-use native.Mathlib.Nat.{div-add-mod', mod-lt, div-lt_iff_lt-mul}
-use native.Mathlib.Omega.{arith}
+use Rattle.std.proofs.Common.{◌≡◌, ℕ, ◌+◌, ◌*◌, ◌/◌, ◌%◌, ◌<◌, div-add-mod', mod-lt, div-lt_iff_lt-mul, arith}
 use Rattle.dsf.specs.Dsf.{data_place}
 use Rattle.dsf_columns.proofs.Blocks.{quotient, remainder, group}
 use Rattle.dsf_write.specs.Written.{data_channel, data_byte}

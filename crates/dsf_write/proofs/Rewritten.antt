@@ -1,18 +1,12 @@
 -- Request 9: what was read from a file of the kind that is written is written back as the file.
-use mathlib.Core.Path.{◌≡◌, refl, sym, ap, ap₂, ◌∙◌}
-use mathlib.Core.List.{List, [], ◌++◌, append-nil}
-use mathlib.Core.Logic.{⊎_elim}
-use Prim.Native.Nat.{ℕ, suc, ◌+◌, ◌*◌, ◌/◌, ◌≤◌, ◌<◌}
-use native.Mathlib.Nat.{mul-le-mul_right, mul_assoc, mul-div_cancel}
-use native.Mathlib.Omega.{arith}
-use lib.Dec.{T, ltb, lt→ltb, ltb→lt}
-use lib.ListN.{length, get_or, take, drop, length-drop, drop_of_length-le}
-use lib.Seq.{get_or-take, get_or-drop, length-take-le}
+use Rattle.std.proofs.Common.{◌≡◌, refl, sym, ap, ap₂, ◌∙◌, List, [], ◌++◌, append-nil, ⊎_elim, ℕ, suc, ◌+◌, ◌*◌, ◌/◌, ◌≤◌, ◌<◌, mul-le-mul_right, mul_assoc}
+use Rattle.std.proofs.Common.{mul-div_cancel, arith, T, ltb, lt→ltb, ltb→lt, length, get_or, take, drop, length-drop, drop_of_length-le, get_or-take}
+use Rattle.std.proofs.Common.{get_or-drop, length-take-le}
 use Rattle.numbers.specs.Lists.{tabulate}
 use Rattle.numbers.proofs.Lists.{part_end, below_or, length_tabulate, get_d_tabulate, is_tabulate}
 use Rattle.reference.specs.Frames.{frame, frame_count}
 use Rattle.text.specs.Bytes.{Bytes, number_of, number_at, bytes}
-use Rattle.dsf.specs.Dsf.{pair, alike, blocks, data_bytes, data_place, stated_length, channel_type, channels, bits_per_sample, samples}
+use Rattle.dsf.specs.Dsf.{pair, alike, blocks, data_bytes, data_place, stated_length, channel_type, channels, bits_per_sample, sample_count}
 use Rattle.dsf.specs.Dsf.{data_size, needed, frames, turned, our_byte, sample_byte, turn_byte, data_frame, file_data}
 use Rattle.dsf.specs.inner.Dsf.{file_byte}
 use Rattle.dsf.specs.Headers.{header_with}
@@ -50,7 +44,7 @@ module _ (file : List ℕ) (b : Bytes file) (pl : Plain file) where
   one = few.0
 
   abbrev turn : ℕ → ℕ
-  turn = turn_byte (file_data file) n (bits_per_sample file) (samples file)
+  turn = turn_byte (file_data file) n (bits_per_sample file) (sample_count file)
 
   pub length_frames : length fr ≡ frames file * (4704 * n)
   unfolding all_frames
@@ -60,11 +54,11 @@ module _ (file : List ℕ) (b : Bytes file) (pl : Plain file) where
   unfolding frame_count
   count = rw length_frames (mul-div_cancel (frames file) (omega (arith, one)))
 
-  is_channel : written_channel n fr ≡ samples file / 8
+  is_channel : written_channel n fr ≡ sample_count file / 8
   unfolding written_channel
   is_channel = rw count (sym pl.whole_frames)
 
-  is_samples : 8 * written_channel n fr ≡ samples file
+  is_samples : 8 * written_channel n fr ≡ sample_count file
   is_samples = omega (arith, is_channel, s.whole)
 
   is_data : written_data n fr ≡ needed file
@@ -94,14 +88,14 @@ module _ (file : List ℕ) (b : Bytes file) (pl : Plain file) where
       sym (append-nil file) ∙ sym (ap (λ (l : List ℕ). file ++ l) z) ∙ e
 
   same_header : header_with (bytes 8 (92 + written_data n fr)) (bytes 8 0) (pair (type_of n) n) 1 (bytes 8 (8 * written_channel n fr)) (bytes 8 (12 + written_data n fr)) ≡ hd
-  unfolding stated_length samples number_at
+  unfolding stated_length sample_count number_at
   same_header =
       let st : 92 + written_data n fr ≡ number_of (take 8 (drop 12 file)) = omega (arith, is_data, pl.no_more, s.stated) in
       let po : bytes 8 0 ≡ padded 8 (drop 20 file) = ap (bytes 8) (sym pl.no_pointer) ∙ bytes_padded (drop 20 file) (each_drop 20 b) in
       rw (st, po, is_samples, is_data, ← pl.written_type, bytes_padded (drop 12 file) (each_drop 12 b), bytes_padded (drop 64 file) (each_drop 64 b))
 
   -- ---- the data
-  below : needed file ≡ blocks (samples file / 8) * 4096 * n
+  below : needed file ≡ blocks (sample_count file / 8) * 4096 * n
   unfolding needed data_bytes
   below = refl
 
@@ -109,12 +103,12 @@ module _ (file : List ℕ) (b : Bytes file) (pl : Plain file) where
   unfolding turn_byte
   turn_at c q h = rw (quotient q n c h, remainder q n c h)
 
-  read_at : (c q : ℕ) → q < samples file / 8 → file_byte file c q ≡ turned (get_or file (92 + data_place n c q) 0)
+  read_at : (c q : ℕ) → q < sample_count file / 8 → file_byte file c q ≡ turned (get_or file (92 + data_place n c q) 0)
   unfolding sample_byte our_byte
-  read_at c q l = rw pl.lowest_first (pick (ltb q (samples file / 8)) _ _ (lt→ltb _ _ l))
+  read_at c q l = rw pl.lowest_first (pick (ltb q (sample_count file / 8)) _ _ (lt→ltb _ _ l))
 
   -- a byte of a frame that was read
-  frame_byte : (c q : ℕ) → c < n → q < samples file / 8 → get_or fr (q * n + c) 0 ≡ turned (get_or file (92 + data_place n c q) 0)
+  frame_byte : (c q : ℕ) → c < n → q < sample_count file / 8 → get_or fr (q * n + c) 0 ≡ turned (get_or file (92 + data_place n c q) 0)
   unfolding all_frames
   frame_byte c q h l =
       let z : 0 + (q * n + c) ≡ q * n + c = omega arith in
@@ -129,13 +123,14 @@ module _ (file : List ℕ) (b : Bytes file) (pl : Plain file) where
       let q = data_byte n j in
       let p = place_is n j one in
       let h = channel_below n j one in
-      let k = byte_below n j one (blocks (samples file / 8)) (rw below at l) in
-      ⊎_elim (λ (i : q < samples file / 8).
-      sym (rw is_channel (pick (ltb q (samples file / 8)) _ _ (lt→ltb _ _ i) ∙ ap turned (frame_byte c q h i)
+      let k = byte_below n j one (blocks (sample_count file / 8)) (rw below at l) in
+      ⊎_elim (λ (i : q < sample_count file / 8).
+      sym (rw is_channel (pick (ltb q (sample_count file / 8)) _ _ (lt→ltb _ _ i) ∙ ap turned (frame_byte c q h i)
       ∙ turned_twice _ (b.each (92 + data_place n c q)) ∙ ap (λ (x : ℕ). get_or file (92 + x) 0) p)))
-      (λ (i : samples file / 8 ≤ q).
-      ap (λ (x : ℕ). get_or file (92 + x) 0) (sym p) ∙ pl.zero_padded c q h i k ∙ sym (rw is_channel (skip (ltb q (samples file / 8)) _ _ (λ t. omega (arith, ltb→lt q (samples file / 8) t)))))
-      (below_or q (samples file / 8))
+      (λ (i : sample_count file / 8 ≤ q).
+      ap (λ (x : ℕ). get_or file (92 + x) 0) (sym p) ∙ pl.zero_padded c q h i k
+      ∙ sym (rw is_channel (skip (ltb q (sample_count file / 8)) _ _ (λ t. omega (arith, ltb→lt q (sample_count file / 8) t)))))
+      (below_or q (sample_count file / 8))
 
   same_body : tabulate (written_byte n fr) 0 (written_data n fr) ≡ drop 92 file
   same_body =
@@ -165,7 +160,7 @@ pub frame_of_all : FrameOfAll
 unfolding frame all_frames data_frame
 frame_of_all file f l =
     let size = 4704 * channels file in
-    let turn = turn_byte (file_data file) (channels file) (bits_per_sample file) (samples file) in
+    let turn = turn_byte (file_data file) (channels file) (bits_per_sample file) (sample_count file) in
     let whole = tabulate turn 0 (frames file * size) in
     let n : length whole ≡ frames file * size = length_tabulate turn 0 (frames file * size) in
     let e = part_end f (frames file) size l in

@@ -1,14 +1,8 @@
 -- A file is its header and the data of stretches of its frames.
-use mathlib.Core.Path.{◌≡◌, refl, sym, ap, ◌∙◌}
-use mathlib.Core.List.{List, [], ◌∷◌, ◌++◌, append_assoc}
-use mathlib.Core.Logic.{⊎_elim}
-use Prim.Native.Nat.{ℕ, suc, ◌+◌, ◌*◌, ◌/◌, ◌%◌, ◌≤◌, ◌<◌}
-use native.Mathlib.Nat.{add-mul, mul_assoc, mul-le-mul_right, mul-add-mod_self_right, mul-add-div_right, zero-add}
-use native.Mathlib.Omega.{arith}
-use borrow.Author.Tests.{lt-ltb, le-ltb}
-use lib.ListN.{length, length-append, get_or-append}
-use lib.Seq.{get_or-append-add}
-use Rattle.std.specs.Prelude.{map}
+use Rattle.std.proofs.Common.{◌≡◌, refl, sym, ap, ◌∙◌, List, [], ◌∷◌, ◌++◌, append_assoc, ⊎_elim, ℕ, suc, ◌+◌, ◌*◌, ◌/◌, ◌%◌, ◌≤◌, ◌<◌, add-mul, mul_assoc}
+use Rattle.std.proofs.Common.{mul-le-mul_right, zero-add, arith, lt-ltb, le-ltb, length, length-append, get_or-append-add, map}
+use native.Mathlib.Nat.{mul-add-mod_self_right, mul-add-div_right}
+use lib.ListN.{get_or-append}
 use Rattle.numbers.specs.Lists.{tabulate, Each}
 use Rattle.numbers.proofs.Lists.{below_or, length_tabulate, tabulate_join, tabulate_same}
 use Rattle.reference.specs.Frames.{frame_count}

@@ -1,27 +1,24 @@
 -- Writing: the header put in pieces, a byte of the data, and what the writer's places decide.
-use mathlib.Core.Path.{◌≡◌, refl, sym, ap, ◌∙◌}
-use mathlib.Core.List.{List, [], ◌∷◌, ◌++◌, append_assoc}
-use mathlib.Core.Bool.{not, ◌&&◌, and-false}
-use mathlib.Core.Logic.{◌≢◌, ⊎_elim}
-use Prim.Native.Nat.{ℕ, ◌+◌, ◌-◌, ◌*◌, ◌/◌, ◌%◌, ◌^◌, ◌≤◌, ◌<◌, min}
-use native.Mathlib.Nat.{zero-add, add-mul, mul-le-mul, mul-le-mul_right, mod-lt, div-add-mod', mul_assoc, div-mul-le_self, div-lt_iff_lt-mul}
-use native.Mathlib.Omega.{arith}
-use lib.Dec.{leb, ltb, lt→ltb, ltb→lt}
-use lib.ListN.{length, get_or, replicate, length-replicate, get_or-replicate, take, drop, length-append, length-drop}
-use lib.Seq.{length-take-le, take-length}
-use borrow.Author.Tests.{le-leb, lt-leb, lt-ltb, le-ltb, eq-eqb, ne_eqb, eqb-true, leb-true, ltb-false, not-false}
+use Rattle.std.proofs.Common.{◌≡◌, refl, sym, ap, ◌∙◌, List, [], ◌∷◌, ◌++◌, append_assoc, not, ◌&&◌, ◌≢◌, ℕ, ◌+◌, ◌-◌, ◌*◌, ◌/◌, ◌%◌, ◌^◌, ◌≤◌, ◌<◌, min}
+use Rattle.std.proofs.Common.{zero-add, add-mul, mul-le-mul, mul-le-mul_right, mod-lt, div-add-mod', mul_assoc, div-mul-le_self, div-lt_iff_lt-mul, arith, leb}
+use Rattle.std.proofs.Common.{ltb, lt→ltb, ltb→lt, length, get_or, replicate, take, drop, length-append, length-drop, length-take-le, le-leb, lt-ltb, le-ltb}
+use Rattle.std.proofs.Common.{eq-eqb, ne_eqb, eqb-true, leb-true, ltb-false, Ok, Err}
+use mathlib.Core.Bool.{and-false}
+use lib.ListN.{length-replicate, get_or-replicate}
+use lib.Seq.{take-length}
+use borrow.Author.Tests.{lt-leb, not-false}
 use borrow.Rule.Slice.PartMut.{put_mid}
 use Rattle.std.proofs.lemmas.Slice.{take-put_mid}
 use Rattle.numbers.specs.Lists.{tabulate}
-use Rattle.numbers.specs.inner.Lists.{Wrote}
-use Rattle.numbers.proofs.Lists.{below_or, is_tabulate}
+use Rattle.numbers.specs.inner.Lists.{Written}
+use Rattle.numbers.proofs.Lists.{is_tabulate, written_as, written_then}
+use Rattle.numbers.proofs.Pieces.{long_mid, written_piece}
 use Rattle.reference.specs.Frames.{frame_count}
-use Rattle.std.specs.Prelude.{Ok, Err}
 use Rattle.reference.specs.declared.PcmError.{PcmError}
 use Rattle.reference.specs.declared.PcmError.TheVariants.{OutputBytes}
 use Rattle.reference.specs.Promises.{by_decision}
 use Rattle.reference.proofs.Promises.{exit_accepted, exit_refused}
-use Rattle.reference.specs.Refusals.{Decision, accepted, refused, error_decision, Place, place, decide, is_accepted, number, rack, run_length, lent_length}
+use Rattle.reference.specs.Refusals.{Decision, accepted, refused, error_decision, Place, decide, is_accepted, number, lent_length}
 use Rattle.reference.proofs.Refusals.{error_refuses, at_first, at_next, at_end, pass, decide_skip, decide_stop}
 use Rattle.text.specs.Text.{text}
 use Rattle.text.specs.Bytes.{bytes}
@@ -31,7 +28,6 @@ use Rattle.dsf.proofs.Alike.{T_is, T_of, left, right, pick, skip}
 use Rattle.dsf.specs.declared.BitOrder.TheVariants.{LowestFirst}
 use Rattle.dsf_columns.specs.inner.Columns.{Ordering}
 use Rattle.dsf_columns.proofs.Blocks.{group}
-use Rattle.dsf_write.proofs.Pieces.{long_mid, wrote_piece}
 use Rattle.dsf_write.specs.Written.{type_of, data_channel, data_byte, written_channel, written_data, written_byte, head, laid_out, written}
 use Rattle.dsf_write.specs.Written.{file_length, length_places, dsf_write_places, laid_places, HeadPromise, LaidPromise, WritePromise, Writable}
 use Rattle.dsf_write.specs.inner.Putting.{PutPromise, DataArgs, BlockArgs}
@@ -56,13 +52,12 @@ module _ (at n k : ℕ) (old part : List ℕ) (fits : at + n ≤ length old) (e 
   pub piece_long : length (take k (drop at old)) ≡ n
   piece_long = length-take-le k (drop at old) (omega (arith, length-drop at old)) ∙ e
 
-  pub gathered : {f : ℕ → ℕ} → Wrote 0 f 0 (length (take k (drop at old))) (take k (drop at old)) part → Wrote 0 f at n old (put_mid at k old part)
-  gathered {f} w =
-      rw (← e) (wrote_piece at k old part (omega arith) (omega (arith, w.same, piece_long)) f (λ i l. let z : 0 + i ≡ i = omega arith in rw z at (w.done i (omega (arith, piece_long)))))
+  pub gathered : {f : ℕ → ℕ} → Written 0 (λ i. i) f (length (take k (drop at old))) (take k (drop at old)) part → Written 0 (λ i. at + i) f n old (put_mid at k old part)
+  gathered {f} w = rw (← e) (written_piece at k old part (omega arith) (omega (arith, w.same, piece_long)) 0 f (λ i l. w.done i (omega (arith, piece_long))))
 
-  pub zeroed : part ≡ replicate (length (take k (drop at old))) 0 → Wrote 0 (λ i. 0) at n old (put_mid at k old part)
+  pub zeroed : part ≡ replicate (length (take k (drop at old))) 0 → Written 0 (λ i. at + i) (λ i. 0) n old (put_mid at k old part)
   zeroed p =
-      rw (← e) (wrote_piece at k old part (omega arith) (omega (arith, ap length p, length-replicate {A = ℕ} (length (take k (drop at old))) 0, piece_long))
+      rw (← e) (written_piece at k old part (omega arith) (omega (arith, ap length p, length-replicate {A = ℕ} (length (take k (drop at old))) 0, piece_long)) 0
       (λ i. 0) (λ i l. rw p (get_or-replicate (length (take k (drop at old))) i 0 0 (omega (arith, piece_long)))))
 
 -- two pieces, one after the other
@@ -90,22 +85,6 @@ module _ (n : ℕ) (fr : List ℕ) (m j : ℕ) (e : m ≡ written_channel n fr) 
   byte_out : m ≤ p → 0 ≡ written_byte n fr j
   unfolding written_byte data_byte
   byte_out l = sym (rw (← e) (skip (ltb p m) _ _ (λ t. omega (arith, ltb→lt p m t))))
-
--- two stretches, one after the other
-pub wrote_then : {f g : ℕ → ℕ} {at a b : ℕ} {old mid new : List ℕ} → Wrote 0 f at a old mid → Wrote 0 g (at + a) b mid new → ((i : ℕ) → i < b → g i ≡ f (a + i)) → Wrote 0 f at (a + b) old new
-wrote_then {f} {g} {at} {a} {b} {old} {mid} {new} v w e =
-    record {
-      same = w.same ∙ v.same;
-      kept = λ k l. w.kept k (omega arith) ∙ v.kept k l;
-      done = λ k l. ⊎_elim (λ s. w.kept (at + k) (omega arith) ∙ v.done k s) (λ s.
-          let q : a + (k - a) ≡ k = omega arith in
-          let p : at + a + (k - a) ≡ at + k = omega arith in
-          let r = w.done (k - a) (omega arith) ∙ e (k - a) (omega arith) in
-          rw (p, q) at r) (below_or k a);
-    }
-
-wrote_as : {f g : ℕ → ℕ} {at a : ℕ} {old new : List ℕ} → Wrote 0 g at a old new → ((i : ℕ) → i < a → g i ≡ f i) → Wrote 0 f at a old new
-wrote_as w e = record { same = w.same; kept = w.kept; done = λ k l. w.done k l ∙ e k l }
 
 module _ {n : ℕ} {fr : List ℕ} {m k out : ℕ} (a : BlockArgs n fr m k out) where
   abbrev first : ℕ
@@ -139,11 +118,13 @@ module _ {n : ℕ} {fr : List ℕ} {m k out : ℕ} (a : BlockArgs n fr m k out) 
         let g : m ≤ (k * 4096 + i) / 4096 / n * 4096 + (k * 4096 + i) % 4096 = rw (t.0, t.1) (omega (arith, a.begun)) in
         byte_out n fr m (k * 4096 + i) a.bytes_are g
 
-    pub block_wrote : {live : ℕ} {old mid new : List ℕ} → live ≡ min 4096 (m - first) → Wrote 0 (λ i. get_or table (get_or fr (first * n + c + i * n) 0) 0) (k * 4096) live old mid
-        → Wrote 0 (λ i. 0) (k * 4096 + live) (4096 - live) mid new → Wrote 0 (λ i. written_byte n fr (k * 4096 + i)) (k * 4096) 4096 old new
-    block_wrote {live} e v w =
+    pub block_written : {live : ℕ} {old mid new : List ℕ} → live ≡ min 4096 (m - first) → Written 0 (λ i. k * 4096 + i) (λ i. get_or table (get_or fr (first * n + c + i * n) 0) 0) live old mid
+        → Written 0 (λ i. k * 4096 + live + i) (λ i. 0) (4096 - live) mid new → Written 0 (λ i. k * 4096 + i) (λ i. written_byte n fr (k * 4096 + i)) 4096 old new
+    block_written {live} e v w =
         let s : live + (4096 - live) ≡ 4096 = omega arith in
-        rw s at (wrote_then (wrote_as v (λ i l. live_byte i (omega arith) (omega arith))) w (λ i l. zero_byte (live + i) (omega arith) (omega arith)))
+        rw s at
+        (written_then (written_as v (λ i l. live_byte i (omega arith) (omega arith))) w (λ i l. omega arith) (λ i j l h. omega arith)
+        (λ i l. zero_byte (live + i) (omega arith) (omega arith)))
 
 -- the data's blocks
 module _ {n : ℕ} {fr : List ℕ} {m out : ℕ} (a : DataArgs n fr m out) where
@@ -166,8 +147,8 @@ module _ {n : ℕ} {fr : List ℕ} {m out : ℕ} (a : DataArgs n fr m out) where
       begun b = unfold blocks in (omega arith)
 
 -- all of it
-pub laid_whole : (f : ℕ → ℕ) (old new : List ℕ) → Wrote 0 f 0 (length old) old new → new ≡ tabulate f 0 (length old)
-laid_whole f old new w = is_tabulate f 0 (length old) 0 new w.same (λ i l. rw (zero-add i) (rw (zero-add i) at (w.done i l)))
+pub laid_whole : (f : ℕ → ℕ) (old new : List ℕ) → Written 0 (λ i. i) f (length old) old new → new ≡ tabulate f 0 (length old)
+laid_whole f old new w = is_tabulate f 0 (length old) 0 new w.same (λ i l. rw (zero-add i) (w.done i l))
 
 -- ---- header and data
 pub whole_file : (h mid part : List ℕ) (k : ℕ) → take 92 mid ≡ h → length mid ≡ 92 + length part → k ≡ length part → put_mid 92 k mid part ≡ h ++ part
@@ -203,11 +184,6 @@ module _ (n b : ℕ) where
   unfolding length_places
   all_right one six whole l =
       at_next _ _ (rw (le-leb 1 n one, le-leb n 6 six)) ∙ at_next _ _ (ap not (eq-eqb _ _ whole)) ∙ at_next _ _ (le-ltb 540000 (b / (4704 * n)) l) ∙ at_end
-
--- channels and frames are turned down as in a conversion
-pub as_conversion : (n : ℕ) (fr : List ℕ) → length_places n (length fr) ≡ place (not (leb 1 n && leb n 6)) 1 (number n ∷ []) ∷ run_length rack n fr
-unfolding length_places run_length frame_count
-as_conversion n fr = refl
 
 pub length_is : (n : ℕ) (fr : List ℕ) → file_length n (length fr) ≡ 92 + written_data n fr
 unfolding file_length written_data written_channel frame_count

@@ -1,20 +1,14 @@
 -- Request 9: a written file is accepted, of the kind that is written, and read back as the frames.
-use mathlib.Core.Path.{◌≡◌, refl, sym, ap, ap₂, ◌∙◌}
-use mathlib.Core.List.{List, [], ◌++◌}
-use mathlib.Core.Bool.{Bool, true, false, cond}
-use Prim.Native.Nat.{ℕ, zero, suc, ◌+◌, ◌*◌, ◌/◌, ◌%◌, ◌^◌, ◌≤◌, ◌<◌}
-use native.Mathlib.Nat.{mul-le-mul, mul_assoc, div-add-mod', mod-lt, div-lt_iff_lt-mul}
-use native.Mathlib.Omega.{arith}
-use lib.Dec.{T, leb, ltb, lt→ltb, ltb→lt}
-use lib.ListN.{length, get_or, take, drop, length-append, length-drop}
-use lib.Seq.{get_or-append-add, get_or-take, get_or-drop, length-take-le}
+use Rattle.std.proofs.Common.{◌≡◌, refl, sym, ap, ap₂, ◌∙◌, List, [], ◌++◌, Bool, true, false, cond, ℕ, zero, suc, ◌+◌, ◌*◌, ◌/◌, ◌%◌, ◌^◌, ◌≤◌, ◌<◌}
+use Rattle.std.proofs.Common.{mul-le-mul, mul_assoc, div-add-mod', mod-lt, div-lt_iff_lt-mul, arith, T, leb, ltb, lt→ltb, ltb→lt, length, get_or, take, drop}
+use Rattle.std.proofs.Common.{length-append, length-drop, get_or-append-add, get_or-take, get_or-drop, length-take-le}
 use Rattle.numbers.specs.Lists.{tabulate}
 use Rattle.numbers.proofs.Lists.{part_end, length_tabulate, get_d_tabulate, is_tabulate}
 use Rattle.reference.specs.Frames.{frame, frame_count}
 use Rattle.text.specs.Text.{text}
 use Rattle.text.specs.Bytes.{Bytes, number_at, bytes}
 use Rattle.dsf.specs.Dsf.{alike, any, all, fits, layout, pairs, orders, blocks, data_bytes, data_place, stated_length}
-use Rattle.dsf.specs.Dsf.{channel_type, channels, bits_per_sample, samples, data_size, needed, accepts, frames, frames_in}
+use Rattle.dsf.specs.Dsf.{channel_type, channels, bits_per_sample, sample_count, data_size, needed, accepts, frames, frames_in}
 use Rattle.dsf.specs.Dsf.{turned, our_byte, sample_byte, turn_byte, data_frame, file_data, file_frame}
 use Rattle.dsf.specs.inner.Dsf.{file_byte}
 use Rattle.dsf.specs.Headers.{header_with}
@@ -106,9 +100,9 @@ module _ (n : ℕ) (fr : List ℕ) (w : Writable n fr) where
   is_bits : bits_per_sample F ≡ 1
   is_bits = ap bits_per_sample is_file ∙ H.read_bits (bytes 8 (92 + d)) (bytes 8 0) (type_of n) n 1 (bytes 8 (8 * m)) (12 + d) body ∙ number_bytes 4 1 (omega arith)
 
-  is_samples : samples F ≡ 8 * m
+  is_samples : sample_count F ≡ 8 * m
   unfolding padded bytes
-  is_samples = ap samples is_file ∙ H.read_samples (bytes 8 (92 + d)) (bytes 8 0) (type_of n) n 1 (bytes 8 (8 * m)) (12 + d) body ∙ number_bytes 8 (8 * m) (omega (arith, m_small))
+  is_samples = ap sample_count is_file ∙ H.read_samples (bytes 8 (92 + d)) (bytes 8 0) (type_of n) n 1 (bytes 8 (8 * m)) (12 + d) body ∙ number_bytes 8 (8 * m) (omega (arith, m_small))
 
   is_size : data_size F ≡ 12 + d
   is_size = ap data_size is_file ∙ H.read_size (bytes 8 (92 + d)) (bytes 8 0) (type_of n) n 1 (bytes 8 (8 * m)) (12 + d) body ∙ number_bytes 8 (12 + d) (omega (arith, d_small))
@@ -137,7 +131,7 @@ module _ (n : ℕ) (fr : List ℕ) (w : Writable n fr) where
         ends = omega (arith, is_size, is_length);
       })
 
-  is_channel_length : samples F / 8 ≡ m
+  is_channel_length : sample_count F / 8 ≡ m
   is_channel_length = omega (arith, is_samples)
 
   pub written_frames : frames F ≡ frame_count n fr
@@ -173,7 +167,7 @@ module _ (n : ℕ) (fr : List ℕ) (w : Writable n fr) where
 
   -- byte j of all channels in turn
   abbrev turn : ℕ → ℕ
-  turn = turn_byte (file_data F) (channels F) (bits_per_sample F) (samples F)
+  turn = turn_byte (file_data F) (channels F) (bits_per_sample F) (sample_count F)
 
   written_turn : Bytes fr → (j : ℕ) → j < m * n → turn j ≡ get_or fr j 0
   unfolding turn_byte

@@ -7,7 +7,7 @@ use Rattle.reference.specs.Promises.{by_decision}
 use Rattle.reference.specs.declared.PcmError.{PcmError}
 use Rattle.reference.specs.declared.Limit.TheVariants as limit
 use Rattle.text.specs.Bytes.{number_at, bytes}
-use Rattle.dsf.specs.Dsf.{pair, block, blocks, data_bytes, data_place, channel_type, channels, bits_per_sample, samples, needed, accepts, frames, turned, turn_byte, file_data}
+use Rattle.dsf.specs.Dsf.{pair, block, blocks, data_bytes, data_place, channel_type, channels, bits_per_sample, sample_count, needed, accepts, frames, turned, turn_byte, file_data}
 use Rattle.dsf.specs.Headers.{header_with}
 
 -- the channel type that is written for 1 to 6 channels: 1, 2, 3, 4, 6, 7
@@ -95,7 +95,7 @@ pub record LaidPromise (channels : ℕ) (bytes_in out out' : List ℕ) (answer :
 
 -- the frames that a file holds, joined
 unfoldable pub all_frames : List ℕ → List ℕ
-all_frames file = tabulate (turn_byte (file_data file) (channels file) (bits_per_sample file) (samples file)) 0 (frames file * frame_length (channels file))
+all_frames file = tabulate (turn_byte (file_data file) (channels file) (bits_per_sample file) (sample_count file)) 0 (frames file * frame_length (channels file))
 
 -- a file of exactly the kind that is written
 pub record Plain (file : List ℕ) : Type 0 where
@@ -104,9 +104,9 @@ pub record Plain (file : List ℕ) : Type 0 where
   pub no_pointer : number_at file 20 8 ≡ 0
   pub written_type : channel_type file ≡ type_of (channels file)
   pub no_more : length file ≡ 92 + needed file
-  pub whole_frames : samples file / 8 ≡ frames file * frame_bytes
+  pub whole_frames : sample_count file / 8 ≡ frames file * frame_bytes
   pub few : frames file ≤ most limit.Rack
-  pub zero_padded : (c q : ℕ) → c < channels file → samples file / 8 ≤ q → q < blocks (samples file / 8) * block → file_data file (data_place (channels file) c q) ≡ 0
+  pub zero_padded : (c q : ℕ) → c < channels file → sample_count file / 8 ≤ q → q < blocks (sample_count file / 8) * block → file_data file (data_place (channels file) c q) ≡ 0
 
 -- frames that can be written: 1 to 6 channels, 0 to 540,000 whole frames
 pub record Writable (channels : ℕ) (bytes_in : List ℕ) : Type 0 where

@@ -1,6 +1,6 @@
 // The data: the channels' blocks in turn, lowest bit first, zero bytes past the samples.
-ghost use Rattle.std.specs.Prelude.{◌≡◌, ◌+◌, ◌-◌, ◌*◌, ◌≤◌, ◌<◌, ◌^◌, length, get_or};
-ghost use Rattle.numbers.specs.inner.Lists.{Wrote};
+ghost use Rattle.std.specs.Prelude.{◌+◌, ◌-◌, ◌*◌, ◌<◌, ◌^◌, length, get_or};
+ghost use Rattle.numbers.specs.inner.Lists.{Written};
 ghost use Rattle.dsf.specs.declared.BitOrder.TheVariants.{LowestFirst};
 ghost use Rattle.dsf_columns.specs.inner.Columns.{Ordering};
 ghost use Rattle.dsf_write.specs.Written.{written_byte};
@@ -12,7 +12,7 @@ use dsf_columns::order_table;
 // Bytes at a stride through a table.
 fn gather(frames: &[u8], table: &[u8; 256], from: usize, stride: usize, out: &mut [u8])
     requires { (from + length out.old * stride < length frames.now + stride) × (length frames.now + stride < 2 ^ 64) }
-    ensures { Wrote 0 (λ i. get_or table.now (get_or frames.now (from + i * stride) 0) 0) 0 (length out.old) out.old out.new }
+    ensures { Written 0 (λ i. i) (λ i. get_or table.now (get_or frames.now (from + i * stride) 0) 0) (length out.old) out.old out.new }
 {
     for k in 0..out.len() {
         out[k] = table[frames[from + k * stride] as usize];
@@ -30,7 +30,7 @@ fn put_block(
     out: &mut [u8],
 )
     requires { Ordering LowestFirst table.now × BlockArgs channels frames.now bytes block (length out.old) }
-    ensures { Wrote 0 (λ i. written_byte channels frames.now (block * 4096 + i)) (block * 4096) 4096 out.old out.new }
+    ensures { Written 0 (λ i. block * 4096 + i) (λ i. written_byte channels frames.now (block * 4096 + i)) 4096 out.old out.new }
 {
     let first = block / channels * 4096;
     let live = (bytes - first).min(4096);
@@ -43,7 +43,7 @@ fn put_block(
 // The data.
 pub fn put_data(frames: &[u8], channels: usize, bytes: usize, out: &mut [u8])
     requires { DataArgs channels frames.now bytes (length out.old) }
-    ensures { Wrote 0 (written_byte channels frames.now) 0 (length out.old) out.old out.new }
+    ensures { Written 0 (λ i. i) (written_byte channels frames.now) (length out.old) out.old out.new }
 {
     let table = order_table(BitOrder::LowestFirst);
     for k in 0..out.len() / 4096 {

@@ -1,17 +1,13 @@
--- The filters' sums by pairs of neighbours, and what the lift adds to them.
-use mathlib.Core.Path.{◌≡◌, refl, sym, ◌∙◌, ap, ap₂}
-use mathlib.Core.List.{List}
-use Prim.Native.Nat.{ℕ, zero, suc, ◌+◌, ◌-◌, ◌^◌, ◌<◌, ◌≤◌}
-use native.Mathlib.Omega.{arith}
-use lib.IntN.{ℤ, pos, ◌+ℤ◌, ◌*ℤ◌, +ℤ_comm, +ℤ_assoc, zero-*ℤ}
-use lib.ListN.{length}
+-- The filters' sums by pairs of neighbours, and what the bias adds to them.
+use Rattle.std.proofs.Common.{◌≡◌, refl, sym, ◌∙◌, ap, ap₂, List, ℕ, zero, suc, ◌+◌, ◌-◌, ◌^◌, ◌<◌, ◌≤◌, arith, ℤ, pos, ◌+ℤ◌, ◌*ℤ◌, length}
+use lib.IntN.{+ℤ_comm, +ℤ_assoc, zero-*ℤ}
 use Rattle.numbers.specs.Sums.{sum_to, apart, at0}
 use Rattle.numbers.proofs.Integers.{+ℤ-left-comm, mul_add, add_mul, *ℤ-assoc, sums}
 use Rattle.numbers.proofs.Sums.{sum_same, sum_head}
 use Rattle.reference.specs.Stages.{tap, M, fir}
 use Rattle.lanes.specs.inner.Lanes.{arms}
 use Rattle.filters.specs.inner.Filters.{between_by, ones}
-use Rattle.filters.specs.inner.Lifts.{lifted}
+use Rattle.filters.specs.inner.Biases.{biased}
 
 -- ---- the filter's sum: the centre, and the pairs
 module _ (h : List ℤ) (s : ℕ → ℤ) (c : ℕ) where
@@ -68,25 +64,25 @@ unfolding between_by
 between_same h s r c e =
     sum_same (length h) _ _ (λ j m. ap₂ (λ (y z : ℤ). tap h j *ℤ (y +ℤ z)) (e (c - j) (omega arith) (omega arith)) (e (c + 1 + j) (omega arith) (omega arith)))
 
--- ---- the lift adds the taps' sum times 2^29
-sum_lift : (n : ℕ) (g s u : ℕ → ℤ) (c : ℤ) → sum_to n (λ k. g k *ℤ (s k +ℤ u k *ℤ c)) ≡ sum_to n (λ k. g k *ℤ s k) +ℤ sum_to n (λ k. g k *ℤ u k) *ℤ c
+-- ---- the bias adds the taps' sum times 2^29
+sum_bias : (n : ℕ) (g s u : ℕ → ℤ) (c : ℤ) → sum_to n (λ k. g k *ℤ (s k +ℤ u k *ℤ c)) ≡ sum_to n (λ k. g k *ℤ s k) +ℤ sum_to n (λ k. g k *ℤ u k) *ℤ c
 unfolding sum_to
-sum_lift zero g s u c = sym (ap (λ (z : ℤ). pos 0 +ℤ z) (zero-*ℤ c))
-sum_lift (suc n) g s u c = ap (λ (z : ℤ). z +ℤ g n *ℤ (s n +ℤ u n *ℤ c)) (sum_lift n g s u c) ∙ step (sum_to n (λ k. g k *ℤ s k)) (sum_to n (λ k. g k *ℤ u k)) (g n) (s n) (u n)
+sum_bias zero g s u c = sym (ap (λ (z : ℤ). pos 0 +ℤ z) (zero-*ℤ c))
+sum_bias (suc n) g s u c = ap (λ (z : ℤ). z +ℤ g n *ℤ (s n +ℤ u n *ℤ c)) (sum_bias n g s u c) ∙ step (sum_to n (λ k. g k *ℤ s k)) (sum_to n (λ k. g k *ℤ u k)) (g n) (s n) (u n)
   where
     step : (p q a b d : ℤ) → p +ℤ q *ℤ c +ℤ a *ℤ (b +ℤ d *ℤ c) ≡ p +ℤ a *ℤ b +ℤ (q +ℤ a *ℤ d) *ℤ c
     step p q a b d = simp (+ℤ_assoc, +ℤ-left-comm, mul_add, add_mul, *ℤ-assoc)
 
-pub fir_lift : (h x : List ℤ) (c : ℕ) → fir h (lifted x) c ≡ fir h (at0 x) c +ℤ fir h ones (M h) *ℤ pos (2 ^ 29)
-unfolding fir lifted
-fir_lift h x c = sum_lift (M h + M h + 1) (λ k. tap h (apart k (M h))) (λ k. at0 x (c - M h + k)) ones (pos (2 ^ 29))
+pub fir_bias : (h x : List ℤ) (c : ℕ) → fir h (biased x) c ≡ fir h (at0 x) c +ℤ fir h ones (M h) *ℤ pos (2 ^ 29)
+unfolding fir biased
+fir_bias h x c = sum_bias (M h + M h + 1) (λ k. tap h (apart k (M h))) (λ k. at0 x (c - M h + k)) ones (pos (2 ^ 29))
 
-pub between_lift : (h x : List ℤ) (k : ℕ) → between_by h (lifted x) k ≡ between_by h (at0 x) k +ℤ between_by h ones (length h) *ℤ pos (2 ^ 29)
-unfolding between_by lifted
-between_lift h x k =
+pub between_bias : (h x : List ℤ) (k : ℕ) → between_by h (biased x) k ≡ between_by h (at0 x) k +ℤ between_by h ones (length h) *ℤ pos (2 ^ 29)
+unfolding between_by biased
+between_bias h x k =
     sum_same (length h) _ (λ j. tap h j *ℤ (at0 x (k - j) +ℤ at0 x (k + 1 + j) +ℤ (pos 1 +ℤ pos 1) *ℤ pos (2 ^ 29)))
     (λ j l. ap (λ (z : ℤ). tap h j *ℤ z) (each (at0 x (k - j)) (at0 x (k + 1 + j)) (pos (2 ^ 29))))
-    ∙ sum_lift (length h) (tap h) (λ j. at0 x (k - j) +ℤ at0 x (k + 1 + j)) (λ j. pos 1 +ℤ pos 1) (pos (2 ^ 29))
+    ∙ sum_bias (length h) (tap h) (λ j. at0 x (k - j) +ℤ at0 x (k + 1 + j)) (λ j. pos 1 +ℤ pos 1) (pos (2 ^ 29))
   where
     each : (a b c : ℤ) → (a +ℤ c) +ℤ (b +ℤ c) ≡ a +ℤ b +ℤ (c +ℤ c)
     each a b c = simp sums

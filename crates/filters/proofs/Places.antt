@@ -1,37 +1,28 @@
--- Loops that set places of a list one after the other, and what the lanes hold then.
-use mathlib.Core.Path.{◌≡◌, sym, ◌∙◌, ap}
-use mathlib.Core.List.{List}
-use mathlib.Core.Logic.{⊎_elim}
-use Prim.Native.Nat.{ℕ, ◌+◌, ◌-◌, ◌*◌, ◌/◌, ◌<◌, ◌≤◌, ◌^◌}
-use native.Mathlib.Nat.{eq-or-lt_of_le}
-use native.Mathlib.Omega.{arith}
-use lib.IntN.{ℤ, pos, nat_abs, ◌+ℤ◌}
-use lib.ListN.{length, get_or, set, replicate, length-replicate, get_or-replicate, get_or-eq_default}
-use lib.Seq.{get_or-set_same, get_or-set_other}
+-- Whole lists filled, the copy, and every second value.
+use Rattle.std.proofs.Common.{◌≡◌, sym, ◌∙◌, ap, List, ⊎_elim, ℕ, ◌+◌, ◌-◌, ◌*◌, ◌/◌, ◌<◌, ◌≤◌, ◌^◌, eq-or-lt_of_le, arith, ℤ, pos, nat_abs, ◌+ℤ◌, length}
+use Rattle.std.proofs.Common.{get_or, set, replicate, get_or-set_same, get_or-set_other}
+use lib.ListN.{length-replicate, get_or-replicate, get_or-eq_default}
 use Rattle.numbers.specs.Sums.{at0}
 use Rattle.numbers.proofs.Integers.{abs_add}
-use Rattle.numbers.proofs.Lists.{below_or, length_tabulate, get_d_tabulate}
-use Rattle.lanes.specs.inner.Lanes.{Small, Filled, raised, Low}
+use Rattle.numbers.proofs.Lists.{below_or, written_all, length_tabulate, get_d_tabulate}
+use Rattle.lanes.specs.inner.Lanes.{Small, Filled, copied, Low}
 use Rattle.filters.specs.inner.Filters.{seconds}
-use Rattle.filters.specs.inner.Lifts.{lifted, Raised}
+use Rattle.filters.specs.inner.Biases.{biased, Copied}
 
 -- ---- whole lists
-pub filled_as : {f g : ℕ → ℤ} {old new : List ℤ} → Filled f old new → ((k : ℕ) → k < length old → f k ≡ g k) → Filled g old new
-filled_as u e = record { same = u.same; is = λ k m. u.is k m ∙ e k m }
 
 -- every place has gained g
 pub filled_then : {f m : ℕ → ℤ} (g : ℕ → ℤ) {a b c : List ℤ} → Filled f a b → Filled (λ k. at0 b k +ℤ g k) b c → ((k : ℕ) → k < length a → f k +ℤ g k ≡ m k) → Filled m a c
-filled_then g u w e =
-    record { same = w.same ∙ u.same; is = λ k l. w.is k (omega (arith, u.same)) ∙ ap (λ (z : ℤ). z +ℤ g k) (u.is k l) ∙ e k l }
+filled_then g u w e = written_all (w.same ∙ u.same) (λ k l. w.done k (omega (arith, u.same)) ∙ ap (λ (z : ℤ). z +ℤ g k) (u.done k l) ∙ e k l)
 
 -- every place has been written anew
 pub filled_again : {f g : ℕ → ℤ} {a b c : List ℤ} → Filled f a b → Filled g b c → Filled g a c
-filled_again u w = record { same = w.same ∙ u.same; is = λ k l. w.is k (omega (arith, u.same)) }
+filled_again u w = written_all (w.same ∙ u.same) (λ k l. w.done k (omega (arith, u.same)))
 
 pub filled_small : {f : ℕ → ℤ} {old new : List ℤ} (B : ℕ) → Filled f old new → ((k : ℕ) → nat_abs (f k) ≤ B) → Small B new
 filled_small {old} {new} B u e =
     record {
-      size = λ k. ⊎_elim (λ l. rw (u.is k l) (e k)) (λ l. rw (get_or-eq_default {A = ℤ} new (pos 0) {n = k} (omega (arith, u.same))) (omega arith)) (below_or k (length old));
+      size = λ k. ⊎_elim (λ l. rw (u.done k l) (e k)) (λ l. rw (get_or-eq_default {A = ℤ} new (pos 0) {n = k} (omega (arith, u.same))) (omega arith)) (below_or k (length old));
     }
 
 pub gained_small : (g : ℕ → ℤ) {old new : List ℤ} {A G : ℕ} (B : ℕ) → Filled (λ k. at0 old k +ℤ g k) old new → Small A old → ((k : ℕ) → nat_abs (g k) ≤ G) → A + G ≤ B → Small B new
@@ -48,11 +39,11 @@ low_zeros n = record {
     past k l = rw (length-replicate {A = ℕ} n 0) l
 
 -- place i more
-pub raised_more : {i j : ℕ} {x : List ℤ} {v : List ℕ} {r : ℕ} → Raised i x v → i < length v → pos r ≡ lifted x i → r ≤ 2 ^ 30 → j ≡ i + 1 → Raised j x (set v i r)
-unfolding raised
-raised_more {i} {j} {x} {v} {r} a m e b next =
+pub copied_more : {i j : ℕ} {x : List ℤ} {v : List ℕ} {r : ℕ} → Copied i x v → i < length v → pos r ≡ biased x i → r ≤ 2 ^ 30 → j ≡ i + 1 → Copied j x (set v i r)
+unfolding copied
+copied_more {i} {j} {x} {v} {r} a m e b next =
     record {
-      is = λ k n. ⊎_elim (λ q. ap pos (here k q) ∙ e ∙ ap (lifted x) (sym q)) (λ q. ap pos (before k q) ∙ a.is k q) (eq-or-lt_of_le (up_to k n));
+      is = λ k n. ⊎_elim (λ q. ap pos (here k q) ∙ e ∙ ap (biased x) (sym q)) (λ q. ap pos (before k q) ∙ a.is k q) (eq-or-lt_of_le (up_to k n));
       low = record { size = λ k. ⊎_elim (λ l. rw (before k l) (a.low.size k)) (λ l. ⊎_elim (λ q. rw (here k (sym q)) b) (λ n. rw (after k n) (a.low.size k)) (eq-or-lt_of_le l)) (below_or k i) };
     }
   where
@@ -77,6 +68,6 @@ pub second_at : (f : ℕ) (x : List ℤ) (k : ℕ) → k < (length x + 1 - f) / 
 unfolding seconds
 second_at f x k m = get_d_tabulate (λ j. at0 x (2 * j + f)) 0 ((length x + 1 - f) / 2) k (pos 0) m ∙ ap (λ (j : ℕ). at0 x (2 * j + f)) (omega arith)
 
-pub second_lifted : (f : ℕ) (x : List ℤ) (k : ℕ) → k < (length x + 1 - f) / 2 → lifted x (2 * k + f) ≡ lifted (seconds f x) k
-unfolding lifted
-second_lifted f x k m = ap (λ (z : ℤ). z +ℤ pos (2 ^ 29)) (sym (second_at f x k m))
+pub second_biased : (f : ℕ) (x : List ℤ) (k : ℕ) → k < (length x + 1 - f) / 2 → biased x (2 * k + f) ≡ biased (seconds f x) k
+unfolding biased
+second_biased f x k m = ap (λ (z : ℤ). z +ℤ pos (2 ^ 29)) (sym (second_at f x k m))

@@ -1,12 +1,6 @@
 -- A filter at half the rate over one array: what `dec2` sums is the reference's sum, for an even and for an odd number
 -- of taps.
-use mathlib.Core.Path.{◌≡◌, ◌∙◌, ap}
-use mathlib.Core.List.{List}
-use mathlib.Core.Logic.{⊎_elim}
-use Prim.Native.Nat.{ℕ, ◌+◌, ◌-◌, ◌*◌, ◌%◌, ◌<◌, ◌≤◌}
-use native.Mathlib.Omega.{arith}
-use lib.IntN.{ℤ, ◌*ℤ◌}
-use lib.ListN.{length}
+use Rattle.std.proofs.Common.{◌≡◌, ◌∙◌, ap, List, ⊎_elim, ℕ, ◌+◌, ◌-◌, ◌*◌, ◌%◌, ◌<◌, ◌≤◌, arith, ℤ, ◌*ℤ◌, length}
 use Rattle.numbers.specs.Sums.{apart, at0}
 use Rattle.numbers.proofs.Sums.{sum_same}
 use Rattle.numbers.proofs.Lists.{below_or}

@@ -1,13 +1,9 @@
 -- From a block to the signal that it is a part of: each place of the output is the reference's sum over the signal. For
 -- every filter h.
-use mathlib.Core.Path.{◌≡◌, refl, sym, ◌∙◌, ap, ap₂}
-use mathlib.Core.List.{List}
-use mathlib.Core.Logic.{⊎_elim}
-use Prim.Native.Nat.{ℕ, zero, suc, ◌+◌, ◌-◌, ◌*◌, ◌/◌, ◌^◌, ◌<◌, ◌≤◌}
-use native.Mathlib.Nat.{eq-or-lt_of_le}
-use native.Mathlib.Omega.{arith}
-use lib.IntN.{ℤ, pos, nat_abs, ◌+ℤ◌, ◌*ℤ◌, +ℤ_assoc, +ℤ_comm, +ℤ_idr, zero-*ℤ}
-use lib.ListN.{length, get_or-eq_default}
+use Rattle.std.proofs.Common.{◌≡◌, refl, sym, ◌∙◌, ap, ap₂, List, ⊎_elim, ℕ, zero, suc, ◌+◌, ◌-◌, ◌*◌, ◌/◌, ◌^◌, ◌<◌, ◌≤◌, eq-or-lt_of_le, arith, ℤ, pos}
+use Rattle.std.proofs.Common.{nat_abs, ◌+ℤ◌, ◌*ℤ◌, length}
+use lib.IntN.{+ℤ_assoc, +ℤ_comm, +ℤ_idr, zero-*ℤ}
+use lib.ListN.{get_or-eq_default}
 use Rattle.numbers.specs.Sums.{sum_to, apart, at0}
 use Rattle.numbers.specs.Lists.{tabulate}
 use Rattle.numbers.specs.inner.Lists.{Held}
@@ -26,10 +22,7 @@ past l k m = get_or-eq_default l (pos 0) {n = k} m
 
 -- ---- `Held (pos 0) S base n x`: the first n places of x are S from place `base` on
 pub filled_held : {f S : ℕ → ℤ} {base : ℕ} {old new : List ℤ} → Filled f old new → ((i : ℕ) → i < length old → f i ≡ S (base + i)) → Held (pos 0) S base (length old) new
-filled_held u e = record { is = λ k m. u.is k m ∙ e k m }
-
-pub held_as : {S T : ℕ → ℤ} {base n : ℕ} {x : List ℤ} → Held (pos 0) S base n x → ((k : ℕ) → S k ≡ T k) → Held (pos 0) T base n x
-held_as {base} b e = record { is = λ k m. b.is k m ∙ e (base + k) }
+filled_held u e = record { is = λ k m. u.done k m ∙ e k m }
 
 pub held_small : {S : ℕ → ℤ} {base n X : ℕ} {x : List ℤ} → Held (pos 0) S base n x → length x ≤ n → ((k : ℕ) → nat_abs (S k) ≤ X) → Small X x
 held_small {base} {n} {x} b l s =
@@ -93,12 +86,12 @@ length_odd h = length_tabulate (λ j. tap h (2 * j + 1)) 0 (length h / 2)
 pub is_even : {old new : List ℤ} (h : List ℤ) → Filled (λ k. at0 h (2 * k + 0)) old new → length old ≡ (length h + 1) / 2 → new ≡ even_taps h
 unfolding even_taps
 is_even {new} h u e =
-    is_tabulate (λ j. tap h (2 * j)) 0 ((length h + 1) / 2) (pos 0) new (u.same ∙ e) (λ i m. u.is i (omega arith) ∙ ap (tap h) (omega arith))
+    is_tabulate (λ j. tap h (2 * j)) 0 ((length h + 1) / 2) (pos 0) new (u.same ∙ e) (λ i m. u.done i (omega arith) ∙ ap (tap h) (omega arith))
 
 pub is_odd : {old new : List ℤ} (h : List ℤ) → Filled (λ k. at0 h (2 * k + 1)) old new → length old ≡ length h / 2 → new ≡ odd_taps h
 unfolding odd_taps
 is_odd {new} h u e =
-    is_tabulate (λ j. tap h (2 * j + 1)) 0 (length h / 2) (pos 0) new (u.same ∙ e) (λ i m. u.is i (omega arith) ∙ ap (tap h) (omega arith))
+    is_tabulate (λ j. tap h (2 * j + 1)) 0 (length h / 2) (pos 0) new (u.same ∙ e) (λ i m. u.done i (omega arith) ∙ ap (tap h) (omega arith))
 
 pub split_halves : (h : List ℤ) → Halves h (even_taps h) (odd_taps h)
 split_halves h = record { even = even_at h; odd = odd_at h; evens = omega (arith, length_even h, length_odd h); all = omega (arith, length_odd h) }

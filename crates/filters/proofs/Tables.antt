@@ -1,10 +1,5 @@
 -- The tables of the reference: antt adds their taps up.
-use mathlib.Core.Path.{◌≡◌, refl, sym, ◌∙◌, ap}
-use Prim.Native.Nat.{ℕ, zero, suc, ◌+◌, ◌-◌}
-use native.Mathlib.Omega.{arith}
-use lib.Dec.{lit≤}
-use lib.IntN.{ℤ, pos, ◌+ℤ◌, ◌*ℤ◌}
-use lib.ListN.{replicate}
+use Rattle.std.proofs.Common.{◌≡◌, refl, sym, ◌∙◌, ap, ℕ, zero, suc, ◌+◌, ◌-◌, arith, lit≤, ℤ, pos, ◌+ℤ◌, ◌*ℤ◌, replicate}
 use Rattle.numbers.specs.Sums.{sum_to}
 use Rattle.numbers.specs.Lists.{total, tabulate}
 use Rattle.numbers.proofs.Sums.{sum_same}

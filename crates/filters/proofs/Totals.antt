@@ -1,12 +1,7 @@
 -- A filter by two sums that a program can compute: its taps, and their sizes, the centre once and the rest twice.
-use mathlib.Core.Path.{◌≡◌, sym, ◌∙◌, ap, ap₂}
-use mathlib.Core.List.{List}
-use mathlib.Core.Logic.{⊎_elim}
-use Prim.Native.Nat.{ℕ, zero, suc, ◌+◌, ◌*◌, ◌^◌, ◌<◌, ◌≤◌}
-use native.Mathlib.Nat.{eq-or-lt_of_le}
-use native.Mathlib.Omega.{arith}
-use lib.IntN.{ℤ, pos, one, nat_abs, neg_ℤ, ◌+ℤ◌, ◌*ℤ◌, +ℤ_comm, *ℤ-one, zero-*ℤ}
-use lib.ListN.{length}
+use Rattle.std.proofs.Common.{◌≡◌, sym, ◌∙◌, ap, ap₂, List, ⊎_elim, ℕ, zero, suc, ◌+◌, ◌*◌, ◌^◌, ◌<◌, ◌≤◌, eq-or-lt_of_le, arith, ℤ, pos, nat_abs, neg_ℤ, ◌+ℤ◌}
+use Rattle.std.proofs.Common.{◌*ℤ◌, length}
+use lib.IntN.{one, +ℤ_comm, *ℤ-one, zero-*ℤ}
 use Rattle.numbers.specs.Sums.{sum_to, apart}
 use Rattle.numbers.specs.Lists.{total}
 use Rattle.numbers.proofs.Integers.{abs_add, abs_neg, add_mul}

@@ -6,7 +6,7 @@
 // `Arms` have it as a fact.
 #![tactic(auto)]
 
-ghost use Rattle.std.specs.Prelude.{◌≡◌, ◌+◌, ◌*◌, ◌-◌, ◌^◌, ◌≤◌, ◌<◌, length};
+ghost use Rattle.std.specs.Prelude.{◌+◌, ◌*◌, ◌-◌, ◌^◌, ◌≤◌, ◌<◌, length};
 ghost use Rattle.reference.specs.Rounding.{R};
 ghost use Rattle.lanes.specs.inner.Lanes.{Small, Filled, Low};
 ghost use Rattle.filters.specs.inner.Filters.{seconds, same_rate, half_rate, Fit, UnityGain, Phases};
@@ -17,7 +17,7 @@ mod start;
 
 pub use copy::{every_second, widen_taps};
 use lanes::Arms;
-pub use start::raise;
+pub use start::bias_all;
 
 // A filter at the rate of its input. v is lent for the copy: made here it would be zeroed for each block.
 #[inline(always)]
@@ -30,7 +30,7 @@ pub fn fir1(y: &mut [i64], h: &[i64], x: &[i64], v: &mut [u64])
     ensures filled { Filled (λ i. R (same_rate h.now x.now i) 24) y.old y.new }
     ensures still_low { Low v.new }
 {
-    start::raise(x, v);
+    start::bias_all(x, v);
     let m = h.len() - 1;
     let c = h[0];
     start::centre(y, c, v, m);
@@ -59,8 +59,8 @@ pub fn dec2(y: &mut [i64], he: &[i64], ho: &[i64], x: &[i64], ve: &mut [u64], vo
 {
     let m = he.len() - 1;
     let o = ho.len();
-    start::raise_second(x, o + 1 - he.len(), ve);
-    start::raise_second(x, he.len() - o, vo);
+    start::bias_second(x, o + 1 - he.len(), ve);
+    start::bias_second(x, he.len() - o, vo);
     let c = he[0];
     start::centre(y, c, ve, m);
     let even = Arms {

@@ -1,7 +1,7 @@
 // A block's sums, rounded in place.
 ghost use Rattle.std.specs.Prelude.{◌≤◌, length};
 ghost use Rattle.lanes.specs.inner.Lanes.{Filled};
-ghost use Rattle.filters.specs.inner.Lifts.{Sums, rounded};
+ghost use Rattle.filters.specs.inner.Biases.{Sums, rounded};
 
 // Every place of y, rounded at the shift Q.
 pub fn all<const Q: u32>(y: &mut [i64])

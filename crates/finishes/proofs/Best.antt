@@ -1,15 +1,8 @@
 -- No order has a smaller greatest lateness than the simulation: the albums that go no later than album a are due no
 -- later, and in any order the last of them finishes no earlier than a does in the simulation.
-use mathlib.Core.Path.{◌≡◌, refl}
-use mathlib.Core.List.{List, [], ◌∷◌}
-use mathlib.Core.Bool.{Bool, true, false, cond}
-use mathlib.Core.Logic.{◌⊎◌, inl, inr, ⊎_elim}
-use Prim.Native.Nat.{ℕ, zero, suc, ◌+◌, ◌-◌, ◌<◌, ◌≤◌}
-use native.Mathlib.Omega.{arith}
-use borrow.Author.Tests.{ltb-true, ltb-false, leb-true}
-use lib.Dec.{le→leb}
-use lib.IntN.{ℤ, pos, negsuc, neg_ℤ, ◌-ℤ◌}
-use lib.Signed.{lt_z, ◌≤ℤ◌}
+use Rattle.std.proofs.Common.{◌≡◌, refl, List, [], ◌∷◌, Bool, true, false, cond, ◌⊎◌, inl, inr, ⊎_elim, ℕ, zero, suc, ◌+◌, ◌-◌, ◌<◌, ◌≤◌, arith, ltb-true}
+use Rattle.std.proofs.Common.{ltb-false, leb-true, le→leb, ℤ, pos, negsuc, neg_ℤ, ◌-ℤ◌, ◌≤ℤ◌}
+use lib.Signed.{lt_z}
 use Rattle.numbers.specs.Lists.{total}
 use Rattle.numbers.proofs.Integers.{pp, nn, add_parts, pp_neg, nn_neg}
 use Rattle.numbers.proofs.Lists.{below_or}

@@ -1,13 +1,7 @@
 -- Sums that one turn changes, and how many turns frames take.
-use mathlib.Core.Path.{◌≡◌, refl, ap}
-use mathlib.Core.List.{List, [], ◌∷◌}
-use mathlib.Core.Bool.{Bool, true, false, cond}
-use mathlib.Core.Logic.{◌⊎◌, inl, inr, ⊎_elim}
-use Prim.Native.Nat.{ℕ, zero, suc, ◌+◌, ◌-◌, ◌/◌, ◌<◌, ◌≤◌}
-use native.Mathlib.Nat.{zero-add, div-eq_of_lt, div-eq-sub-div}
-use native.Mathlib.Omega.{arith}
-use borrow.Author.Tests.{eq-eqb, ne_eqb}
-use lib.Dec.{eqb}
+use Rattle.std.proofs.Common.{◌≡◌, refl, ap, List, [], ◌∷◌, Bool, true, false, cond, ◌⊎◌, inl, inr, ⊎_elim, ℕ, zero, suc, ◌+◌, ◌-◌, ◌/◌, ◌<◌, ◌≤◌, zero-add}
+use Rattle.std.proofs.Common.{arith, eq-eqb, ne_eqb, eqb}
+use native.Mathlib.Nat.{div-eq_of_lt, div-eq-sub-div}
 use Rattle.numbers.specs.Lists.{total}
 use Rattle.numbers.proofs.Lists.{total_same, total_none, below_or}
 use Rattle.finishes.specs.Turns.{after_turn, finish}

@@ -1,15 +1,8 @@
 -- The simulation: the next album is the one that it is to be, and an album finishes after the turns of all that go no
 -- later than it.
-use mathlib.Core.Path.{◌≡◌, refl, sym, ◌∙◌, ap}
-use mathlib.Core.List.{List, [], ◌∷◌}
-use mathlib.Core.Bool.{Bool, true, false, cond, ◌&&◌, ◌||◌}
-use mathlib.Core.Logic.{◌⊎◌, inl, inr, ⊎_elim}
-use Prim.Native.Nat.{ℕ, zero, suc, ◌+◌, ◌-◌, ◌*◌, ◌/◌, ◌<◌, ◌≤◌}
-use native.Mathlib.Nat.{zero-add}
-use native.Mathlib.Numerals.{add-one}
-use native.Mathlib.Omega.{arith}
-use borrow.Author.Tests.{ltb-true, ltb-false, eqb-true, eqb-false, leb-true, le-leb, lt-leb, lt-ltb}
-use lib.Dec.{ltb, eqb, leb}
+use Rattle.std.proofs.Common.{◌≡◌, refl, sym, ◌∙◌, ap, List, [], ◌∷◌, Bool, true, false, cond, ◌&&◌, ◌||◌, ◌⊎◌, inl, inr, ⊎_elim, ℕ, zero, suc, ◌+◌, ◌-◌, ◌*◌}
+use Rattle.std.proofs.Common.{◌/◌, ◌<◌, ◌≤◌, zero-add, add-one, arith, ltb-true, ltb-false, eqb-true, leb-true, le-leb, lt-ltb, ltb, eqb, leb}
+use borrow.Author.Tests.{eqb-false, lt-leb}
 use Rattle.numbers.specs.Lists.{total}
 use Rattle.numbers.proofs.Lists.{below_or}
 use Rattle.boards.specs.Boards.{Board}

@@ -1,8 +1,5 @@
 -- A board worked by hand: turns of 2 frames, and albums of 5, 3 and 4 frames, due after turns 2, 1 and 2.
-use mathlib.Core.Path.{◌≡◌, refl}
-use mathlib.Core.List.{[], ◌∷◌}
-use mathlib.Core.Bool.{true, false}
-use lib.IntN.{pos, negsuc}
+use Rattle.std.proofs.Common.{◌≡◌, refl, [], ◌∷◌, true, false, pos, negsuc}
 use Rattle.numbers.specs.Lists.{total, tabulate}
 use Rattle.numbers.specs.Tests.{each_below}
 use Rattle.boards.specs.Boards.{Board, board, within, in_range}

@@ -1,12 +1,6 @@
 -- The code's windows.
-use mathlib.Core.Path.{◌≡◌, ◌∙◌, ap}
-use mathlib.Core.List.{List}
-use Prim.Native.Nat.{ℕ, ◌+◌, ◌*◌, ◌<◌, ◌≤◌}
-use native.Mathlib.Nat.{mul-le-mul_left}
-use native.Mathlib.Omega.{arith}
-use lib.IntN.{ℤ}
-use lib.ListN.{length, get_or, take, drop, length-drop}
-use lib.Seq.{length-take-le, get_or-take, get_or-drop}
+use Rattle.std.proofs.Common.{◌≡◌, ◌∙◌, ap, List, ℕ, ◌+◌, ◌*◌, ◌<◌, ◌≤◌, mul-le-mul_left, arith, ℤ, length, get_or, take, drop, length-drop, length-take-le}
+use Rattle.std.proofs.Common.{get_or-take, get_or-drop}
 use Rattle.numbers.specs.Sums.{sum_to, at0}
 use Rattle.numbers.proofs.Sums.{sum_same}
 use Rattle.first_stage.specs.inner.Windows.{window_sum}

@@ -1,11 +1,9 @@
 -- A rounded fraction is at most what its bound rounds to, whatever its sign.
-use mathlib.Core.Path.{◌≡◌, refl, sym, ap, ◌∙◌, subst}
-use mathlib.Core.Logic.{◌⊎◌, inl, inr}
-use Prim.Native.Nat.{ℕ, zero, suc, ◌+◌, ◌-◌, ◌*◌, ◌/◌, ◌%◌, ◌^◌, ◌≤◌, ◌<◌, compare}
-use native.Mathlib.Nat.{le_trans, le_of_eq, le_of_lt, mul_right_comm, mul-le-mul_right, le_of_mul-le-mul_right}
-use mathlib.Core.Bool.{Bool, true, false, cond, ◌&&◌, ◌||◌, true≢false}
-use lib.Dec.{T, ltb, eqb, ltb→lt, eqb→eq}
-use lib.Ieee.{Float, nan, inf, fin, Format, prec, emax, low, up, down, size, nearest, units, odd, round, le}
+use Rattle.std.proofs.Common.{◌≡◌, refl, sym, ap, ◌∙◌, subst, ◌⊎◌, inl, inr, ℕ, zero, suc, ◌+◌, ◌-◌, ◌*◌, ◌/◌, ◌%◌, ◌^◌, ◌≤◌, ◌<◌, le_trans, le_of_eq, le_of_lt}
+use Rattle.std.proofs.Common.{mul_right_comm, mul-le-mul_right, le_of_mul-le-mul_right, Bool, true, false, cond, ◌&&◌, ◌||◌, true≢false, T, ltb, eqb, ltb→lt}
+use Rattle.std.proofs.Common.{eqb→eq, Float}
+use Prim.Native.Nat.{compare}
+use lib.Ieee.{nan, inf, fin, Format, prec, emax, low, up, down, size, nearest, units, odd, round, le}
 use lib.Ieee.Fits.{round_is, down_pos, and_l}
 use lib.Ieee.Exact.{HasValue}
 use lib.Ieee.Order.{round_mono}

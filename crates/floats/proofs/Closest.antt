@@ -1,12 +1,9 @@
 -- The nearest whole number to M + a / d and to M - a / d, for an even M: M plus or minus that of a / d. Nothing here is
 -- about floats.
-use mathlib.Core.Path.{◌≡◌, refl, sym, ap, ◌∙◌, subst}
-use mathlib.Core.Logic.{◌⊎◌, inl, inr}
-use Prim.Native.Nat.{ℕ, suc, ◌+◌, ◌-◌, ◌*◌, ◌/◌, ◌%◌, ◌≤◌, ◌<◌, compare, Ordering}
-use native.Mathlib.Nat.{mod-lt, div-add-mod', add-mul, suc-mul, eq-zero-or-pos}
-use native.Mathlib.Omega.{arith}
-use mathlib.Core.Bool.{not}
-use lib.Dec.{T, is_le, compare_is_eq, eqb, leb→le, nleb→lt, eqb→eq, eqb_refl}
+use Rattle.std.proofs.Common.{◌≡◌, refl, sym, ap, ◌∙◌, subst, ◌⊎◌, inl, inr, ℕ, suc, ◌+◌, ◌-◌, ◌*◌, ◌/◌, ◌%◌, ◌≤◌, ◌<◌, mod-lt, div-add-mod', add-mul, suc-mul}
+use Rattle.std.proofs.Common.{eq-zero-or-pos, arith, not, T, eqb, leb→le, eqb→eq}
+use Prim.Native.Nat.{compare, Ordering}
+use lib.Dec.{is_le, compare_is_eq, nleb→lt, eqb_refl}
 use lib.Arith.{lt_of_le-ne, digits_div, digits_mod}
 use lib.Ieee.{nearest}
 use lib.Ieee.Nearest.{closest}

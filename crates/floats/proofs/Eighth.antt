@@ -1,14 +1,11 @@
 -- An eighth of a float is exact, or the float is so small that it and its eighth are both nearest to 0. An eighth of a
 -- float up to 2^36 is below 2^51.
-use mathlib.Core.Path.{◌≡◌, refl, sym, ap, ◌∙◌, subst}
-use Prim.Native.Nat.{ℕ, zero, suc, ◌+◌, ◌-◌, ◌*◌, ◌%◌, ◌^◌, ◌≤◌, ◌<◌, compare, Ordering}
-use native.Mathlib.Nat.{le_trans, le_of_eq, lt_of_lt_of_le, lt_of_le_of_lt, mul-one, zero-mul, zero-add, mul_comm, mul_assoc, mul-le-mul_left, mul-lt-mul_of_pos_right, mul-pos}
-use native.Mathlib.Omega.{arith}
-use mathlib.Core.Bool.{Bool, true, false, not, ◌&&◌}
-use lib.IntN.{ℤ, pos, negsuc}
-use lib.Dec.{T, ltb, leb, eqb, ltb→lt, leb→le, lt→ltb, nleb→lt, lit≤, lit<}
-use lib.Pow.{pow-add, pow_pos, pow_mono}
-use lib.Ieee.{Float, nan, inf, fin, Format, binary64, prec, emax, low, up, down, nearest, round, mul, fits}
+use Rattle.std.proofs.Common.{◌≡◌, refl, sym, ap, ◌∙◌, subst, ℕ, zero, suc, ◌+◌, ◌-◌, ◌*◌, ◌%◌, ◌^◌, ◌≤◌, ◌<◌, le_trans, le_of_eq, lt_of_lt_of_le}
+use Rattle.std.proofs.Common.{lt_of_le_of_lt, mul-one, zero-mul, zero-add, mul_comm, mul_assoc, mul-le-mul_left, mul-lt-mul_of_pos_right, mul-pos, arith, Bool}
+use Rattle.std.proofs.Common.{true, false, not, ◌&&◌, ℤ, pos, negsuc, T, ltb, leb, eqb, ltb→lt, leb→le, lt→ltb, lit≤, lit<, pow-add, pow_pos, pow_mono, Float}
+use Prim.Native.Nat.{compare, Ordering}
+use lib.Dec.{nleb→lt}
+use lib.Ieee.{nan, inf, fin, Format, binary64, prec, emax, low, up, down, nearest, round, mul, fits}
 use lib.Ieee.Fits.{and_l, and_r, down_pos}
 use lib.Ieee.Exact.{HasValue, round_exact}
 use lib.Ieee.Nearest.{closest, closest_same}

@@ -1,12 +1,9 @@
 -- Sums, products and quotients of floats that are finite and not negative grow with their operands. So what is computed
 -- from an x between 0 and X lies between what is computed from 0 and from X.
-use mathlib.Core.Path.{◌≡◌, refl, sym, subst}
-use Prim.Native.Nat.{ℕ, zero, suc, ◌+◌, ◌*◌, ◌≤◌, ◌<◌}
-use native.Mathlib.Nat.{le_refl, le_trans, le_of_eq, mul_comm, mul_assoc, mul_left_comm, mul-le-mul, mul-le-mul_right, mul-pos, mul-mul-mul_comm}
-use native.Mathlib.Omega.{arith}
-use mathlib.Core.Bool.{Bool, true, false, not, cond}
-use lib.Dec.{T, eqb, ltb→lt}
-use lib.Ieee.{Float, nan, inf, fin, binary64, up, down, round, add, mul, div, le}
+use Rattle.std.proofs.Common.{◌≡◌, refl, sym, subst, ℕ, zero, suc, ◌+◌, ◌*◌, ◌≤◌, ◌<◌, le_refl, le_trans, le_of_eq, mul_comm, mul_assoc, mul_left_comm}
+use Rattle.std.proofs.Common.{mul-le-mul, mul-le-mul_right, mul-pos, arith, Bool, true, false, not, cond, T, eqb, ltb→lt, Float}
+use native.Mathlib.Nat.{mul-mul-mul_comm}
+use lib.Ieee.{nan, inf, fin, binary64, up, down, round, add, mul, div, le}
 use lib.Ieee.Fits.{up_pos}
 use lib.Ieee.Exact.{HasValue}
 use lib.Ieee.Bits.{cond_no}

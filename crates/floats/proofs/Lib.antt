@@ -4,4 +4,3 @@ pub mod Middle
 pub mod Eighth
 pub mod Interval
 pub mod Nearest
-pub mod Wholes

@@ -1,17 +1,15 @@
 -- Where `round`'s unit is 1: a fraction from 2 ^ (prec - 1) up to 2 ^ prec rounds to the nearest whole number. So x +
 -- M, for M = 3 * 2 ^ 51 and an x below 2 ^ 51 in size, is M + x to the nearest whole number, and taking M away again,
 -- which is exact, leaves the whole number nearest to x, never -0.
-use mathlib.Core.Path.{◌≡◌, refl, sym, ap, ◌∙◌, subst}
-use Prim.Native.Nat.{ℕ, zero, suc, ◌+◌, ◌-◌, ◌*◌, ◌/◌, ◌%◌, ◌^◌, ◌≤◌, ◌<◌, compare}
-use native.Mathlib.Nat.{le_trans, le_of_eq, lt_of_lt_of_le, lt_of_le_of_lt, lt_of_not-le, not-le_of_lt, mul-one, mul_assoc, mul_right_comm, add-mul}
-use native.Mathlib.Nat.{mul-le-mul_right, mul-lt-mul_of_pos_right, mul-pos, le-div_iff_mul-le, div-lt_iff_lt-mul, eq_of_mul-eq-mul_right}
-use native.Mathlib.Omega.{arith}
-use mathlib.Core.Bool.{Bool, true, false, cond, ◌&&◌, true≢false}
-use lib.IntN.{ℤ, pos}
-use lib.Dec.{T, ltb, ltb→lt, lt→ltb, le→leb, lit≤, lit<}
-use lib.Pow.{pow-add, pow_pos, pow_mono, pow-lt}
+use Rattle.std.proofs.Common.{◌≡◌, refl, sym, ap, ◌∙◌, subst, ℕ, zero, suc, ◌+◌, ◌-◌, ◌*◌, ◌/◌, ◌%◌, ◌^◌, ◌≤◌, ◌<◌, le_trans, le_of_eq, lt_of_lt_of_le}
+use Rattle.std.proofs.Common.{lt_of_le_of_lt, lt_of_not-le, not-le_of_lt, mul-one, mul_assoc, mul_right_comm, add-mul, mul-le-mul_right}
+use Rattle.std.proofs.Common.{mul-lt-mul_of_pos_right, mul-pos, le-div_iff_mul-le, div-lt_iff_lt-mul, arith, Bool, true, false, cond, ◌&&◌, true≢false, ℤ, pos}
+use Rattle.std.proofs.Common.{T, ltb, ltb→lt, lt→ltb, le→leb, lit≤, lit<, pow-add, pow_pos, pow_mono, Float}
+use Prim.Native.Nat.{compare}
+use native.Mathlib.Nat.{eq_of_mul-eq-mul_right}
+use lib.Pow.{pow-lt}
 use lib.Arith.{le→nltb}
-use lib.Ieee.{Float, nan, inf, fin, Format, binary64, prec, emax, low, up, down, size, units, round, sum, add, sub, of_int, to_signed, in_signed, in_float}
+use lib.Ieee.{nan, inf, fin, Format, binary64, prec, emax, low, up, down, size, units, round, sum, add, sub, of_int, to_signed, in_signed, in_float}
 use lib.Ieee.Digits.{size-lt, size-le}
 use lib.Ieee.Fits.{round_is, nearest-le, down_pos, two, two-le_pos}
 use lib.Ieee.Exact.{HasValue, units_val}

@@ -1,11 +1,8 @@
 -- `closest a b` of the kit is what its name says: the whole number nearest a / b, ties to even.
-use mathlib.Core.Path.{◌≡◌, refl, ap, subst}
-use mathlib.Core.Bool.{Bool, true, false, not}
-use mathlib.Core.Logic.{◌⊎◌, inl, inr}
-use Prim.Native.Nat.{ℕ, zero, suc, ◌+◌, ◌*◌, ◌/◌, ◌%◌, ◌≤◌, ◌<◌, compare, Ordering}
-use native.Mathlib.Nat.{mod-lt, div-add-mod', eq-or-lt_of_le, mul-le-mul_right}
-use native.Mathlib.Omega.{arith}
-use lib.Dec.{T, leb, leb→le, nleb→lt}
+use Rattle.std.proofs.Common.{◌≡◌, refl, ap, subst, Bool, true, false, not, ◌⊎◌, inl, inr, ℕ, zero, suc, ◌+◌, ◌*◌, ◌/◌, ◌%◌, ◌≤◌, ◌<◌, mod-lt, div-add-mod'}
+use Rattle.std.proofs.Common.{eq-or-lt_of_le, mul-le-mul_right, arith, T, leb, leb→le}
+use Prim.Native.Nat.{compare, Ordering}
+use lib.Dec.{nleb→lt}
 use lib.Ieee.{nearest}
 use lib.Ieee.Nearest.{closest}
 use Rattle.floats.proofs.Closest.{Cmp, cmp}

@@ -1,18 +1,11 @@
 -- Scaling keeps the order of numbers, so that the least and the greatest of a block are scaled alone.
-use mathlib.Core.Path.{◌≡◌, refl, sym, ap, ◌∙◌, subst}
-use mathlib.Core.Bool.{true, false}
-use mathlib.Core.List.{List}
-use Prim.Native.Nat.{ℕ, zero, suc, ◌+◌, ◌*◌, ◌^◌, ◌≤◌, ◌<◌}
-use native.Mathlib.Nat.{le_trans, le_of_eq, le_of_lt, mul_assoc, mul-pos, mul-le-mul_right}
-use native.Mathlib.Omega.{arith}
-use lib.Dec.{T, lit≤, lit<}
-use lib.IntN.{ℤ, pos, negsuc, neg_ℤ, nat_abs}
-use lib.Ieee.{Float, nan, inf, fin, binary64, up, down, mul, of_int, round}
+use Rattle.std.proofs.Common.{◌≡◌, refl, sym, ap, ◌∙◌, subst, true, false, List, ℕ, zero, suc, ◌+◌, ◌*◌, ◌^◌, ◌≤◌, ◌<◌, le_trans, le_of_eq, le_of_lt, mul_assoc}
+use Rattle.std.proofs.Common.{mul-pos, mul-le-mul_right, arith, T, lit≤, lit<, ℤ, pos, negsuc, neg_ℤ, nat_abs, Float, true≢false, Some}
+use lib.Ieee.{nan, inf, fin, binary64, up, down, mul, of_int, round}
 use lib.Ieee.Fits.{down_pos}
 use lib.Ieee.Exact.{HasValue}
 use lib.Ieee.Nearest.{closest_mono}
 use lib.Ieee.Back.{round_whole}
-use mathlib.Core.Bool.{true≢false}
 use Rattle.numbers.specs.Sums.{at0}
 use Rattle.numbers.specs.Lists.{count}
 use Rattle.numbers.specs.Extremes.{lesser, greater, picked, extreme}
@@ -21,7 +14,6 @@ use Rattle.numbers.proofs.Extremes.{Under, Best, least_best, greatest_best, from
 use Rattle.reference.specs.Scaling.{eighth, scaled, clips}
 use Rattle.floats.proofs.Bound.{AtMost, with_sign, round_signs}
 use Rattle.floats.proofs.Interval.{nonneg, Leq, round_leq, leq_refl, mul_leq}
-use Rattle.std.specs.Prelude.{Some}
 use Rattle.reference.specs.Statistics.{extremes_of}
 use Rattle.gain.specs.Tallies.{tally}
 use Rattle.gain.specs.Scale.{bounded}

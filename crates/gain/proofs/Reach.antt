@@ -1,13 +1,9 @@
 -- The factor of every allowed gain is finite, above 0 and at most 16: what is computed at |db| lies between what is
 -- computed at 0 and at 24 or 120, and antt runs those.
-use mathlib.Core.Path.{◌≡◌, refl, sym, subst}
-use mathlib.Core.Logic.{◌⊎◌, inl, inr}
-use Prim.Native.Nat.{ℕ, zero, suc, ◌*◌, ◌≤◌, zero-le}
-use native.Mathlib.Nat.{le_trans, le_of_eq, le_of_lt, zero-mul, mul-one, lt_of_lt_of_le, mul-pos}
-use mathlib.Core.Bool.{Bool, true, false, not, ◌&&◌, ◌||◌, cond}
-use lib.IntN.{ℤ, pos}
-use lib.Dec.{lit≤, T, ltb, leb, eqb, ltb→lt, lt→ltb, le→leb, eqb→eq}
-use lib.Ieee.{Float, nan, inf, fin, binary64, up, down, add, mul, div, lt, le, of_int, of_bits}
+use Rattle.std.proofs.Common.{◌≡◌, refl, sym, subst, ◌⊎◌, inl, inr, ℕ, zero, suc, ◌*◌, ◌≤◌, zero-le, le_trans, le_of_eq, le_of_lt, zero-mul, mul-one}
+use Rattle.std.proofs.Common.{lt_of_lt_of_le, mul-pos, Bool, true, false, not, ◌&&◌, ◌||◌, cond, ℤ, pos, lit≤, T, ltb, leb, eqb, ltb→lt, lt→ltb, le→leb, eqb→eq}
+use Rattle.std.proofs.Common.{Float}
+use lib.Ieee.{nan, inf, fin, binary64, up, down, add, mul, div, lt, le, of_int, of_bits}
 use lib.Ieee.Fits.{and_i, and_l, and_r, down_pos, up_pos}
 use lib.Ieee.Positive.{den, positive, first_pos}
 use Rattle.floats.proofs.Interval.{nonneg, Leq, leq_refl, leq_trans, mul_leq, add_leq, div_leq}

@@ -1,14 +1,9 @@
 -- A right gain record has the factor that its decibels give, and that factor is bounded; so is that of a record that
 -- the gain call makes.
-use mathlib.Core.Path.{◌≡◌, refl, sym, ap, ◌∙◌, subst}
-use mathlib.Core.Bool.{Bool, true, false, not, ◌&&◌, true≢false}
-use Prim.Native.Nat.{ℕ}
-use Rattle.std.specs.Prelude.{Ok, Err}
+use Rattle.std.proofs.Common.{◌≡◌, refl, sym, ap, ◌∙◌, subst, Bool, true, false, not, ◌&&◌, true≢false, ℕ, Ok, Err, arith, eqb-true, ne_eqb, T, eqb, Float}
+use Rattle.std.proofs.Common.{to_bits}
 use Rattle.std.specs.Float.{float_with_sign}
-use native.Mathlib.Omega.{arith}
-use borrow.Author.Tests.{eqb-true, ne_eqb}
-use lib.Dec.{T, eqb}
-use lib.Ieee.{Float, nan, inf, fin, binary64, of_int, neg, lt, le, fits, is_nan, to_bits, of_bits}
+use lib.Ieee.{nan, inf, fin, binary64, of_int, neg, lt, le, fits, is_nan, of_bits}
 use lib.Ieee.Fits.{nan-fits, cond-fits, mul-fits, div-fits, and_l, and_r}
 use lib.Ieee.Bits.{of_bits-to_bits, is_true}
 use Rattle.reference.specs.Scaling.{whole, squared, magnitude, db_to_linear, allowed, right_gain}

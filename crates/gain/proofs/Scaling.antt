@@ -1,20 +1,14 @@
 -- The scaling of a y below 2^32 in size by a bounded factor, and the clamp of the result.
-use mathlib.Core.Path.{◌≡◌, refl, sym, ◌∙◌}
-use Prim.Native.Nat.{ℕ, zero, suc, ◌*◌, ◌^◌, ◌≤◌, ◌<◌}
-use native.Mathlib.Nat.{le_trans, le_of_eq, le_of_lt, mul-one, mul-le-mul_right, mul-le-mul, mul-mul-mul_comm, mul-pos}
-use native.Mathlib.Omega.{arith}
-use mathlib.Core.Bool.{Bool, true, false, cond}
-use borrow.Author.Tests.{ltb-false}
-use lib.IntN.{ℤ, pos, negsuc, neg_ℤ, nat_abs}
+use Rattle.std.proofs.Common.{◌≡◌, refl, sym, ◌∙◌, ℕ, zero, suc, ◌*◌, ◌^◌, ◌≤◌, ◌<◌, le_trans, le_of_eq, le_of_lt, mul-one, mul-le-mul_right, mul-le-mul}
+use Rattle.std.proofs.Common.{mul-pos, arith, Bool, true, false, cond, ltb-false, ℤ, pos, negsuc, neg_ℤ, nat_abs, T, ltb, leb, leb→le, lit≤, lit<, Float, w32}
+use Rattle.std.proofs.Common.{w64, SFits}
+use native.Mathlib.Nat.{mul-mul-mul_comm}
 use lib.Signed.{lt_z}
-use lib.Dec.{T, ltb, leb, leb→le, lit≤, lit<}
-use lib.Ieee.{Float, nan, inf, fin, binary64, up, down, mul, of_int, of_bits, to_signed, in_signed, round, unlike}
+use lib.Ieee.{nan, inf, fin, binary64, up, down, mul, of_int, of_bits, to_signed, in_signed, round, unlike}
 use lib.Ieee.Fits.{and_r, down_pos, mul-fits}
 use lib.Ieee.Exact.{HasValue}
 use lib.Ieee.Nearest.{closest, closest_mono}
 use lib.Ieee.Back.{round_whole}
-use mir.Syntax.{w32, w64}
-use mir.Val.{SFits}
 use Rattle.numbers.proofs.Integers.{sfits_abs}
 use Rattle.reference.specs.Scaling.{eighth, scaled, clamp}
 use Rattle.floats.specs.inner.Whole.{whole_over, whole_of, below_51}

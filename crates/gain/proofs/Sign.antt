@@ -1,12 +1,6 @@
 -- A float against 0.0, by its sign and its significand.
-use mathlib.Core.Path.{◌≡◌}
-use Prim.Native.Nat.{ℕ, suc, ◌+◌, ◌*◌, ◌<◌, zero-le}
-use native.Mathlib.Nat.{zero-mul, mul-one, mul-pos, zero-lt-suc}
-use native.Mathlib.Omega.{arith}
-use mathlib.Core.Bool.{true, false}
-use borrow.Author.Tests.{lt-ltb, le-ltb}
-use lib.IntN.{ℤ, pos}
-use lib.Ieee.{Float, fin, up, down, lt}
+use Rattle.std.proofs.Common.{◌≡◌, ℕ, suc, ◌+◌, ◌*◌, ◌<◌, zero-le, zero-mul, mul-one, mul-pos, zero-lt-suc, arith, true, false, lt-ltb, le-ltb, ℤ, pos, Float}
+use lib.Ieee.{fin, up, down, lt}
 use lib.Ieee.Fits.{up_pos}
 
 abbrev pub nought : Float

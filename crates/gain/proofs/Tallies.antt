@@ -1,9 +1,5 @@
 -- Laws of tallies: of nothing, of two stretches that meet, of stretches that agree; what is counted, and that it fits.
-use mathlib.Core.Path.{◌≡◌, refl, sym, ap}
-use mathlib.Core.Bool.{cond}
-use Prim.Native.Nat.{ℕ, ◌+◌, ◌^◌, ◌≤◌, ◌<◌}
-use native.Mathlib.Omega.{arith}
-use lib.IntN.{ℤ}
+use Rattle.std.proofs.Common.{◌≡◌, refl, sym, ap, cond, ℕ, ◌+◌, ◌^◌, ◌≤◌, ◌<◌, arith, ℤ}
 use Rattle.numbers.specs.Lists.{total, count}
 use Rattle.numbers.proofs.Lists.{total_join, total_same, count_few}
 use Rattle.reference.specs.Scaling.{clips}

@@ -1,14 +1,7 @@
 -- Three bytes a number hold it: read back, the samples' bytes are the samples.
-use mathlib.Core.Path.{◌≡◌, refl, sym, ap₂, ◌∙◌}
-use mathlib.Core.Bool.{Bool, true, false, cond}
-use mathlib.Core.List.{List, [], ◌++◌}
-use Prim.Native.Nat.{ℕ, ◌+◌, ◌-◌, ◌*◌, ◌/◌, ◌%◌, ◌^◌, ◌<◌}
-use native.Mathlib.Omega.{arith}
-use borrow.Author.Tests.{ltb-false, lt-ltb, le-ltb}
-use lib.Dec.{lit<}
-use lib.IntN.{ℤ, pos, negsuc}
-use lib.ListN.{length, get_or, length-append, get_or-append}
-use lib.Seq.{get_or-append-add}
+use Rattle.std.proofs.Common.{◌≡◌, refl, sym, ap₂, ◌∙◌, Bool, true, false, cond, List, [], ◌++◌, ℕ, ◌+◌, ◌-◌, ◌*◌, ◌/◌, ◌%◌, ◌^◌, ◌<◌, arith, ltb-false, lt-ltb}
+use Rattle.std.proofs.Common.{le-ltb, lit<, ℤ, pos, negsuc, length, get_or, length-append, get_or-append-add}
+use lib.ListN.{get_or-append}
 use lib.Signed.{mag, lt_z}
 use Rattle.numbers.specs.Lists.{tabulate}
 use Rattle.numbers.proofs.Lists.{length_tabulate, get_d_tabulate, is_tabulate, tabulate_same, tabulate_join}

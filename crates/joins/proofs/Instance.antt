@@ -1,18 +1,12 @@
 -- What is asked of a list of calls can be met: for every accepted converter and any two frames, a `convert` of the
 -- first with the second as its neighbour, a refused call, and a `convert_run` of the second with the first as its
 -- neighbour join to the run of both.
-use mathlib.Core.Path.{◌≡◌, ap, sym, ◌∙◌}
-use mathlib.Core.List.{List, [], ◌∷◌, ◌++◌, flat_map, append_assoc, append-nil}
-use mathlib.Core.Bool.{true, false, not}
-use Prim.Native.Nat.{ℕ, ◌+◌, ◌*◌, ◌%◌, ◌<◌}
-use native.Mathlib.Nat.{div-eq_of_eq-mul_left, mod_self, mul-le-mul}
-use native.Mathlib.Omega.{arith}
-use borrow.Author.Tests.{eq-eqb, ne_eqb}
-use lib.Dec.{eqb, ltb, lit<}
+use Rattle.std.proofs.Common.{◌≡◌, ap, sym, ◌∙◌, List, [], ◌∷◌, ◌++◌, append_assoc, append-nil, true, false, not, ℕ, ◌+◌, ◌*◌, ◌%◌, ◌<◌, mul-le-mul, arith}
+use Rattle.std.proofs.Common.{eq-eqb, ne_eqb, eqb, ltb, lit<, ℤ, pos, length, take, replicate, length-append, take_at, drop_at, Ok, Err}
+use mathlib.Core.List.{flat_map}
+use native.Mathlib.Nat.{div-eq_of_eq-mul_left, mod_self}
 use lib.Ieee.{of_int, of_bits, to_bits, mul, div, add, lt, le}
-use lib.IntN.{ℤ, pos}
-use lib.ListN.{length, take, replicate, length-append, length-replicate}
-use lib.Seq.{take_at, drop_at}
+use lib.ListN.{length-replicate}
 use Rattle.numbers.specs.Lists.{Each}
 use Rattle.reference.specs.Taps.{F40}
 use Rattle.reference.specs.Stages.{taps_of, reach}
@@ -26,7 +20,6 @@ use Rattle.reference.specs.Refusals.{opening_places, held_places, input_places, 
 use Rattle.reference.specs.Refusals.{lent_length, byte_lengths, run_lengths, convert_places, convert_run_places}
 use Rattle.reference.specs.Promises.{stats_told, if_lent}
 use Rattle.reference.specs.declared.Converter.{Converter}
-use Rattle.std.specs.Prelude.{Ok, Err}
 use Rattle.reference.specs.declared.PcmError.TheVariants as error
 use Rattle.reference.proofs.Frames.{some_samples}
 use Rattle.reference.proofs.Filters.{built_in_passes}

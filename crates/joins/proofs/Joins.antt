@@ -1,13 +1,8 @@
 -- Cut runs join: demand 3.
-use mathlib.Core.Path.{◌≡◌, refl, ap, ap₂, sym, ◌∙◌}
-use mathlib.Core.List.{List, [], ◌∷◌, ◌++◌, map, flat_map, append_assoc, Memᴰ}
-use mathlib.Core.Bool.{Bool, true, false, cond}
-use Prim.Native.Nat.{ℕ, ◌+◌, ◌*◌, ◌/◌, ◌^◌, ◌≤◌, ◌<◌}
-use native.Mathlib.Nat.{div-eq_of_eq-mul_left, mul-le-mul}
-use native.Mathlib.Omega.{arith}
-use borrow.Author.Tests.{ltb-true}
-use lib.Dec.{ltb}
-use lib.ListN.{length, length-append}
+use Rattle.std.proofs.Common.{◌≡◌, refl, ap, ap₂, sym, ◌∙◌, List, [], ◌∷◌, ◌++◌, map, append_assoc, Bool, true, false, cond, ℕ, ◌+◌, ◌*◌, ◌/◌, ◌^◌, ◌≤◌, ◌<◌}
+use Rattle.std.proofs.Common.{mul-le-mul, arith, ltb-true, ltb, length, length-append}
+use mathlib.Core.List.{flat_map, Memᴰ}
+use native.Mathlib.Nat.{div-eq_of_eq-mul_left}
 use Rattle.numbers.specs.Lists.{tabulate, total, count, Each}
 use Rattle.numbers.proofs.Lists.{tabulate_join, total_join}
 use Rattle.reference.specs.Frames.{Run, frame_length, frame_count, sequence}

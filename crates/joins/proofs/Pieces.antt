@@ -1,12 +1,8 @@
 -- A piece of a run, with neighbours that agree, has the samples and clips that the run has there.
-use mathlib.Core.Path.{◌≡◌, ap, sym, ◌∙◌}
-use mathlib.Core.List.{List, ◌++◌, append_assoc}
-use mathlib.Core.Bool.{Bool, true, false, cond, not}
-use Prim.Native.Nat.{ℕ, suc, ◌+◌, ◌-◌, ◌*◌, ◌/◌, ◌%◌, ◌≤◌, ◌<◌}
-use native.Mathlib.Nat.{zero-add, add-zero, add_assoc, mul-le-mul_right, mul-add-div_right, mul-add-mod_self_right, mod-lt, div-lt_iff_lt-mul}
-use native.Mathlib.Omega.{arith}
-use lib.Dec.{T, leb, leb→le, nleb→lt}
-use lib.ListN.{length}
+use Rattle.std.proofs.Common.{◌≡◌, ap, sym, ◌∙◌, List, ◌++◌, append_assoc, Bool, true, false, cond, not, ℕ, suc, ◌+◌, ◌-◌, ◌*◌, ◌/◌, ◌%◌, ◌≤◌, ◌<◌, zero-add}
+use Rattle.std.proofs.Common.{add-zero, add_assoc, mul-le-mul_right, mod-lt, div-lt_iff_lt-mul, arith, T, leb, leb→le, length}
+use native.Mathlib.Nat.{mul-add-div_right, mul-add-mod_self_right}
+use lib.Dec.{nleb→lt}
 use Rattle.numbers.specs.Lists.{tabulate, count}
 use Rattle.numbers.proofs.Lists.{tabulate_same, total_same}
 use Rattle.reference.specs.Frames.{Run, frame_length, frame, before_frame, sequence, channel_byte}

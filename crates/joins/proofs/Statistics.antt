@@ -1,11 +1,5 @@
 -- Statistics of a stretch of a run's samples: of none, of two stretches joined, of a piece.
-use mathlib.Core.Path.{◌≡◌, refl, ap, sym, ◌∙◌}
-use mathlib.Core.Bool.{Bool, true, false, cond}
-use Prim.Native.Nat.{ℕ, ◌+◌, ◌*◌, ◌^◌, ◌<◌}
-use native.Mathlib.Omega.{arith}
-use borrow.Author.Tests.{ltb-true}
-use lib.Dec.{ltb}
-use Rattle.std.specs.Prelude.{Option, None}
+use Rattle.std.proofs.Common.{◌≡◌, refl, ap, sym, ◌∙◌, Bool, true, false, cond, ℕ, ◌+◌, ◌*◌, ◌^◌, ◌<◌, arith, ltb-true, ltb, Option, None}
 use Rattle.numbers.specs.Lists.{tabulate, total, count}
 use Rattle.numbers.proofs.Lists.{tabulate_same, tabulate_constant, total_join, count_few}
 use Rattle.reference.specs.Frames.{Run}

@@ -1,6 +1,6 @@
 -- Demand 3: calls whose pieces join to a run give, together, what the definition gives for the whole run.
-use Rattle.std.specs.Prelude.{◌≡◌, Bool, true, false, cond, ℕ, suc, ◌+◌, ◌-◌, ◌*◌, ◌/◌, ◌^◌, ◌<◌, ltb, ℤ, pos, negsuc, length, get_or}
-use mathlib.Core.List.{List, [], ◌∷◌, map, flat_map, Memᴰ}
+use Rattle.std.specs.Prelude.{◌≡◌, Bool, true, false, cond, ℕ, suc, ◌+◌, ◌-◌, ◌*◌, ◌/◌, ◌^◌, ◌<◌, ltb, ℤ, pos, negsuc, length, get_or, List, [], ◌∷◌, map}
+use mathlib.Core.List.{flat_map, Memᴰ}
 use Rattle.numbers.specs.Lists.{tabulate}
 use Rattle.reference.specs.Frames.{Run, frame_bytes, frame_count, frame, before_frame, after_frame, sequence, channel_byte}
 use Rattle.reference.specs.Settings.{reach_of}

@@ -1,17 +1,7 @@
 -- Taps as i64: their sums as far as they are added up, and the test of the sums.
-use mathlib.Core.Path.{◌≡◌, refl, ap, sym, ◌∙◌}
-use mathlib.Core.Bool.{Bool, true, false, not, ◌&&◌}
-use mathlib.Core.List.{List}
-use Prim.Native.Nat.{ℕ, suc, ◌+◌, ◌-◌, ◌*◌, ◌^◌, ◌≤◌, ◌<◌}
-use native.Mathlib.Omega.{arith}
-use borrow.Author.Tests.{leb-true}
-use lib.Dec.{leb}
-use lib.IntN.{ℤ, pos, negsuc, nat_abs, ◌+ℤ◌, ◌*ℤ◌}
-use lib.ListN.{length, take, length-take}
+use Rattle.std.proofs.Common.{◌≡◌, refl, ap, sym, ◌∙◌, Bool, true, false, not, ◌&&◌, List, ℕ, suc, ◌+◌, ◌-◌, ◌*◌, ◌^◌, ◌≤◌, ◌<◌, arith, leb-true, leb, ℤ, pos}
+use Rattle.std.proofs.Common.{negsuc, nat_abs, ◌+ℤ◌, ◌*ℤ◌, length, take, length-take, w32, w64, SFits, to_z, of_z, to_z-of_z}
 use lib.Signed.{mag, le_z}
-use mir.Syntax.{w32, w64}
-use mir.Val.{SFits, to_z, of_z}
-use mir.Facts.{to_z-of_z}
 use Rattle.numbers.specs.Lists.{total}
 use Rattle.numbers.specs.Sums.{sum_to}
 use Rattle.numbers.proofs.Integers.{abs_add, abs_mul, sfits_abs}

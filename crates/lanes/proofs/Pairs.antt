@@ -1,20 +1,15 @@
 -- Taps by pairs: their sizes, and one more, every fourth, all.
-use mathlib.Core.Path.{◌≡◌, refl, sym, ◌∙◌, ap, ap₂}
-use mathlib.Core.List.{List}
-use Prim.Native.Nat.{ℕ, zero, suc, ◌+◌, ◌-◌, ◌*◌, ◌^◌, ◌<◌, ◌≤◌}
-use native.Mathlib.Nat.{mul-le-mul}
-use native.Mathlib.Omega.{arith}
-use lib.IntN.{ℤ, pos, nat_abs, ◌+ℤ◌, ◌*ℤ◌}
+use Rattle.std.proofs.Common.{◌≡◌, refl, sym, ◌∙◌, ap, ap₂, List, ℕ, zero, suc, ◌+◌, ◌-◌, ◌*◌, ◌^◌, ◌<◌, ◌≤◌, mul-le-mul, arith, ℤ, pos, nat_abs, ◌+ℤ◌, ◌*ℤ◌}
 use Rattle.numbers.specs.Sums.{sum_to}
 use Rattle.numbers.proofs.Integers.{abs_add, abs_mul, sums}
 use Rattle.numbers.proofs.Sums.{sum_same, sum_join}
 use Rattle.reference.specs.Stages.{tap}
-use Rattle.lanes.specs.inner.Lanes.{Small, raised, arm, arms, fourths, Low}
+use Rattle.lanes.specs.inner.Lanes.{Small, copied, arm, arms, fourths, Low}
 
 -- ---- sizes
-pub raised_size : {v : List ℕ} → Low v → (k : ℕ) → nat_abs (raised v k) ≤ 2 ^ 30
-unfolding raised
-raised_size b k = b.size k
+pub copied_size : {v : List ℕ} → Low v → (k : ℕ) → nat_abs (copied v k) ≤ 2 ^ 30
+unfolding copied
+copied_size b k = b.size k
 
 sum_each : (n : ℕ) (f : ℕ → ℤ) (m : ℕ) → ((k : ℕ) → nat_abs (f k) ≤ m) → nat_abs (sum_to n f) ≤ n * m
 unfolding sum_to
@@ -24,8 +19,8 @@ sum_each (suc n) f m h = omega (arith, abs_add (sum_to n f) (f n), sum_each n f 
 pub product_size : (h a : ℤ) (A : ℕ) → nat_abs h ≤ 2 ^ 25 → nat_abs a ≤ A → nat_abs (h *ℤ a) ≤ 2 ^ 25 * A
 product_size h a A p q = omega (arith, abs_mul h a, mul-le-mul p q)
 
-pub centre_size : (h : ℤ) {v : List ℕ} → nat_abs h ≤ 2 ^ 25 → Low v → (k : ℕ) → nat_abs (h *ℤ raised v k) ≤ 2 ^ 55
-centre_size h {v} p low k = product_size h (raised v k) (2 ^ 30) p (raised_size low k)
+pub centre_size : (h : ℤ) {v : List ℕ} → nat_abs h ≤ 2 ^ 25 → Low v → (k : ℕ) → nat_abs (h *ℤ copied v k) ≤ 2 ^ 55
+centre_size h {v} p low k = product_size h (copied v k) (2 ^ 30) p (copied_size low k)
 
 pub pair_size : (h a b : ℤ) → nat_abs h ≤ 2 ^ 25 → nat_abs a ≤ 2 ^ 30 → nat_abs b ≤ 2 ^ 30 → nat_abs (h *ℤ (a +ℤ b)) ≤ 2 ^ 56
 pair_size h a b p q r = product_size h (a +ℤ b) (2 ^ 31) p (omega (arith, abs_add a b))

@@ -1,11 +1,12 @@
-// Sums gain the taps' products, L places at a time: the lanes. A copy of the block has each value lifted by 2^29, and
+// Sums gain the taps' products, L places at a time: the lanes. A copy of the block has each value biased by 2^29, and
 // a tap's sign stands outside: so each product is of two numbers below 2^32, which the machine multiplies several at
 // a time.
 #![tactic(auto)]
 
 ghost use Rattle.std.specs.Prelude.{◌≡◌, ℕ, ◌+◌, ◌*◌, ◌-◌, ◌^◌, ◌≤◌, ◌<◌, pos, nat_abs, ◌+ℤ◌, ◌*ℤ◌, length};
 ghost use Rattle.numbers.specs.Sums.{at0};
-ghost use Rattle.lanes.specs.inner.Lanes.{Small, Filled, raised, arms, fourths, Low, Lanes, Added, Written};
+ghost use Rattle.numbers.specs.inner.Lists.{Written};
+ghost use Rattle.lanes.specs.inner.Lanes.{Small, Filled, copied, arms, fourths, Low, Lanes, Added};
 
 // s + h * w
 pub fn tap1(s: i64, h: i64, w: u64) -> i64
@@ -20,11 +21,11 @@ pub fn tap1(s: i64, h: i64, w: u64) -> i64
 }
 
 // A sum gains a tap with two values of the copy.
-#[tactic(auto, unfolding(crate::specs::inner::Lanes::raised))]
+#[tactic(auto, unfolding(crate::specs::inner::Lanes::copied))]
 fn pair(s: i64, h: i64, v: &[u64], i: usize, j: usize) -> i64
     requires i_in_bounds { (i < length v.now) × (j < length v.now) × (nat_abs h ≤ 2 ^ 25) × (nat_abs s ≤ 126 * 2 ^ 56) }
     requires low { Low v.now }
-    ensures { result ≡ s +ℤ h *ℤ (raised v.now i +ℤ raised v.now j) }
+    ensures { result ≡ s +ℤ h *ℤ (copied v.now i +ℤ copied v.now j) }
 {
     tap1(s, h, (v[i] + v[j]) % 4294967296)
 }
@@ -34,7 +35,7 @@ fn one<const L: usize>(acc: [i64; L], h: i64, v: &[u64], down: usize, up: usize)
     requires down_in_bounds { (down + L ≤ length v.now) × (up + L ≤ length v.now) × (nat_abs h ≤ 2 ^ 25) }
     requires low { Low v.now }
     requires lanes { Lanes L (126 * 2 ^ 56) acc }
-    ensures { Added L (λ l. h *ℤ (raised v.now (down + l) +ℤ raised v.now (up + l))) acc.entry result }
+    ensures { Added L (λ l. h *ℤ (copied v.now (down + l) +ℤ copied v.now (up + l))) acc.entry result }
 {
     let mut s = acc;
     for l in 0..L {
@@ -56,7 +57,7 @@ pub fn two<const L: usize>(
     requires down_in_bounds { (down + L + 2 ≤ length v.now) × (up + L + 2 ≤ length v.now) × (nat_abs a ≤ 2 ^ 25) × (nat_abs b ≤ 2 ^ 25) }
     requires low { Low v.now }
     requires lanes { Lanes L (125 * 2 ^ 56) acc }
-    ensures { Added L (λ l. a *ℤ (raised v.now (down + 2 + l) +ℤ raised v.now (up + l)) +ℤ b *ℤ (raised v.now (down + l) +ℤ raised v.now (up + 2 + l))) acc.entry result }
+    ensures { Added L (λ l. a *ℤ (copied v.now (down + 2 + l) +ℤ copied v.now (up + l)) +ℤ b *ℤ (copied v.now (down + l) +ℤ copied v.now (up + 2 + l))) acc.entry result }
 {
     let mut s = acc;
     for l in 0..L {
@@ -99,7 +100,7 @@ impl<'a> Arms<'a> {
     fn fourths<const L: usize>(self, acc: [i64; L], from: usize, n: usize) -> [i64; L]
         requires n_in_bounds { (from + 4 * n ≤ length self.h.now + 1) × (self.end + L ≤ length self.v.now + 1) × (self.up + length self.h.now + L ≤ length self.v.now + 1) }
         requires lanes { Lanes L ((127 - 2 * n) * 2 ^ 56) acc }
-        ensures { Added L (λ l. fourths self.entry.h.now (raised self.entry.v.now) from (self.entry.end + l - 1) (self.entry.up + l) n) acc.entry result }
+        ensures { Added L (λ l. fourths self.entry.h.now (copied self.entry.v.now) from (self.entry.end + l - 1) (self.entry.up + l) n) acc.entry result }
     {
         let mut s = acc;
         for k in 0..n {
@@ -121,7 +122,7 @@ impl<'a> Arms<'a> {
     fn singly<const L: usize>(self, acc: [i64; L], from: usize) -> [i64; L]
         requires from_in_bounds { (from ≤ length self.h.now) × (self.end + L ≤ length self.v.now + 1) × (self.up + length self.h.now + L ≤ length self.v.now + 1) }
         requires lanes { Lanes L ((127 - (length self.h.now - from)) * 2 ^ 56) acc }
-        ensures { Added L (λ l. arms self.entry.h.now (raised self.entry.v.now) from (self.entry.end + l - 1) (self.entry.up + l) (length self.entry.h.now - from)) acc.entry result }
+        ensures { Added L (λ l. arms self.entry.h.now (copied self.entry.v.now) from (self.entry.end + l - 1) (self.entry.up + l) (length self.entry.h.now - from)) acc.entry result }
     {
         let mut s = acc;
         for j in from..self.h.len() {
@@ -135,7 +136,7 @@ impl<'a> Arms<'a> {
     pub fn pairs<const L: usize>(self, acc: [i64; L], from: usize) -> [i64; L]
         requires from_in_bounds { (from ≤ length self.h.now) × (self.end + L ≤ length self.v.now + 1) × (self.up + length self.h.now + L ≤ length self.v.now + 1) }
         requires lanes { Lanes L ((127 - length self.h.now) * 2 ^ 56) acc }
-        ensures { Added L (λ l. arms self.entry.h.now (raised self.entry.v.now) from (self.entry.end + l - 1) (self.entry.up + l) (length self.entry.h.now - from)) acc.entry result }
+        ensures { Added L (λ l. arms self.entry.h.now (copied self.entry.v.now) from (self.entry.end + l - 1) (self.entry.up + l) (length self.entry.h.now - from)) acc.entry result }
     {
         let n = (self.h.len() - from) / 4;
         let a = self.fourths(acc, from, n);
@@ -147,8 +148,8 @@ impl<'a> Arms<'a> {
     fn add_block<const L: usize>(self, y: &mut [i64], i: usize, from: usize)
         requires i_in_bounds { (i + L ≤ length y.old) × (from ≤ length self.h.now) × (self.end + i + L ≤ length self.v.now + 1) × (self.up + i + length self.h.now + L ≤ length self.v.now + 1) }
         requires by_index { (k : ℕ) → i ≤ k → nat_abs (at0 y.old k) ≤ (127 - length self.h.now) * 2 ^ 56 }
-        ensures { Written (λ k. at0 y.old k +ℤ arms self.entry.h.now (raised self.entry.v.now)
-            from (self.entry.end + k - 1) (self.entry.up + k) (length self.entry.h.now - from)) i (i + L) y.old y.new }
+        ensures { Written (pos 0) (λ l. i + l) (λ l. at0 y.old (i + l) +ℤ arms self.entry.h.now (copied self.entry.v.now)
+            from (self.entry.end + (i + l) - 1) (self.entry.up + (i + l)) (length self.entry.h.now - from)) L y.old y.new }
     {
         let mut s = [0i64; L];
         s.copy_from_slice(&y[i..i + L]);
@@ -163,7 +164,7 @@ impl<'a> Arms<'a> {
         requires from_in_bounds { (from ≤ length self.h.now) × (self.end + length y.old ≤ length self.v.now + 1)
             × (self.up + length self.h.now + length y.old ≤ length self.v.now + 1) × (length self.v.now ≤ 512) }
         requires small { Small ((127 - length self.h.now) * 2 ^ 56) y.old }
-        ensures { Filled (λ k. at0 y.old k +ℤ arms self.entry.h.now (raised self.entry.v.now) from (self.entry.end + k - 1) (self.entry.up + k) (length self.entry.h.now - from)) y.old y.new }
+        ensures { Filled (λ k. at0 y.old k +ℤ arms self.entry.h.now (copied self.entry.v.now) from (self.entry.end + k - 1) (self.entry.up + k) (length self.entry.h.now - from)) y.old y.new }
     {
         let blocks = y.len() / 14;
         for b in 0..blocks {

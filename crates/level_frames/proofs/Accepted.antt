@@ -1,15 +1,7 @@
 -- A frame with neighbours of its length is accepted; and what is told of an accepted one.
-use mathlib.Core.Path.{◌≡◌, refl, sym, ap, subst, ◌∙◌}
-use mathlib.Core.List.{List, [], ◌∷◌, ◌++◌, append_assoc}
-use mathlib.Core.Bool.{Bool, true, false, not}
-use Rattle.std.proofs.Common.{Ok, Err, true≢false}
-use Prim.Native.Nat.{ℕ, ◌+◌, ◌*◌, ◌/◌, ◌%◌}
+use Rattle.std.proofs.Common.{◌≡◌, refl, sym, ap, subst, ◌∙◌, List, [], ◌∷◌, ◌++◌, append_assoc, Bool, true, false, not, Ok, Err, true≢false, ℕ, ◌+◌, ◌*◌, ◌/◌}
+use Rattle.std.proofs.Common.{◌%◌, arith, eq-eqb, eqb, ltb, ℤ, length}
 use native.Mathlib.Nat.{div_self, mod_self}
-use native.Mathlib.Omega.{arith}
-use borrow.Author.Tests.{eq-eqb}
-use lib.Dec.{eqb, ltb}
-use lib.IntN.{ℤ}
-use lib.ListN.{length}
 use Rattle.reference.specs.Frames.{Run, frame_length, frame_count}
 use Rattle.reference.specs.Output.{samples_per_frame, all_samples}
 use Rattle.reference.specs.Refusals.{is_accepted, Place as Row, Datum, accepted, decide, held_places, one_long, run_length, if_present, input_places, lent_length, run_lengths, convert_frame_places}

@@ -1,14 +1,7 @@
 -- A line byte by byte: what has come of it.
-use mathlib.Core.Path.{◌≡◌, sym, ap, subst, ◌∙◌}
-use mathlib.Core.List.{List, [], ◌++◌, append-nil}
-use mathlib.Core.Logic.{⊎_elim}
-use Prim.Native.Nat.{ℕ, suc, ◌+◌, ◌≤◌, ◌<◌}
-use native.Mathlib.Nat.{eq-or-lt_of_le}
-use native.Mathlib.Omega.{arith}
+use Rattle.std.proofs.Common.{◌≡◌, sym, ap, subst, ◌∙◌, List, [], ◌++◌, append-nil, ⊎_elim, ℕ, suc, ◌+◌, ◌≤◌, ◌<◌, eq-or-lt_of_le, arith, length, take, drop}
+use Rattle.std.proofs.Common.{get_or, length-drop, get_or-take, length-take-le, take_all, Option}
 use borrow.Rule.Slice.PartMut.{put_mid, same_len_mid, mid_of}
-use lib.ListN.{length, take, drop, get_or, length-drop}
-use lib.Seq.{get_or-take, length-take-le, take_all}
-use Rattle.std.specs.Prelude.{Option}
 use Rattle.std.specs.Io.KnownBytes.{Consumes, IsAtEnd}
 use Rattle.std.proofs.lemmas.Slice.{take-put_mid, take-put_mid_below}
 use Rattle.level_input.specs.inner.Lines.{NoNewline, Newline, Unended}

@@ -1,10 +1,5 @@
 -- Bytes that a reader has left, taken one after the other; and bytes that a writer holds.
-use mathlib.Core.Path.{◌≡◌, refl, sym, ap, subst, ◌∙◌}
-use mathlib.Core.List.{List, [], ◌++◌, append_assoc, append-nil}
-use Prim.Native.Nat.{ℕ, ◌+◌}
-use lib.ListN.{take, drop}
-use lib.Seq.{take-add}
-use Rattle.std.specs.Prelude.{Option, Some, None}
+use Rattle.std.proofs.Common.{◌≡◌, refl, sym, ap, subst, ◌∙◌, List, [], ◌++◌, append_assoc, append-nil, ℕ, ◌+◌, take, drop, take-add, Option, Some, None}
 use Rattle.std.specs.Io.KnownBytes.{Consumes, Appends}
 
 pub consumes_none : (a : Option (List ℕ)) → Consumes a a []

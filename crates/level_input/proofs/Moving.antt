@@ -1,11 +1,5 @@
 -- The frames of a buffer moved on.
-use mathlib.Core.Path.{◌≡◌, refl}
-use mathlib.Core.List.{List}
-use Prim.Native.Nat.{ℕ, ◌-◌, ◌*◌}
-use native.Mathlib.Nat.{zero-add}
-use native.Mathlib.Omega.{arith}
-use lib.ListN.{length, take, drop, length-drop}
-use lib.Seq.{take_all}
+use Rattle.std.proofs.Common.{◌≡◌, refl, List, ℕ, ◌-◌, ◌*◌, zero-add, arith, length, take, drop, length-drop, take_all}
 use Rattle.std.specs.List.{copy_within}
 use Rattle.level_input.specs.inner.Moved.{moved_on}
 

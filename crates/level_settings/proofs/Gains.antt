@@ -1,13 +1,6 @@
 -- Laws of `DecibelsRead`: after a minus sign, and without one.
-use mathlib.Core.Path.{◌≡◌, refl, sym, ap, ◌∙◌}
-use mathlib.Core.List.{List, ◌∷◌}
-use Prim.Native.Nat.{ℕ, zero, suc, ◌<◌, ◌≤◌}
-use native.Mathlib.Omega.{arith}
-use lib.Dec.{leb→le, le→leb}
-use lib.IntN.{ℤ, pos, negsuc, neg_ℤ}
-use lib.ListN.{get_or}
-use lib.Signed.{◌≤ℤ◌}
-use Rattle.std.specs.Prelude.{Option, Some, None}
+use Rattle.std.proofs.Common.{◌≡◌, refl, sym, ap, ◌∙◌, List, ◌∷◌, ℕ, zero, suc, ◌<◌, ◌≤◌, arith, leb→le, le→leb, ℤ, pos, negsuc, neg_ℤ, get_or, ◌≤ℤ◌, Option}
+use Rattle.std.proofs.Common.{Some, None}
 use Rattle.text.specs.Text.{decimal, signed_decimal}
 use Rattle.text.specs.inner.Reading.{NumberRead}
 use Rattle.level_settings.specs.inner.Reading.{DecibelsRead}

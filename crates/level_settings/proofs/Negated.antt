@@ -1,10 +1,7 @@
 -- -n of an n that is small, at 32 bits.
-use mathlib.Core.Path.{◌≡◌, ◌∙◌}
-use Prim.Native.Nat.{ℕ, ◌<◌}
-use lib.IntN.{pos, neg_ℤ, ◌-ℤ◌, +ℤ_idl}
-use mir.Syntax.{w32}
-use mir.Val.{SFits, to_z, of_z}
-use mir.Facts.{to_z-of_z, to_z_pos}
+use Rattle.std.proofs.Common.{◌≡◌, ◌∙◌, ℕ, ◌<◌, pos, neg_ℤ, ◌-ℤ◌, w32, SFits, to_z, of_z, to_z-of_z}
+use lib.IntN.{+ℤ_idl}
+use mir.Facts.{to_z_pos}
 use Rattle.numbers.proofs.Integers.{sfits_abs, abs_neg}
 
 module _ (n : ℕ) (h : n < 2147483648) where

@@ -1,17 +1,10 @@
 -- Words compared with a name.
-use mathlib.Core.Path.{◌≡◌, sym, ◌∙◌}
-use mathlib.Core.Bool.{Bool, true, false, true≢false}
-use mathlib.Core.List.{List, [], ◌∷◌}
-use Prim.Native.Nat.{ℕ}
-use lib.ListN.{length, take}
+use Rattle.std.proofs.Common.{◌≡◌, sym, ◌∙◌, Bool, true, false, true≢false, List, [], ◌∷◌, ℕ, length, take}
 use Rattle.std.specs.Str.{bytes_eq}
 use Rattle.std.proofs.lemmas.Slice.Eq.{bytes_eq-Decides}
 
 pub word_is : {w v : List ℕ} {b : Bool} → b ≡ true → b ≡ bytes_eq w v → w ≡ v
 word_is {w} {v} t e = (bytes_eq-Decides w v).0 (sym e ∙ t)
-
-pub word_no : {w v : List ℕ} {b : Bool} → b ≡ false → b ≡ bytes_eq w v → w ≡ v → ⊥
-word_no {w} {v} f e q = true≢false (sym ((bytes_eq-Decides w v).1 q) ∙ sym e ∙ f)
 
 -- a text without a minus sign in front
 pub no_sign : {p t : List ℕ} → p ≡ 45 ∷ [] → bytes_eq (take (length p) t) p ≡ false → (rest : List ℕ) → t ≡ 45 ∷ rest → ⊥

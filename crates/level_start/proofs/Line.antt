@@ -1,17 +1,9 @@
 -- What an input sets, out of its line.
-use mathlib.Core.Path.{◌≡◌, refl, sym, ap, ◌∙◌}
-use mathlib.Core.Bool.{Bool, true, ◌&&◌, and-eq-true_iff}
-use mathlib.Core.List.{List, [], ◌∷◌, ◌++◌, append_assoc}
-use mathlib.Core.Logic.{⊎_elim}
-use Prim.Native.Nat.{ℕ, zero, suc, ◌≤◌, ◌<◌}
-use native.Mathlib.Omega.{arith}
-use borrow.Author.Tests.{ltb-true}
-use lib.Dec.{ltb, leb→le}
-use lib.IntN.{ℤ, pos, negsuc}
-use lib.ListN.{length, take, drop, get_or, length-append, get_or-append}
-use lib.Seq.{get_or-take, length-take-le, take_at, drop_at, take-suc}
-use lib.Signed.{◌≤ℤ◌}
-use Rattle.std.specs.Prelude.{Option, Some, None, IfSome}
+use Rattle.std.proofs.Common.{◌≡◌, refl, sym, ap, ◌∙◌, Bool, true, ◌&&◌, List, [], ◌∷◌, ◌++◌, append_assoc, ⊎_elim, ℕ, zero, suc, ◌≤◌, ◌<◌, arith, ltb-true}
+use Rattle.std.proofs.Common.{ltb, leb→le, ℤ, pos, negsuc, length, take, drop, get_or, length-append, get_or-take, length-take-le, take_at, drop_at, take-suc}
+use Rattle.std.proofs.Common.{◌≤ℤ◌, Option, Some, None, IfSome}
+use mathlib.Core.Bool.{and-eq-true_iff}
+use lib.ListN.{get_or-append}
 use Rattle.std.specs.Io.KnownBytes.{Appends}
 use Rattle.std.proofs.lemmas.List.{get_or_at}
 use Rattle.numbers.proofs.Lists.{below_or}

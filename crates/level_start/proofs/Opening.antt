@@ -1,9 +1,5 @@
 -- The converter that opens with a line's settings.
-use mathlib.Core.Path.{◌≡◌, sym, ap, subst, ◌∙◌}
-use mathlib.Core.Bool.{false}
-use mathlib.Core.List.{List}
-use Prim.Native.Nat.{ℕ, ◌≤◌}
-use Rattle.std.specs.Prelude.{Result, Ok, Err, Option, Some, None}
+use Rattle.std.proofs.Common.{◌≡◌, sym, ap, subst, ◌∙◌, false, List, ℕ, ◌≤◌, Result, Ok, Err, Option, Some, None}
 use Rattle.std.specs.Io.KnownBytes.{Appends}
 use Rattle.reference.specs.Refusals.{accepted, decide, held_places, is_accepted, refusal_number, error_decision, opening_places}
 use Rattle.reference.specs.Settings.{converter_of}

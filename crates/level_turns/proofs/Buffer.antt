@@ -1,14 +1,8 @@
 -- The buffer of three frames over a turn.
-use mathlib.Core.Path.{◌≡◌, refl, sym, ap, ap₂, subst, ◌∙◌}
-use mathlib.Core.List.{List, ◌++◌}
-use mathlib.Core.Bool.{Bool}
-use Prim.Native.Nat.{ℕ, ◌+◌, ◌-◌, ◌*◌, ◌≤◌, ◌<◌}
-use native.Mathlib.Omega.{arith}
+use Rattle.std.proofs.Common.{◌≡◌, refl, sym, ap, ap₂, subst, ◌∙◌, List, ◌++◌, Bool, ℕ, ◌+◌, ◌-◌, ◌*◌, ◌≤◌, ◌<◌, arith, eqb, ltb, length, take, drop}
+use Rattle.std.proofs.Common.{length-append, length-drop, length-take-le, take-take, take-add, take_at, drop_at, drop-drop, Option}
 use borrow.Rule.Slice.PartMut.{put_mid, mid_of, mid_len, same_len_mid}
-use lib.Dec.{eqb, ltb}
-use lib.ListN.{length, take, drop, length-append, length-drop}
-use lib.Seq.{length-take-le, take-take, take-add, take_at, drop_at, drop-drop, take-append-le, drop-append-le}
-use Rattle.std.specs.Prelude.{Option}
+use lib.Seq.{take-append-le, drop-append-le}
 use Rattle.std.specs.Io.KnownBytes.{Consumes, Appends, IsAtEnd}
 use Rattle.std.proofs.lemmas.Slice.{take-put_mid}
 use Rattle.reference.specs.Frames.{Run, run}
@@ -18,7 +12,7 @@ use Rattle.overs.specs.Overs.{Progress}
 use Rattle.levels.specs.Levels.{piece_lines}
 use Rattle.level_frames.specs.inner.Told.{OneLong}
 use Rattle.level_input.specs.inner.Moved.{moved_on}
-use Rattle.level_turns.specs.inner.Turns.{at_hand, FrameTold, moment, told_frame, Turned}
+use Rattle.level_turns.specs.inner.Turns.{at_hand, FrameCounted, moment, told_frame, Turned}
 
 -- ---- parts of the buffer
 
@@ -134,7 +128,7 @@ module _ (size : ℕ) (three next fresh tail filled : List ℕ)
       ∙ take_at fresh tail (length filled - 2 * size) (omega (arith, room, one))
 
   pub turned : {conv : Converter} {r : Run} {frames left came clipped clipped' : ℕ} {states states' : List Progress} (rem rem' held held' : Option (List ℕ))
-      → FrameTold conv frames r clipped states clipped' states' → Appends held held' (piece_lines conv frames states r)
+      → FrameCounted conv frames r clipped states clipped' states' → Appends held held' (piece_lines conv frames states r)
       → r ≡ at_hand frames (eqb came size) size filled → left ≡ size → came ≤ size → Consumes rem rem' (take came fresh) → (came < size → IsAtEnd rem')
       → Turned conv size (moment frames clipped states left three) (moment (frames + 1) clipped' states' came next) rem rem' held held'
   turned {conv} {r} {frames} {left} {came} {clipped} {clipped'} {states} {states'} rem rem' held held' t wrote is whole few read end =
@@ -144,7 +138,7 @@ module _ (size : ℕ) (three next fresh tail filled : List ℕ)
         room = ap length e ∙ moved_long size filled room;
         kept = ap (part 0 size) e ∙ moved_front size filled room ∙ middle_same size three filled long room front_kept;
         frames = refl;
-        told = subst (λ p. FrameTold conv frames p clipped states clipped' states') own t;
+        told = subst (λ p. FrameCounted conv frames p clipped states clipped' states') own t;
         read = subst (λ z. Consumes rem rem' (take came z)) (sym fresh_is) read;
         end = end;
         wrote = subst (λ p. Appends held held' (piece_lines conv frames states p)) own wrote;

@@ -1,18 +1,13 @@
 -- The report of the frames, out of its turns and its end.
-use mathlib.Core.Path.{◌≡◌, sym, ap, subst, ◌∙◌}
-use mathlib.Core.List.{List, ◌++◌, append-nil}
-use Prim.Native.Nat.{ℕ, ◌+◌, ◌*◌, ◌<◌}
-use native.Mathlib.Omega.{arith}
-use lib.ListN.{length, length-append}
-use Rattle.std.specs.Prelude.{Option, Some, None, IfSome}
+use Rattle.std.proofs.Common.{◌≡◌, sym, ap, subst, ◌∙◌, List, ◌++◌, append-nil, ℕ, ◌+◌, ◌*◌, ◌<◌, arith, length, length-append, Option, Some, None, IfSome}
 use Rattle.std.specs.Io.KnownBytes.{Consumes, Appends, IsAtEnd}
 use Rattle.reference.specs.Frames.{frame_length}
 use Rattle.reference.specs.declared.Converter.{Converter}
 use Rattle.level_input.proofs.Known.{appends_more}
 use Rattle.level_frames.specs.Report.{ending, lines_of, text_by}
-use Rattle.level_turns.specs.inner.Turns.{AllTold}
+use Rattle.level_turns.specs.inner.Turns.{StreamTold}
 
-module _ (conv : Converter) (frames clipped left : ℕ) (from from' held held' : Option (List ℕ)) (told : AllTold conv frames clipped left from from' held held') where
+module _ (conv : Converter) (frames clipped left : ℕ) (from from' held held' : Option (List ℕ)) (told : StreamTold conv frames clipped left from from' held held') where
   pub all_printed : (held'' : Option (List ℕ)) → left < frame_length conv.channels → Appends held' held'' (ending left frames clipped)
       → IfSome from (λ input. length input < 100000000000000 * frame_length conv.channels → Appends held held'' (text_by conv input (lines_of conv input)))
   all_printed held'' few w = go from from' told.read (told.end few)

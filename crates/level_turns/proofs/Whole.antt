@@ -1,15 +1,10 @@
 -- Turns one after the other tell what the whole input, the bytes that have come, has: its counts, and its text.
-use mathlib.Core.Path.{◌≡◌, refl, sym, ap, ap₂, subst, ◌∙◌}
-use mathlib.Core.List.{List, [], ◌++◌, append_assoc, append-nil}
-use mathlib.Core.Logic.{⊎_elim}
-use Prim.Native.Nat.{ℕ, suc, ◌+◌, ◌-◌, ◌*◌, ◌/◌, ◌%◌, ◌≤◌, ◌<◌}
-use native.Mathlib.Nat.{zero-add, zero-mul, add-zero, suc-mul, mul-add-div_right, mul-add-mod_self_right, mod-eq_of_lt, div-eq_of_lt}
-use native.Mathlib.Omega.{arith}
-use borrow.Author.Tests.{lt-ltb, le-ltb, eq-eqb, ne_eqb}
-use lib.Dec.{eqb, ltb}
-use lib.ListN.{length, take, drop, replicate, get_or-replicate, length-append, length-drop}
-use lib.Seq.{length-take-le, take_all, take_at, drop_at, take-append-le, drop-append-le}
-use Rattle.std.specs.Prelude.{Option}
+use Rattle.std.proofs.Common.{◌≡◌, refl, sym, ap, ap₂, subst, ◌∙◌, List, [], ◌++◌, append_assoc, append-nil, ⊎_elim, ℕ, suc, ◌+◌, ◌-◌, ◌*◌, ◌/◌, ◌%◌, ◌≤◌, ◌<◌}
+use Rattle.std.proofs.Common.{zero-add, zero-mul, add-zero, suc-mul, mod-eq_of_lt, arith, lt-ltb, le-ltb, eq-eqb, ne_eqb, eqb, ltb, length, take, drop}
+use Rattle.std.proofs.Common.{replicate, length-append, length-drop, length-take-le, take_all, take_at, drop_at, Option}
+use native.Mathlib.Nat.{mul-add-div_right, mul-add-mod_self_right, div-eq_of_lt}
+use lib.ListN.{get_or-replicate}
+use lib.Seq.{take-append-le, drop-append-le}
 use Rattle.std.specs.Io.KnownBytes.{Consumes, Appends, IsAtEnd}
 use Rattle.numbers.specs.Lists.{tabulate, total}
 use Rattle.numbers.proofs.Lists.{below_or, part_end}
@@ -27,7 +22,7 @@ use Rattle.levels.specs.Levels.{whole_input, FrameOf, InProgress, piece_lines}
 use Rattle.levels.proofs.Whole.{lines_same, states_same, clips_same}
 use Rattle.level_frames.specs.Report.{ending, left_over, all_clips, lines_of, text_by}
 use Rattle.level_frames.proofs.Printing.{joined_more}
-use Rattle.level_turns.specs.inner.Turns.{Moment, here, told_frame, Turned, AllTold}
+use Rattle.level_turns.specs.inner.Turns.{Moment, here, told_frame, Turned, StreamTold}
 
 -- the bytes that have come by a moment, where they lie in the buffer, the text that was passed on, and what is told of
 -- any input that begins with these bytes; where the frame at hand is not whole, that is the input
@@ -292,7 +287,7 @@ module _ (conv : Converter) (opens : decide (held_places conv) ≡ accepted) {m 
     unfolding text_by
     whole i = text_is i ++ ending (left_is i) (frames_are i) (clips_are i)
 
-  pub all_told : (m.left ≡ frame_length conv.channels → m.frames ≡ 100000000000000) → AllTold conv m.frames m.clipped m.left from from' held held'
+  pub all_told : (m.left ≡ frame_length conv.channels → m.frames ≡ 100000000000000) → StreamTold conv m.frames m.clipped m.left from from' held held'
   all_told many = record {
     input = so.input;
     text = so.text;

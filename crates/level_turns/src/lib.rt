@@ -10,7 +10,7 @@ ghost use Rattle.levels.specs.Levels.{piece_lines};
 ghost use Rattle.level_frames.specs.Report.{lines_of, text_by};
 ghost use Rattle.level_frames.specs.inner.Told.{OneLong};
 ghost use Rattle.level_turns.specs.inner.Turns as hand;
-ghost use Rattle.level_turns.specs.inner.Turns.{FrameTold, Turned, AllTold, moment};
+ghost use Rattle.level_turns.specs.inner.Turns.{FrameCounted, Turned, StreamTold, moment};
 
 use level_frames::{FewChannels, Report};
 use level_input::{fill, move_on, write_first};
@@ -54,7 +54,7 @@ fn at_hand<'a>(number: u64, has_after: bool, size: usize, three: &'a [u8]) -> Ru
 fn tell<'a, W: Write>(report: &mut Report, number: u64, run: Run<'a>, to: &mut W) -> io::Result<()>
     requires one_long { OneLong (frame_length report.old.of.conv.channels) (run_of run) }
     requires few { (number < 100000000000000) × (report.old.clipped ≤ 28224 * number) }
-    ensures told { IfOk result (λ _. FrameTold report.old.of.conv number (run_of run.entry) report.old.clipped report.old.states report.new.clipped report.new.states) }
+    ensures told { IfOk result (λ _. FrameCounted report.old.of.conv number (run_of run.entry) report.old.clipped report.old.states report.new.clipped report.new.states) }
     ensures wrote { IfOk result (λ _. Appends (W.contents to.old) (W.contents to.new) (piece_lines report.old.of.conv number report.old.states (run_of run.entry))) }
     ensures few { IfOk result (λ _. (report.new.of ≡ report.old.of) × (report.new.clipped ≤ 28224 * (number + 1))) }
 {
@@ -97,7 +97,7 @@ impl<'a> Window<'a> {
 // All frames, from the first one on.
 fn turns<R: Read, W: Write>(report: &mut Report, from: &mut R, to: &mut W) -> io::Result<Came>
     requires { (report.old.clipped ≡ 0) × (report.old.states ≡ replicate 6 none) }
-    ensures { IfOk result (λ came. AllTold report.old.of.conv came.frames report.new.clipped came.left (R.remaining from.old) (R.remaining from.new) (W.contents to.old) (W.contents to.new)) }
+    ensures { IfOk result (λ came. StreamTold report.old.of.conv came.frames report.new.clipped came.left (R.remaining from.old) (R.remaining from.new) (W.contents to.old) (W.contents to.new)) }
 {
     let size = report.of.size();
     let mut three = [0u8; 28224];

@@ -1,5 +1,6 @@
 -- What a converted frame tells is what the definition says of it.
-use Rattle.std.proofs.Common.{◌≡◌, ap, ℕ, zero, suc, ◌+◌, ◌*◌, ◌/◌, ◌<◌, ◌≤◌, length, get_or, ℤ, pos, refl, ◌∙◌, add-zero, mod-eq_of_lt, one-mul, zero-add, zero-mul, arith, lt-ltb}
+use Rattle.std.proofs.Common.{◌≡◌, ap, ℕ, zero, suc, ◌+◌, ◌*◌, ◌/◌, ◌<◌, ◌≤◌, length, get_or, ℤ, pos, refl, ◌∙◌, add-zero, mod-eq_of_lt, one-mul, zero-add}
+use Rattle.std.proofs.Common.{zero-mul, arith, lt-ltb}
 use native.Mathlib.Nat.{mul-add-div_right, mul-add-mod_self_right, div-eq_of_lt, mul-div_left}
 use lib.Arith.{digits_lt}
 use Rattle.numbers.specs.Extremes.{lesser, greater, extreme}

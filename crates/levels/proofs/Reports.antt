@@ -1,5 +1,6 @@
 -- What `frame_report` tells, once the frame is converted.
-use Rattle.std.proofs.Common.{◌≡◌, ℕ, suc, ◌*◌, ◌/◌, ◌<◌, ◌≤◌, false, List, length, get_or, ℤ, sym, refl, ap, ◌∙◌, subst, true≢false, mul-le-mul_right, zero-add, arith, eqb-true}
+use Rattle.std.proofs.Common.{◌≡◌, ℕ, suc, ◌*◌, ◌/◌, ◌<◌, ◌≤◌, false, List, length, get_or, ℤ, sym, refl, ap, ◌∙◌, subst, true≢false, mul-le-mul_right}
+use Rattle.std.proofs.Common.{zero-add, arith, eqb-true, Ok, Err}
 use native.Mathlib.Nat.{div_self, mul-div_left}
 use borrow.Author.Tests.{not-false}
 use Rattle.numbers.specs.Lists.{tabulate}
@@ -11,7 +12,6 @@ use Rattle.reference.specs.Promises.{stats_told, ConvertFramePromise}
 use Rattle.reference.specs.declared.Converter.{Converter}
 use Rattle.reference.specs.declared.ConvertStats.{ConvertStats}
 use Rattle.reference.specs.Statistics.{channel_of, clip_sum}
-use Rattle.std.specs.Prelude.{Ok, Err}
 use Rattle.reference.specs.declared.PcmError.{PcmError}
 use Rattle.reference.proofs.Frames.{some_samples}
 use Rattle.reference.proofs.Promises.{exit_accepted, exit_refused}

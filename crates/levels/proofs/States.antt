@@ -1,6 +1,6 @@
 -- What is in progress after a frame, channel by channel.
-use Rattle.std.proofs.Common.{◌≡◌, ℕ, ◌+◌, ◌<◌, Bool, true, false, cond, eqb, ltb, List, get_or, set, replicate, ℤ, refl, ◌∙◌}
-use Rattle.std.proofs.Common.{⊎_elim, zero-add, arith, length-set, get_or-set_other, get_or-set_same, le-ltb, lt-ltb, eqb-true}
+use Rattle.std.proofs.Common.{◌≡◌, ℕ, ◌+◌, ◌<◌, Bool, true, false, cond, eqb, ltb, List, get_or, set, replicate, ℤ, refl, ◌∙◌, ⊎_elim, zero-add, arith}
+use Rattle.std.proofs.Common.{length-set, get_or-set_other, get_or-set_same, le-ltb, lt-ltb, eqb-true}
 use borrow.Author.Tests.{eqb-false}
 use Rattle.numbers.specs.Lists.{tabulate}
 use Rattle.numbers.proofs.Lists.{get_d_tabulate, length_tabulate, is_tabulate, below_or}

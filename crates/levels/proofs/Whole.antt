@@ -1,7 +1,6 @@
 -- A frame with the frames read before and after it as neighbours tells what the whole input, as one run, tells of it.
-use Rattle.std.proofs.Common.{◌≡◌, ℕ, zero, suc, ◌+◌, ◌-◌, ◌*◌, ◌/◌, ◌<◌, ◌≤◌, List, ◌++◌, length, get_or, take}
-use Rattle.std.proofs.Common.{drop, replicate, ℤ, sym, refl, ap, ◌∙◌, ⊎_elim, one-mul, zero-add, zero-mul}
-use Rattle.std.proofs.Common.{div-mul-le_self, arith, length-drop, take-append-drop, length-take-le, le-ltb, lt-ltb}
+use Rattle.std.proofs.Common.{◌≡◌, ℕ, zero, suc, ◌+◌, ◌-◌, ◌*◌, ◌/◌, ◌<◌, ◌≤◌, List, ◌++◌, length, get_or, take, drop, replicate, ℤ, sym, refl, ap, ◌∙◌, ⊎_elim}
+use Rattle.std.proofs.Common.{one-mul, zero-add, zero-mul, div-mul-le_self, arith, length-drop, take-append-drop, length-take-le, le-ltb, lt-ltb}
 use native.Mathlib.Nat.{div_self}
 use lib.ListN.{length-replicate}
 use lib.Seq.{take-append-le, drop-append-le}

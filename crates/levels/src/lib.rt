@@ -1,7 +1,7 @@
 // The figures of the level report: a frame is converted with its neighbours, and the lines of its channels are printed.
 #![tactic(auto)]
 
-ghost use Rattle.std.specs.Prelude.{◌≡◌, ◌*◌, ◌+◌, ◌/◌, ◌<◌, ◌≤◌, length, slice_index_or};
+ghost use Rattle.std.specs.Prelude.{◌≡◌, ◌*◌, ◌/◌, ◌<◌, ◌≤◌, length, slice_index_or};
 ghost use Rattle.numbers.specs.Lists.{tabulate};
 ghost use Rattle.reference.specs.Frames.{run_of};
 ghost use Rattle.reference.specs.Statistics.{channel_of};

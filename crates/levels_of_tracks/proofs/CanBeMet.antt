@@ -1,10 +1,6 @@
 -- A call on each frame: frame by frame, each with those next to it.
-use mathlib.Core.Path.{◌≡◌, refl, sym, ◌∙◌}
-use mathlib.Core.List.{List, [], ◌∷◌}
-use Prim.Native.Nat.{ℕ, zero, suc, ◌+◌, ◌-◌, ◌*◌, ◌≤◌, ◌<◌}
-use native.Mathlib.Omega.{arith}
-use lib.ListN.{length, replicate, length-replicate}
-use Rattle.std.specs.Prelude.{Ok, nat_lt}
+use Rattle.std.proofs.Common.{◌≡◌, refl, sym, ◌∙◌, List, [], ◌∷◌, ℕ, zero, suc, ◌+◌, ◌-◌, ◌*◌, ◌<◌, arith, length, replicate, Ok, nat_lt}
+use lib.ListN.{length-replicate}
 use Rattle.reference.specs.Frames.{Run, run, frame_length, frame_count, frame}
 use Rattle.reference.specs.Refusals.{decide, accepted}
 use Rattle.reference.specs.declared.Settings.{Settings}
@@ -23,7 +19,7 @@ use Rattle.tracks_to_files.specs.Heads.{tracks_of}
 use Rattle.tracks_to_files.proofs.Heads.{heads_tell}
 use Rattle.tracks_to_files.proofs.Calls.{frames_taken}
 use Rattle.tracks_to_files.proofs.Made.{made, made_long, made_at}
-use Rattle.levels_of_tracks.specs.Levels.{Gathered, Before, FrameTold, FramesTold, LevelsCanBeTold}
+use Rattle.levels_of_tracks.specs.Levels.{GatheredRun, Before, FrameTold, FramesTold, LevelsCanBeTold}
 use Rattle.levels_of_tracks.proofs.Frames.{count_is}
 
 module _ (files : List (List ℕ)) (hs : List Head) (s : Settings) (g : HeadsOf files hs) (taken : decide (open_places hs s) ≡ accepted) where
@@ -77,7 +73,7 @@ module _ (files : List (List ℕ)) (hs : List Head) (s : Settings) (g : HeadsOf 
             after = λ l. refl;
           }
 
-      gathered : Gathered files hs s f piece
+      gathered : GatheredRun files hs s f piece
       gathered = record {
         first = f;
         count = 1;

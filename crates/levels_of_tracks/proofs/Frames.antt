@@ -1,14 +1,7 @@
 -- A frame out of what a call left is the album's.
-use mathlib.Core.Path.{◌≡◌, refl, sym, ap, subst, ◌∙◌}
-use mathlib.Core.Logic.{⊎_elim}
-use mathlib.Core.List.{List}
-use Prim.Native.Nat.{ℕ, suc, ◌+◌, ◌-◌, ◌*◌, ◌≤◌, ◌<◌}
-use native.Mathlib.Nat.{zero-add, mul-div_cancel}
-use native.Mathlib.Omega.{arith}
-use lib.Dec.{ltb, leb}
-use lib.ListN.{length}
-use borrow.Author.Tests.{lt-ltb, le-ltb, leb-true, not-false}
-use Rattle.std.specs.Prelude.{min}
+use Rattle.std.proofs.Common.{◌≡◌, sym, ap, subst, ◌∙◌, ⊎_elim, List, ℕ, suc, ◌+◌, ◌-◌, ◌≤◌, ◌<◌, zero-add, mul-div_cancel, arith, ltb, leb, length, lt-ltb}
+use Rattle.std.proofs.Common.{le-ltb, leb-true, min}
+use borrow.Author.Tests.{not-false}
 use Rattle.numbers.proofs.Lists.{below_or}
 use Rattle.reference.specs.Frames.{Run, frame_length, frame_count, frame}
 use Rattle.reference.specs.Refusals.{decide, accepted}

@@ -1,11 +1,7 @@
 -- Call by call, what is told is the level report's.
-use mathlib.Core.Path.{◌≡◌, refl, sym, ap, subst, ◌∙◌}
-use mathlib.Core.List.{List, [], ◌∷◌, ◌++◌, map}
-use Prim.Native.Nat.{ℕ, zero, suc, ◌+◌, ◌-◌, ◌*◌, ◌%◌, ◌≤◌, ◌<◌}
-use native.Mathlib.Nat.{add-zero, zero-add, mul-mod_left}
-use native.Mathlib.Omega.{arith}
-use lib.ListN.{length}
-use Rattle.std.specs.Prelude.{sum, fold}
+use Rattle.std.proofs.Common.{◌≡◌, refl, sym, ap, subst, ◌∙◌, List, [], ◌∷◌, ◌++◌, map, ℕ, zero, suc, ◌+◌, ◌-◌, ◌*◌, ◌%◌, ◌≤◌, ◌<◌, add-zero, zero-add, arith}
+use Rattle.std.proofs.Common.{length, sum, fold}
+use native.Mathlib.Nat.{mul-mod_left}
 use Rattle.numbers.specs.Lists.{tabulate, total}
 use Rattle.numbers.proofs.Lists.{tabulate_join, total_join}
 use Rattle.text.specs.Text.{joined}
@@ -30,7 +26,7 @@ use Rattle.tracks.proofs.Sequences.{from_length}
 use Rattle.tracks.proofs.TracksToFiles.{tracks_frame_length}
 use Rattle.tracks_to_files.specs.Heads.{tracks_of, HeadsAgree}
 use Rattle.tracks_to_files.proofs.Heads.{heads_tell}
-use Rattle.levels_of_tracks.specs.Levels.{album_frames, Gathered, Before, FrameTold, lines, clips, FramesTold, LevelsOfTracks}
+use Rattle.levels_of_tracks.specs.Levels.{album_frames, GatheredRun, Before, FrameTold, lines, clips_told, FramesTold, LevelsOfTracks}
 use Rattle.levels_of_tracks.proofs.Frames.{count_is, gathered_frame}
 
 -- ---- calls in order
@@ -99,7 +95,7 @@ module _ (files : List (List ℕ)) (hs : List Head) (s : Settings) (g : HeadsOf 
   some : 0 < tracks_channels (heads (tracks_of files))
   some = subst (λ (m : ℕ). 0 < m) told.channels (Opened.some hs s (is_opened hs s taken))
 
-  here : (f : ℕ) (piece : Run) → Gathered files hs s f piece → FrameOf conv.channels input f piece
+  here : (f : ℕ) (piece : Run) → GatheredRun files hs s f piece → FrameOf conv.channels input f piece
   unfolding converter_of
   here f piece c = gathered_frame files hs s f piece g c
 
@@ -127,7 +123,7 @@ module _ (files : List (List ℕ)) (hs : List Head) (s : Settings) (g : HeadsOf 
   unfolding lines_of
   lines_are c = (in_order conv input c.f c.piece few (here c.f c.piece c.gathered) c.states (before_is c.f c.states c.before)).0
 
-  clips_are : (c : FrameTold files hs s) → clips c ≡ frame_clips conv whole c.f
+  clips_are : (c : FrameTold files hs s) → clips_told c ≡ frame_clips conv whole c.f
   clips_are c = clips_same conv input c.f c.piece (here c.f c.piece c.gathered)
 
   -- the report of so many frames, and bytes left over
@@ -135,14 +131,14 @@ module _ (files : List (List ℕ)) (hs : List Head) (s : Settings) (g : HeadsOf 
   report frames left = joined (tabulate (lines_of conv input) 0 frames) ++ ending left frames (total (frame_clips conv whole) 0 frames)
 
   report_is : (cs : List (FrameTold files hs s)) → FramesTold 0 (tracks_frames hs) cs
-      → joined (map lines cs) ++ last_line (tracks_frames hs) (sum (map clips cs)) ≡ text_by conv input (lines_of conv input)
+      → joined (map lines cs) ++ last_line (tracks_frames hs) (sum (map clips_told cs)) ≡ text_by conv input (lines_of conv input)
   unfolding text_by ending all_clips
   report_is cs e =
       let n = tracks_frames hs in
       let same : n - 0 ≡ n = omega arith in
       let l = in_turn lines (lines_of conv input) lines_are 0 n cs e ∙ ap (tabulate (lines_of conv input) 0) same in
-      let k = summed clips (frame_clips conv whole) clips_are 0 n cs e ∙ ap (total (frame_clips conv whole) 0) same in
-      ap (λ (t : List (List ℕ)). joined t ++ last_line n (sum (map clips cs))) l
+      let k = summed clips_told (frame_clips conv whole) clips_are 0 n cs e ∙ ap (total (frame_clips conv whole) 0) same in
+      ap (λ (t : List (List ℕ)). joined t ++ last_line n (sum (map clips_told cs))) l
       ∙ ap (λ (x : ℕ). joined (tabulate (lines_of conv input) 0 n) ++ last_line n x) k
       ∙ sym (ap (λ (m : ℕ). report m (left_over conv input)) all_frames ∙ ap (report n) none_left)
 

@@ -27,7 +27,7 @@ album_frames files = (tracks_run (tracks_channels (heads (tracks_of files))) (tr
 
 -- the piece is frame f with the frames next to it, cut out of the list that an accepted call for frames left. The call
 -- may be for any frames that f is among; its list begins with frame `low first`
-pub record Gathered (files : List (List ℕ)) (hs : List Head) (s : Settings) (f : ℕ) (piece : Run) : Type 0 where
+pub record GatheredRun (files : List (List ℕ)) (hs : List Head) (s : Settings) (f : ℕ) (piece : Run) : Type 0 where
   pub first : ℕ
   pub count : ℕ
   pub from : first ≤ f
@@ -44,7 +44,7 @@ pub record Gathered (files : List (List ℕ)) (hs : List Head) (s : Settings) (f
 -- it is frame f of the album. Proved in proofs/Frames, `gathered_frame`
 abbrev pub GatheredFrame : Type 0
 GatheredFrame =
-    (files : List (List ℕ)) (hs : List Head) (s : Settings) (f : ℕ) (piece : Run) → HeadsOf files hs → Gathered files hs s f piece
+    (files : List (List ℕ)) (hs : List Head) (s : Settings) (f : ℕ) (piece : Run) → HeadsOf files hs → GatheredRun files hs s f piece
     → FrameOf (tracks_channels hs) (album_frames files) f piece
 
 -- ---- what is in progress before a frame
@@ -53,7 +53,7 @@ GatheredFrame =
 -- first
 pub record Left (files : List (List ℕ)) (hs : List Head) (s : Settings) (f : ℕ) (states : List Progress) : Type 0 where
   pub piece : Run
-  pub gathered : Gathered files hs s f piece
+  pub gathered : GatheredRun files hs s f piece
   pub before : List Progress
   pub after : states ≡ piece_states (tracks_converter s hs) before piece
 
@@ -68,7 +68,7 @@ Before files hs s (suc f) states = Left files hs s f states
 pub record FrameTold (files : List (List ℕ)) (hs : List Head) (s : Settings) : Type 0 where
   pub f : ℕ
   pub piece : Run
-  pub gathered : Gathered files hs s f piece
+  pub gathered : GatheredRun files hs s f piece
   pub states : List Progress
   pub before : Before files hs s f states
 
@@ -76,8 +76,8 @@ pub record FrameTold (files : List (List ℕ)) (hs : List Head) (s : Settings) :
 abbrev pub lines : {files : List (List ℕ)} {hs : List Head} {s : Settings} → FrameTold files hs s → List ℕ
 lines {files} {hs} {s} c = piece_lines (tracks_converter s hs) c.f c.states c.piece
 
-abbrev pub clips : {files : List (List ℕ)} {hs : List Head} {s : Settings} → FrameTold files hs s → ℕ
-clips {files} {hs} {s} c = frame_clips (tracks_converter s hs) c.piece 0
+abbrev pub clips_told : {files : List (List ℕ)} {hs : List Head} {s : Settings} → FrameTold files hs s → ℕ
+clips_told {files} {hs} {s} c = frame_clips (tracks_converter s hs) c.piece 0
 
 -- calls on frames a, …, b - 1
 abbrev pub FramesTold : {files : List (List ℕ)} {hs : List Head} {s : Settings} → ℕ → ℕ → List (FrameTold files hs s) → Type 0
@@ -91,7 +91,7 @@ LevelsOfTracks =
     (files : List (List ℕ)) (hs : List Head) (s : Settings) → HeadsOf files hs → decide (open_places hs s) ≡ accepted
     → (cs : List (FrameTold files hs s)) → FramesTold 0 (tracks_frames hs) cs
     → let conv = tracks_converter s hs in
-    joined (map lines cs) ++ last_line (tracks_frames hs) (sum (map clips cs)) ≡ text_by conv (album_frames files) (lines_of conv (album_frames files))
+    joined (map lines cs) ++ last_line (tracks_frames hs) (sum (map clips_told cs)) ≡ text_by conv (album_frames files) (lines_of conv (album_frames files))
 
 -- ---- it can be met
 

@@ -18,36 +18,35 @@ use stages::Buffers;
 
 // The values of w, and those between them, in turn: `kept` has w from 8 places before sample n's on. The half band's
 // sizes and a place for a copy are lent.
-#[tactic(auto, using(routes::proofs::Filters::woven_gives))]
-fn between(sizes: &[u32], kept: &[i64], lifted: &mut [u64], y: &mut [i64])
+fn between(sizes: &[u32], kept: &[i64], biased: &mut [u64], y: &mut [i64])
     requires lent { sizes.now ≡ odd_sizes }
     requires kept_len { (length kept.now ≡ 184) × (length y.old ≡ 336) }
     requires small { Small (2 ^ 29) kept.now }
-    requires low { Low lifted.old × (length lifted.old ≡ 456) }
-    ensures still_low { Low lifted.new }
+    requires low { Low biased.old × (length biased.old ≡ 456) }
+    ensures still_low { Low biased.new }
     ensures held { (F : List ℤ) (β : ℕ → ℕ) (n : ℕ) → 16 ≤ n → n % 2 ≡ 0 → Held (pos 0) (w F β) (n / 2 - 8) 184 kept.now → Held (pos 0) (y_narrow Hz352800 F β) n 336 y.new }
 {
     let mut z = [0i64; 168];
-    band::interp(&mut z, sizes, &kept[1..184], lifted);
-    stages::weave(&kept[8..176], &z, y);
+    band::interp(&mut z, sizes, &kept[1..184], biased);
+    stages::interleave(&kept[8..176], &z, y);
 }
 
-// The last k of the 184 values of w in `kept`, from k values of v after their margin.
+// The last k of the 184 values of w in `kept`, from k values of v after their history.
 #[inline(always)]
 #[tactic(auto, using(stages::proofs::Smalls::front_fit))]
-fn newest(h: &[i64], x: &[i64], k: usize, lifted: &mut [u64], kept: &mut [i64])
+fn newest(h: &[i64], x: &[i64], k: usize, biased: &mut [u64], kept: &mut [i64])
     requires low_pass { LowPass h.now }
     requires lengths { (k ≤ 184) × (length x.now ≡ 512) × (length kept.old ≡ 184) }
     requires small { Small (2 ^ 27) x.now }
     requires small_2 { Small (2 ^ 29) kept.old }
-    requires low { Low lifted.old × (length lifted.old ≡ 456) }
-    ensures still_low { Low lifted.new }
+    requires low { Low biased.old × (length biased.old ≡ 456) }
+    ensures still_low { Low biased.new }
     ensures small_3 { Small (2 ^ 29) kept.new }
     ensures held { (β : ℕ → ℕ) (i : ℕ) → M h.now ≤ i + 184 - k → Held (pos 0) (v β) (i + 184 - k - M h.now) (2 * M h.now + k) x.now
         → Held (pos 0) (w h.now β) i (184 - k) kept.old → Held (pos 0) (w h.now β) i 184 kept.new }
 {
     let e = 2 * (h.len() - 1) + k;
-    filters::fir1(&mut kept[184 - k..184], h, &x[..e], lifted);
+    filters::fir1(&mut kept[184 - k..184], h, &x[..e], biased);
 }
 
 // At 88,200: h has the even taps, then the odd ones.
@@ -65,7 +64,7 @@ pub fn narrow88(tables: &[i32], h: &[i64], bytes: &[u8], buffers: &mut Buffers, 
     stages::halved(
         h,
         &buffers.x[..m + 168],
-        &mut buffers.lifted,
+        &mut buffers.biased,
         &mut buffers.second,
         y,
     );
@@ -85,11 +84,11 @@ pub fn narrow176(tables: &[i32], h: &[i64], bytes: &[u8], buffers: &mut Buffers,
 {
     let m = 2 * (h.len() - 1);
     buffers.bring_v(tables, bytes, m, 168);
-    filters::fir1(y, h, &buffers.x[..m + 168], &mut buffers.lifted);
+    filters::fir1(y, h, &buffers.x[..m + 168], &mut buffers.biased);
     buffers.move_on(168, m);
 }
 
-// At 352,800: k values of w are new, 184 in a frame's first block and 168 in the others.
+// At 352,800: k values of w are new, 184 in a batch's first block and 168 in the others.
 #[inline(always)]
 pub fn narrow352(
     tables: &[i32],
@@ -109,8 +108,8 @@ pub fn narrow352(
 {
     let m = 2 * (h.len() - 1);
     buffers.bring_v(tables, bytes, m, k);
-    newest(h, &buffers.x, k, &mut buffers.lifted, &mut buffers.kept);
-    between(&buffers.sizes, &buffers.kept, &mut buffers.lifted, y);
+    newest(h, &buffers.x, k, &mut buffers.biased, &mut buffers.kept);
+    between(&buffers.sizes, &buffers.kept, &mut buffers.biased, y);
     buffers.move_on(k, m);
     stages::shift(&mut buffers.kept, 168, 16);
 }

@@ -1,10 +1,5 @@
 -- What an array made by a function of the place holds.
-use mathlib.Core.Path.{ap, ◌≡◌, sym, subst, ◌∙◌}
-use mathlib.Core.List.{List}
-use Prim.Native.Nat.{ℕ, zero, suc, ◌+◌, ◌≤◌, ◌<◌}
-use native.Mathlib.Nat.{zero-add}
-use native.Mathlib.Omega.{arith}
-use lib.ListN.{get_or}
+use Rattle.std.proofs.Common.{ap, ◌≡◌, sym, subst, ◌∙◌, List, ℕ, zero, suc, ◌+◌, ◌≤◌, ◌<◌, zero-add, arith, get_or}
 use denote.Param.Members.{Mut, Called}
 use Rattle.std.specs.Array.{IsFromFnResultFrom, IsFromFnResult}
 use Rattle.numbers.specs.Lists.{tabulate}

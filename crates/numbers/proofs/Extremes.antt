@@ -1,13 +1,7 @@
 -- Laws of the least and the greatest: equal stretches, stretches joined.
-use mathlib.Core.Path.{◌≡◌, refl, sym, ap, ◌∙◌}
-use mathlib.Core.Logic.{◌⊎◌, inl, inr, ⊎_elim}
-use mathlib.Core.Bool.{Bool, true, false, cond}
-use Prim.Native.Nat.{ℕ, zero, suc, ◌+◌, ◌<◌, ◌≤◌}
-use native.Mathlib.Nat.{add-zero, zero-add}
-use native.Mathlib.Omega.{arith}
-use borrow.Author.Tests.{ltb-true, ltb-false}
-use lib.Dec.{eqb, eqb-suc-zero}
-use lib.IntN.{ℤ, pos, negsuc}
+use Rattle.std.proofs.Common.{◌≡◌, refl, sym, ap, ◌∙◌, ◌⊎◌, inl, inr, ⊎_elim, Bool, true, false, cond, ℕ, zero, suc, ◌+◌, ◌<◌, ◌≤◌, add-zero, zero-add, arith}
+use Rattle.std.proofs.Common.{ltb-true, ltb-false, eqb, ℤ, pos, negsuc}
+use lib.Dec.{eqb-suc-zero}
 use lib.Signed.{lt_z}
 use Rattle.numbers.specs.Extremes.{lesser, greater, picked, extreme}
 use Rattle.numbers.specs.inner.Extremes.{extreme0, pick_unmarked}

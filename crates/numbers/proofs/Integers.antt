@@ -1,15 +1,11 @@
 -- ℤ by its two parts in ℕ: z is pp z − nn z, and one of the two is 0. An equation or a bound in ℤ is one in ℕ, where
 -- `omega` reads it.
-use mathlib.Core.Path.{◌≡◌, refl, sym, ◌∙◌, ap}
-use mathlib.Core.Bool.{Bool, true, false, cond, not}
-use Prim.Native.Nat.{ℕ, zero, suc, ◌+◌, ◌*◌, ◌-◌, ◌<◌, ◌≤◌, ◌^◌}
-use native.Mathlib.Nat.{lt_of_le_of_lt}
-use native.Mathlib.Omega.{arith}
-use lib.Dec.{T, ltb, ltb→lt, nltb→le}
-use lib.IntN.{ℤ, pos, negsuc, neg_ℤ, nat_abs, sub_ℕ, ◌+ℤ◌, ◌*ℤ◌, +ℤ_comm, +ℤ_assoc, *ℤ_comm}
+use Rattle.std.proofs.Common.{◌≡◌, refl, sym, ◌∙◌, ap, Bool, true, false, cond, not, ℕ, zero, suc, ◌+◌, ◌*◌, ◌-◌, ◌<◌, ◌≤◌, ◌^◌, lt_of_le_of_lt, arith, T, ltb}
+use Rattle.std.proofs.Common.{ltb→lt, nltb→le, ℤ, pos, negsuc, neg_ℤ, nat_abs, ◌+ℤ◌, ◌*ℤ◌, SFits}
+use lib.IntN.{sub_ℕ, +ℤ_comm, +ℤ_assoc, *ℤ_comm}
 use lib.Signed.{mag}
 use mir.Syntax.{Width}
-use mir.Val.{SFits, hbits}
+use mir.Val.{hbits}
 
 abbrev pub pp : ℤ → ℕ
 pp (pos n) = n

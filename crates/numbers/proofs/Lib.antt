@@ -5,3 +5,4 @@ pub mod Machine
 pub mod Tests
 pub mod Extremes
 pub mod Arrays
+pub mod Pieces

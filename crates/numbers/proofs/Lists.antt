@@ -1,17 +1,13 @@
 -- Laws of `tabulate` and `total`: equal stretches, stretches joined, the element at a place; and of a list that is
 -- filled from a place on.
-use mathlib.Core.Path.{◌≡◌, refl, ap₂, sym, ◌∙◌}
-use mathlib.Core.List.{List, [], ◌∷◌, ◌++◌, append_assoc, append-nil}
-use mathlib.Core.Bool.{Bool, true, false, cond, not}
-use mathlib.Core.Logic.{◌⊎◌, inl, inr, ⊎_elim}
-use Prim.Native.Nat.{ℕ, zero, suc, ◌+◌, ◌*◌, ◌≤◌, ◌<◌}
-use native.Mathlib.Nat.{mul-le-mul_right}
-use native.Mathlib.Omega.{arith}
-use lib.Dec.{T, leb, leb→le, nleb→lt}
-use lib.ListN.{length, get_or, set, length-set, length-append, get_or-append, replicate, length-replicate, get_or-replicate}
-use lib.Seq.{get_or_at, ext_get_or, get_or-set_same, get_or-set_other}
+use Rattle.std.proofs.Common.{◌≡◌, refl, ap, ap₂, sym, ◌∙◌, List, [], ◌∷◌, ◌++◌, append_assoc, append-nil, Bool, true, false, cond, not, ◌⊎◌, ◌≢◌, inl, inr}
+use Rattle.std.proofs.Common.{⊎_elim, ℕ, zero, suc, ◌+◌, ◌-◌, ◌*◌, ◌≤◌, ◌<◌, mul-le-mul_right, arith, T, leb, leb→le, length, get_or, set, length-set}
+use Rattle.std.proofs.Common.{length-append, replicate, ext_get_or, get_or-set_same, get_or-set_other}
+use lib.Dec.{nleb→lt}
+use lib.ListN.{get_or-append, length-replicate, get_or-replicate, get_or-eq_default}
+use lib.Seq.{get_or_at}
 use Rattle.numbers.specs.Lists.{tabulate, total, count}
-use Rattle.numbers.specs.inner.Lists.{Held, Wrote}
+use Rattle.numbers.specs.inner.Lists.{Held, Written}
 
 -- the k-th stretch of so many is within n of them
 pub part_end : (k n size : ℕ) → k < n → k * size + size ≤ n * size
@@ -119,16 +115,43 @@ module _ {A : Type 0} {d : A} {f : ℕ → A} {a : ℕ} {l : List A} where
   pub held_some : {n : ℕ} (m : ℕ) → m ≤ n → Held d f a n l → Held d f a m l
   held_some m s h = record { is = λ k q. h.is k (omega arith) }
 
-module _ {A : Type 0} {d : A} {f : ℕ → A} {start : ℕ} {old : List A} where
-  pub wrote_none : Wrote d f start 0 old old
-  wrote_none = record { same = refl; kept = λ k l. refl; done = λ k l. absurd (omega arith) }
+module _ {A : Type 0} {d : A} {place : ℕ → ℕ} {f : ℕ → A} {old : List A} where
+  pub written_none : Written d place f 0 old old
+  written_none = record { same = refl; done = λ i l. absurd (omega arith); kept = λ j h. refl }
 
-  pub wrote_more : {new : List A} {n : ℕ} {v : A} → Wrote d f start n old new → start + n < length old → v ≡ f n → Wrote d f start (n + 1) old (set new (start + n) v)
-  wrote_more {new} {n} {v} w l e =
+  -- place n too, which is none of those before
+  pub written_more : {new : List A} {n j : ℕ} {v : A} → Written d place f n old new → j ≡ place n → ((i : ℕ) → i < n → place i ≢ j) → j < length old → v ≡ f n
+      → Written d place f (n + 1) old (set new j v)
+  written_more {new} {n} {j} {v} w p other l e =
       record {
-        same = length-set new (start + n) v ∙ w.same;
-        kept = λ k m. get_or-set_other new (start + n) k v d (omega arith) ∙ w.kept k m;
-        done = λ k m. ⊎_elim (λ b. get_or-set_other new (start + n) (start + k) v d (omega arith) ∙ w.done k b) (λ b.
-            let i : k ≡ n = omega arith in
-            rw i (get_or-set_same new (start + n) v d (omega (arith, w.same)) ∙ e)) (below_or k n);
+        same = length-set new j v ∙ w.same;
+        done = λ i m. ⊎_elim (λ b. get_or-set_other new j (place i) v d (other i b) ∙ w.done i b) (λ b.
+            let q : i ≡ n = omega arith in
+            rw (q, ← p) (get_or-set_same new j v d (omega (arith, w.same)) ∙ e)) (below_or i n);
+        kept = λ k h. get_or-set_other new j k v d (λ q. h n (omega arith) (q ∙ p)) ∙ w.kept k (λ i m. h i (omega arith));
       }
+
+  -- the next places after them
+  pub written_then : {q : ℕ → ℕ} {g : ℕ → A} {m s : ℕ} {mid new : List A} → Written d place f m old mid → Written d q g s mid new → ((i : ℕ) → i < s → q i ≡ place (m + i))
+      → ((i k : ℕ) → i < m → k < s → place i ≢ q k) → ((i : ℕ) → i < s → g i ≡ f (m + i)) → Written d place f (m + s) old new
+  written_then {m = m} {s = s} {new = new} u w p other e =
+      record {
+        same = w.same ∙ u.same;
+        done = λ i h. ⊎_elim (λ b. w.kept (place i) (λ k t. other i k b t) ∙ u.done i b) (λ b.
+            let z : m + (i - m) ≡ i = omega arith in
+            let l : i - m < s = omega arith in
+            rw z at (ap (λ (x : ℕ). get_or new x d) (sym (p (i - m) l)) ∙ w.done (i - m) l ∙ e (i - m) l)) (below_or i m);
+        kept = λ j h. w.kept j (λ i t z. h (m + i) (omega arith) (z ∙ p i t)) ∙ u.kept j (λ i t. h i (omega arith));
+      }
+
+  pub written_as : {g : ℕ → A} {n : ℕ} {new : List A} → Written d place g n old new → ((i : ℕ) → i < n → g i ≡ f i) → Written d place f n old new
+  written_as w e = record { same = w.same; done = λ i l. w.done i l ∙ e i l; kept = w.kept }
+
+-- the whole list
+pub written_all : {A : Type 0} {d : A} {f : ℕ → A} {old new : List A} → length new ≡ length old → ((i : ℕ) → i < length old → get_or new i d ≡ f i) → Written d (λ i. i) f (length old) old new
+written_all {d = d} {old = old} {new = new} e h =
+    record {
+      same = e;
+      done = h;
+      kept = λ j k. ⊎_elim (λ b. absurd (k j b refl)) (λ b. get_or-eq_default new d {n = j} (omega (arith, e)) ∙ sym (get_or-eq_default old d {n = j} b)) (below_or j (length old));
+    }

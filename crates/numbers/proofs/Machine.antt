@@ -1,14 +1,8 @@
 -- One operation of an i64 on values that fit, over ℤ, by the sizes. `t z` is z, read back from its bits, as a local
 -- holds it.
-use mathlib.Core.Path.{◌≡◌, ◌∙◌, ap₂}
-use Prim.Native.Nat.{ℕ, ◌+◌, ◌<◌, ◌^◌}
-use native.Mathlib.Omega.{arith}
-use lib.IntN.{ℤ, pos, neg_ℤ, nat_abs, ◌-ℤ◌}
-use mir.Syntax.{w32, w64}
-use mir.Val.{SFits, to_z, of_z}
-use mir.Facts.{to_z-of_z, sfits_widen}
+use Rattle.std.proofs.Common.{◌≡◌, ◌∙◌, ◌<◌, ◌^◌, ℤ, w32, w64, SFits, to_z, of_z, to_z-of_z}
+use mir.Facts.{sfits_widen}
 use lib.Signed.{mag}
-use Rattle.numbers.proofs.Integers.{sfits_abs, abs_add, abs_neg}
 
 abbrev pub t : ℤ → ℤ
 t z = to_z w64 (of_z w64 z)
@@ -27,17 +21,3 @@ module _ (z : ℤ) (m : mag z < 2 ^ 31) where
 -- a call's result, as a local holds it: the value that the callee ensures, with that value's size
 pub val : (r v : ℤ) → mag r < 2 ^ 63 → r ≡ v → t r ≡ v
 val r v m e = to_z-of_z {w = w64} (record { sfits = m }) ∙ e
-
-pub pos_fits : {n : ℕ} → n < 2 ^ 63 → SFits w64 (pos n)
-pos_fits h = record { sfits = h }
-
--- a number that is not negative, taken away
-module _ {s : ℤ} (p : ℕ) (fs : SFits w64 s) (small : nat_abs s + p < 2 ^ 63) where
-  minus : t s -ℤ to_z w64 p ≡ s -ℤ pos p
-  minus = let f = pos_fits {n = p} (omega arith) in ap₂ (λ (x y : ℤ). x -ℤ y) (to_z-of_z fs) (to_z-of_z f)
-
-  pub less_fits : SFits w64 (t s -ℤ to_z w64 p)
-  less_fits = rw minus (sfits_abs (omega (arith, abs_add s (neg_ℤ (pos p)), abs_neg (pos p))))
-
-  pub less_is : t (t s -ℤ to_z w64 p) ≡ s -ℤ pos p
-  less_is = to_z-of_z less_fits ∙ minus

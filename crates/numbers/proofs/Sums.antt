@@ -1,9 +1,7 @@
 -- Laws of finite sums over ℤ.
-use mathlib.Core.Path.{◌≡◌, refl, sym, ◌∙◌, ap, ap₂}
-use Prim.Native.Nat.{ℕ, zero, suc, ◌+◌, ◌*◌, ◌<◌, ◌≤◌}
-use native.Mathlib.Nat.{add-zero, add-suc, zero-mul, suc-mul, mul-le-mul_left}
-use native.Mathlib.Omega.{arith}
-use lib.IntN.{ℤ, pos, nat_abs, ◌+ℤ◌, ◌*ℤ◌, +ℤ_comm, +ℤ_assoc, +ℤ_idr}
+use Rattle.std.proofs.Common.{◌≡◌, refl, sym, ◌∙◌, ap, ap₂, ℕ, zero, suc, ◌+◌, ◌*◌, ◌<◌, ◌≤◌, add-zero, add-suc, zero-mul, suc-mul, mul-le-mul_left, arith, ℤ}
+use Rattle.std.proofs.Common.{pos, nat_abs, ◌+ℤ◌, ◌*ℤ◌}
+use lib.IntN.{+ℤ_comm, +ℤ_assoc, +ℤ_idr}
 use Rattle.numbers.specs.Sums.{sum_to}
 use Rattle.numbers.specs.Lists.{total}
 use Rattle.numbers.proofs.Integers.{abs_add, abs_mul}

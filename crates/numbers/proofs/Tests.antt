@@ -1,10 +1,5 @@
 -- What a test that holds at every number below n says at each.
-use mathlib.Core.Path.{◌≡◌}
-use mathlib.Core.Logic.{⊎_elim}
-use mathlib.Core.Bool.{Bool}
-use Prim.Native.Nat.{ℕ, zero, suc, ◌<◌}
-use native.Mathlib.Omega.{arith}
-use lib.Dec.{T}
+use Rattle.std.proofs.Common.{◌≡◌, ⊎_elim, Bool, ℕ, zero, suc, ◌<◌, arith, T}
 use lib.Ieee.Fits.{and_l, and_r}
 use Rattle.numbers.specs.Tests.{each_below}
 use Rattle.numbers.proofs.Lists.{below_or}

@@ -1,24 +1,14 @@
 -- Laws of filled boxes. A right value spoils nothing, wherever it goes: no law needs that two places differ.
-use mathlib.Core.Path.{◌≡◌, refl, sym, ap, ap₂, ◌∙◌}
-use mathlib.Core.Logic.{◌⊎◌, inl, inr, ⊎_elim}
-use mathlib.Core.List.{List}
-use Prim.Native.Nat.{ℕ, zero, suc, ◌+◌, ◌*◌, ◌/◌, ◌%◌, ◌^◌, ◌≤◌, ◌<◌}
-use native.Mathlib.Nat.{mod-lt, div-add-mod', div-lt_iff_lt-mul, eq-or-lt_of_le}
-use native.Mathlib.Omega.{arith}
+use Rattle.std.proofs.Common.{◌≡◌, refl, sym, ap, ap₂, ◌∙◌, ◌⊎◌, inl, inr, ⊎_elim, List, ℕ, ◌+◌, ◌*◌, ◌/◌, ◌%◌, ◌^◌, ◌≤◌, ◌<◌, mod-lt, div-add-mod'}
+use Rattle.std.proofs.Common.{div-lt_iff_lt-mul, eq-or-lt_of_le, arith, ℤ, pos, negsuc, w32, SFits, to_z, of_z, to_z-of_z, length, get_or, set, mul_comm}
+use Rattle.std.proofs.Common.{mul-le-mul_left}
 use lib.Arith.{digits_lt, digits_div, digits_mod}
-use lib.IntN.{ℤ, pos, negsuc}
 use lib.Signed.{mag}
-use mir.Syntax.{w32}
-use mir.Val.{SFits, to_z, of_z}
-use mir.Facts.{to_z-of_z}
-use lib.Seq.{get_or-set_same, get_or-set_other}
-use lib.ListN.{length, get_or, set, length-set}
 use Rattle.numbers.specs.Lists.{tabulate}
-use Rattle.numbers.specs.inner.Lists.{Held}
-use native.Mathlib.Nat.{mul_comm, mul-le-mul_left}
-use Rattle.numbers.proofs.Lists.{below_or, is_tabulate, get_d_tabulate, length_tabulate}
+use Rattle.numbers.specs.inner.Lists.{Held, Written}
+use Rattle.numbers.proofs.Lists.{below_or, is_tabulate, get_d_tabulate, length_tabulate, written_none, written_more}
 use Rattle.reference.specs.Output.{low24, s24le}
-use Rattle.output.specs.inner.Fills.{Fills, Layout, items, byte_layout, third, Put, place_of, Drawn, Room, written}
+use Rattle.output.specs.inner.Fills.{Fills, Layout, items, byte_layout, byte_of_three, Put, place_of, Drawn, Room, parts_of}
 
 same_or : (a b : ℕ) → (a ≡ b) ⊎ (a ≡ b → ⊥)
 same_or a b = ⊎_elim (λ l. inr (λ e. omega arith)) (λ m. ⊎_elim (λ e. inl (sym e)) (λ l. inr (λ e. omega arith)) (eq-or-lt_of_le m)) (below_or a b)
@@ -53,24 +43,27 @@ module _ {A : Type 0} (o : Layout A) (some : 0 < o.width) (S : ℕ → ℕ → �
   one_sample {n} {c} {v} {x} {y} m e p =
       record {
         same = p.same;
-        kept = λ j h. ⊎_elim (here j) (λ away. p.others j away ∙ h) (same_or (j / o.width) (n * ch + c));
+        kept = λ j h. ⊎_elim (here j) (λ away. p.kept j (λ b l e. away (item_of j b l e)) ∙ h) (same_or (j / o.width) (n * ch + c));
         done = λ j a b q r.
             let row : j / o.width / ch ≡ n = omega arith in
             let col : j / o.width % ch ≡ c = omega arith in
             here j (sym (div-add-mod' (j / o.width) ch) ∙ rw (row, col));
       }
     where
+      item_of : (j b : ℕ) → b < o.width → j ≡ o.width * (n * ch + c) + b → j / o.width ≡ n * ch + c
+      item_of j b l e = ap (λ (k : ℕ). k / o.width) (e ∙ ap (λ (k : ℕ). k + b) (mul_comm o.width (n * ch + c))) ∙ digits_div (n * ch + c) l
+
       here : (j : ℕ) → j / o.width ≡ n * ch + c → get_or y j o.past ≡ place_of o ch S j
       here j h =
           let split : o.width * (n * ch + c) + j % o.width ≡ j = ap (λ (k : ℕ). k + j % o.width) (mul_comm o.width (n * ch + c) ∙ ap (λ (k : ℕ). k * o.width) (sym h)) ∙ div-add-mod' j o.width in
           ap (λ (k : ℕ). get_or y k o.past) (sym split)
-          ∙ p.here (j % o.width) (mod-lt j some)
+          ∙ p.done (j % o.width) (mod-lt j some)
           ∙ ap (λ (z : ℤ). o.part z (j % o.width)) (e ∙ sym (ap₂ S (digits_mod n m) (digits_div n m)))
           ∙ ap (λ (k : ℕ). o.part (S (k % ch) (k / ch)) (j % o.width)) (sym h)
 
   -- the whole box is the whole list
-  pub all_samples : {n : ℕ} {x y : List A} → 0 < ch → Room o (n * ch) x → Drawn o S ch 0 n 0 ch x y → y ≡ written o (tabulate (λ i. S (i % ch) (i / ch)) 0 (n * ch))
-  unfolding written
+  pub all_samples : {n : ℕ} {x y : List A} → 0 < ch → Room o (n * ch) x → Drawn o S ch 0 n 0 ch x y → y ≡ parts_of o (tabulate (λ i. S (i % ch) (i / ch)) 0 (n * ch))
+  unfolding parts_of
   all_samples {n} {x} {y} p e f =
       let zs = tabulate (λ i. S (i % ch) (i / ch)) 0 (n * ch) in
       let size : length zs ≡ n * ch = length_tabulate (λ i. S (i % ch) (i / ch)) 0 (n * ch) in
@@ -103,50 +96,29 @@ module _ (v : ℤ) (fits : SFits w32 v) where
       go (pos n) m = refl
       go (negsuc n) m = omega arith
 
-  pub three_bits : (bits % 256 ≡ third v 0) × (bits / 256 % 256 ≡ third v 1) × (bits / 65536 % 256 ≡ third v 2)
-  unfolding third
+  pub three_bits : (bits % 256 ≡ byte_of_three v 0) × (bits / 256 % 256 ≡ byte_of_three v 1) × (bits / 65536 % 256 ≡ byte_of_three v 2)
+  unfolding byte_of_three
   three_bits = (omega (arith, low), omega (arith, low), omega (arith, low))
 
 -- the three bytes of a sample, set one by one
-pub three_bytes : (x : List ℕ) (k : ℕ) (v : ℤ) → 3 * k + 3 ≤ length x → Put byte_layout k v x (set (set (set x (3 * k) (third v 0)) (3 * k + 1) (third v 1)) (3 * k + 2) (third v 2))
-three_bytes x k v room =
-    record {
-      same = simp length-set;
-      here = at;
-      others = λ j away. other j away;
-    }
+pub three_bytes : (x : List ℕ) (k : ℕ) (v : ℤ) → 3 * k + 3 ≤ length x
+    → Put byte_layout k v x (set (set (set x (3 * k) (byte_of_three v 0)) (3 * k + 1) (byte_of_three v 1)) (3 * k + 2) (byte_of_three v 2))
+three_bytes x k v room = set_at (3 * k + 2) (set_at (3 * k + 1) (set_at (3 * k) written_none (omega arith) (omega arith)) refl (omega arith)) refl (omega arith)
   where
-    y : List ℕ
-    y = set x (3 * k) (third v 0)
+    set_at : {b : ℕ} {y : List ℕ} (j : ℕ) → Written 0 (λ b. 3 * k + b) (byte_of_three v) b x y → j ≡ 3 * k + b → b < 3
+        → Written 0 (λ b. 3 * k + b) (byte_of_three v) (b + 1) x (set y j (byte_of_three v b))
+    set_at j w e l = written_more w e (λ i m. omega arith) (omega (arith, w.same)) refl
 
-    z : List ℕ
-    z = set y (3 * k + 1) (third v 1)
-
-    at : (b : ℕ) → b < 3 → get_or (set z (3 * k + 2) (third v 2)) (3 * k + b) 0 ≡ third v b
-    at zero l =
-        let e : 3 * k + 0 ≡ 3 * k = omega arith in
-        rw e (get_or-set_other z (3 * k + 2) (3 * k) (third v 2) 0 (omega arith)
-        ∙ get_or-set_other y (3 * k + 1) (3 * k) (third v 1) 0 (omega arith) ∙ get_or-set_same x (3 * k) (third v 0) 0 (omega arith))
-    at (suc zero) l = get_or-set_other z (3 * k + 2) (3 * k + 1) (third v 2) 0 (omega arith) ∙ get_or-set_same y (3 * k + 1) (third v 1) 0 (simp length-set (omega arith))
-    at (suc (suc zero)) l = get_or-set_same z (3 * k + 2) (third v 2) 0 (simp length-set (omega arith))
-    at (suc (suc (suc b))) l = absurd (omega arith)
-
-    other : (j : ℕ) → (j / 3 ≡ k → ⊥) → get_or (set z (3 * k + 2) (third v 2)) j 0 ≡ get_or x j 0
-    other j away =
-        get_or-set_other z (3 * k + 2) j (third v 2) 0 (λ e. away (omega arith))
-        ∙ get_or-set_other y (3 * k + 1) j (third v 1) 0 (λ e. away (omega arith))
-        ∙ get_or-set_other x (3 * k) j (third v 0) 0 (λ e. away (omega arith))
-
-pub written_items : (zs : List ℤ) → written items zs ≡ zs
-unfolding written
+pub written_items : (zs : List ℤ) → parts_of items zs ≡ zs
+unfolding parts_of
 written_items zs =
     let e : 1 * length zs ≡ length zs = omega arith in
     rw e (sym (is_tabulate (λ j. get_or zs (j / 1) (pos 0)) 0 (length zs) (pos 0) zs refl (λ i l.
     let z : (0 + i) / 1 ≡ i = omega arith in
     rw z refl)))
 
-pub written_bytes : (zs : List ℤ) → written byte_layout zs ≡ s24le zs
-unfolding written s24le third
+pub written_bytes : (zs : List ℤ) → parts_of byte_layout zs ≡ s24le zs
+unfolding parts_of s24le byte_of_three
 written_bytes zs = refl
 
 -- one channel of bytes is the samples packed
@@ -158,7 +130,7 @@ packed_is zs n {x} {y} e room h =
     let size : length x ≡ 3 * ((0 + length zs) * 1) = omega arith in
     let whole : (0 + length zs) * 1 ≡ length zs = omega arith in
     all_samples byte_layout (omega arith) S (omega arith) size drawn
-    ∙ ap (written byte_layout) (rw whole (sym (is_tabulate (λ i. S (i % 1) (i / 1)) 0 (length zs) (pos 0) zs refl (λ i l.
+    ∙ ap (parts_of byte_layout) (rw whole (sym (is_tabulate (λ i. S (i % 1) (i / 1)) 0 (length zs) (pos 0) zs refl (λ i l.
     let z : (0 + i) / 1 ≡ i = omega arith in
     rw z refl))))
     ∙ written_bytes zs

@@ -1,9 +1,8 @@
 // Module 7, output: a block's samples of one channel go to their places; and samples are packed as bytes.
 #![tactic(auto)]
 
-ghost use Rattle.std.specs.Prelude.{◌≡◌, ℕ, ◌+◌, ◌*◌, ◌≤◌, ◌<◌, ℤ, pos, length};
+ghost use Rattle.std.specs.Prelude.{ℕ, ◌+◌, ◌*◌, ◌≤◌, ◌<◌, ℤ, pos, length};
 ghost use Rattle.numbers.specs.inner.Lists.{Held};
-ghost use Rattle.reference.specs.Output.{low24};
 ghost use Rattle.reference.specs.Promises.{PackPromise};
 ghost use Rattle.output.specs.inner.Fills.{Layout, items, byte_layout, Put, Drawn};
 ghost use Rattle.std.proofs.Common.{rules};

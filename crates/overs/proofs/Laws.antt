@@ -1,17 +1,7 @@
 -- Stretches counted end to end, the places of a channel's items, and a stretch with no sample at full scale.
-use mathlib.Core.Path.{◌≡◌, refl, ◌∙◌}
-use mathlib.Core.List.{List, [], ◌∷◌, ◌++◌}
-use mathlib.Core.Bool.{Bool, true, false, cond}
-use mathlib.Core.Logic.{⊎_elim}
-use Prim.Native.Nat.{ℕ, zero, suc, ◌+◌, ◌-◌, ◌*◌, ◌/◌, ◌≤◌, ◌<◌}
-use native.Mathlib.Nat.{le-div_iff_mul-le}
-use native.Mathlib.Omega.{arith}
-use borrow.Author.Tests.{lt-ltb, ltb-true, ne_eqb}
-use lib.Dec.{eqb, ltb}
-use lib.IntN.{ℤ, pos, negsuc}
-use lib.ListN.{length, get_or}
+use Rattle.std.proofs.Common.{◌≡◌, refl, ◌∙◌, List, [], ◌∷◌, ◌++◌, Bool, true, false, cond, ⊎_elim, ℕ, zero, suc, ◌+◌, ◌-◌, ◌*◌, ◌/◌, ◌≤◌, ◌<◌}
+use Rattle.std.proofs.Common.{le-div_iff_mul-le, arith, lt-ltb, ltb-true, ne_eqb, eqb, ltb, ℤ, pos, negsuc, length, get_or, Option, Some, None}
 use lib.Signed.{lt_z}
-use Rattle.std.specs.Prelude.{Option, Some, None}
 use Rattle.numbers.specs.Lists.{tabulate}
 use Rattle.numbers.proofs.Extremes.{Under}
 use Rattle.numbers.proofs.Lists.{below_or, part_end}

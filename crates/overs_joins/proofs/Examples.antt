@@ -1,14 +1,9 @@
 -- Worked cases of document 02's rule.
-use mathlib.Core.Path.{◌≡◌, refl}
-use mathlib.Core.List.{List, ◌∷◌, ◌++◌}
-use Prim.Native.Nat.{ℕ}
-use lib.IntN.{ℤ, pos, negsuc}
-use lib.ListN.{get_or, replicate}
+use Rattle.std.proofs.Common.{◌≡◌, refl, List, ◌∷◌, ◌++◌, ℕ, ℤ, pos, negsuc, get_or, replicate, Some}
 use Rattle.numbers.specs.Lists.{total}
 use Rattle.overs.specs.Overs.{end_of, stands_at, same_end, none, length_at, longer, third_after, normal, step_at, step, overs_from, after}
 use Rattle.overs_joins.specs.Signal.{third_at, third, overs}
 use Rattle.overs.specs.declared.End.TheVariants.{High, Low}
-use Rattle.std.specs.Prelude.{Some}
 
 abbrev high : ℕ → List ℤ
 high n = replicate n (pos 8388607)

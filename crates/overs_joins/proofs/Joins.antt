@@ -1,13 +1,9 @@
 -- Request 5's theorem: the samples end to end are the run's, and overs go by the samples alone.
-use mathlib.Core.Path.{◌≡◌, refl, ap, ap₂, sym, ◌∙◌}
-use mathlib.Core.List.{List, [], ◌∷◌, ◌++◌, flat_map}
-use mathlib.Core.Bool.{Bool, true, false, cond}
-use Prim.Native.Nat.{ℕ, ◌+◌, ◌-◌, ◌*◌, ◌/◌, ◌%◌, ◌<◌}
-use native.Mathlib.Nat.{zero-add, add-zero, mul-add-div_right, mul-add-mod_self_right, div-eq_of_eq-mul_left, eq_of_mul-eq-mul_right, mul-le-mul_right, div-eq_of_lt, mod-eq_of_lt}
-use native.Mathlib.Omega.{arith}
-use lib.IntN.{ℤ, pos}
-use lib.ListN.{length, get_or, take, drop, length-append, length-take, length-drop, get_or-append}
-use lib.Seq.{take_at, drop_at, get_or-append-add, get_or-take, get_or-drop, take-add}
+use Rattle.std.proofs.Common.{◌≡◌, refl, ap, ap₂, sym, ◌∙◌, List, [], ◌∷◌, ◌++◌, Bool, true, false, cond, ℕ, ◌+◌, ◌-◌, ◌*◌, ◌/◌, ◌%◌, ◌<◌, zero-add, add-zero}
+use Rattle.std.proofs.Common.{mod-eq_of_lt, arith, ℤ, pos, length, get_or, take, drop, length-append, take_at, drop_at, get_or-append-add}
+use mathlib.Core.List.{flat_map}
+use native.Mathlib.Nat.{mul-add-div_right, mul-add-mod_self_right, div-eq_of_eq-mul_left, eq_of_mul-eq-mul_right, div-eq_of_lt}
+use lib.ListN.{get_or-append}
 use Rattle.numbers.specs.Lists.{tabulate}
 use Rattle.numbers.proofs.Lists.{tabulate_same, tabulate_join, length_tabulate, get_d_tabulate, is_tabulate, part_end}
 use Rattle.reference.specs.Frames.{Run, frame_count}
@@ -22,7 +18,7 @@ use Rattle.joins.proofs.Joins.{cut_runs_join}
 use Rattle.overs.specs.Overs.{Progress, none, overs_from, after, channel}
 use Rattle.overs_joins.specs.Signal.{overs, in_progress}
 use Rattle.overs_joins.specs.Joins.{frame_overs, by_frames, call_samples, call_frames, calls_overs, AsUncut, OversJoin}
-use Rattle.overs.proofs.Laws.{at, channel_is, after_append}
+use Rattle.overs.proofs.Laws.{at, channel_is}
 use Rattle.overs_joins.proofs.Signal.{after_is, overs_are, starts}
 
 -- ---- stretches of a list
@@ -214,48 +210,3 @@ overs_join conv r calls opens fits joins =
       joined = λ c l. joined conv c l r calls 0 none (u c l) ∙ ap (tabulate (frame_overs conv r c) 0) (all_frames conv r calls opens fits joins);
       uncut = u;
     }
-
--- ---- what it says of single calls
-
--- a call of no frames, refused or not, gives no overs and hands on what is in progress
-pub no_frames : {conv : Converter} (c : ℕ) → c < conv.channels → (call : Call conv) (p : Progress) → call_frames call ≡ 0
-    → (by_frames (samples_per_frame conv.rate) p (call_samples c call) ≡ []) × (after p (call_samples c call) ≡ p)
-unfolding by_frames tabulate after
-no_frames {conv} c l call p e =
-    let z : call_samples c call ≡ [] = empty (call_samples c call) (call_length conv c l call ∙ ap (λ m. m * samples_per_frame conv.rate) e ∙ omega arith) in
-    let q : 0 / samples_per_frame conv.rate ≡ 0 = div-eq_of_lt (some_samples conv.rate) in
-    rw (z, q) (refl, refl)
-  where
-    empty : (zs : List ℤ) → length zs ≡ 0 → zs ≡ []
-    empty [] h = refl
-    empty (x ∷ zs) h = absurd (omega arith)
-
-pub refused_call : {conv : Converter} (call : Call conv) → is_answered_accepted call ≡ false → call_frames call ≡ 0
-unfolding call_frames
-refused_call call e = rw e
-
--- a frame's items hold the frame's samples of the channel: what `overs` is given frame by frame is what `by_frames`
--- counts
-pub frame_channel : (n c : ℕ) → c < n → (items : List ℤ) (per m f : ℕ) → length items ≡ m * per * n → f < m
-    → channel (take (per * n) (drop (f * per * n) items)) n c ≡ take per (drop (f * per) (channel items n c))
-frame_channel n c l items per m f e h =
-    let size = m * per in
-    let room = part_end f m per h in
-    let all = mul-le-mul_right n room in
-    let spread : (f * per + per) * n ≡ f * per * n + per * n = omega arith in
-    let rest = size - f * per - per in
-    let whole : m * per ≡ f * per + (per + rest) = omega arith in
-    let part = take (per * n) (drop (f * per * n) items) in
-    let long : length part ≡ per * n = simp (length-take, length-drop) (omega arith) in
-    let signal : ℕ → ℤ = at items n c in
-    channel_is n c l part per long
-    ∙ tabulate_same (at part n c) signal 0 (0 + f * per) per (λ j q.
-    let i : f * per * n + ((0 + j) * n + c) ≡ (0 + f * per + j) * n + c = omega arith in
-    get_or-take (per * n) (drop (f * per * n) items) ((0 + j) * n + c) (pos 0) (omega (arith, part_end j per n q))
-    ∙ get_or-drop (f * per * n) items ((0 + j) * n + c) (pos 0)
-    ∙ ap (λ k. get_or items k (pos 0)) i)
-    ∙ sym (rw (channel_is n c l items (m * per) e, whole, drop_part signal 0 (f * per) (per + rest)) (take_part signal (0 + f * per) per rest))
-
--- and the state that `by_frames` gives a frame is what the frame before ends with
-pub carried : (p : Progress) (zs : List ℤ) (m per : ℕ) → after (after p (take m zs)) (take per (drop m zs)) ≡ after p (take (m + per) zs)
-carried p zs m per = sym (after_append p (take m zs) (take per (drop m zs))) ∙ ap (after p) (sym (take-add m per zs))

@@ -1,15 +1,9 @@
 -- A stretch counted from what is in progress before it gives the overs that the signal has there, and what is in
 -- progress after it.
-use mathlib.Core.Path.{◌≡◌, refl, ap, sym, ◌∙◌}
-use mathlib.Core.List.{List}
-use mathlib.Core.Bool.{Bool, true, false, cond, not, ◌&&◌, or-false, and-false}
-use Prim.Native.Nat.{min, ℕ, zero, suc, ◌+◌, ◌-◌, ◌≤◌}
-use native.Mathlib.Nat.{add-zero, add-suc}
-use native.Mathlib.Omega.{arith}
-use borrow.Author.Tests.{lt-ltb}
-use lib.Dec.{eqb, eqb-suc-zero}
-use lib.IntN.{ℤ, pos, negsuc}
-use Rattle.std.specs.Prelude.{Option, Some, None}
+use Rattle.std.proofs.Common.{◌≡◌, refl, ap, sym, ◌∙◌, List, Bool, true, false, cond, not, ◌&&◌, min, ℕ, zero, suc, ◌+◌, ◌-◌, ◌≤◌, add-zero, add-suc, arith}
+use Rattle.std.proofs.Common.{lt-ltb, eqb, ℤ, pos, negsuc, Option, Some, None}
+use mathlib.Core.Bool.{or-false, and-false}
+use lib.Dec.{eqb-suc-zero}
 use Rattle.numbers.specs.Lists.{tabulate, total}
 use Rattle.overs.specs.declared.End.{End}
 use Rattle.overs.specs.declared.End.TheVariants.{High, Low}

@@ -1,8 +1,5 @@
 -- Changes keep what opening gives; a change's promise leaves nothing free.
-use mathlib.Core.Path.{◌≡◌, refl, ap, sym, ◌∙◌}
-use Rattle.std.specs.Prelude.{Result}
-use mathlib.Core.List.{List, [], ◌∷◌}
-use mathlib.Core.Bool.{Bool, cond}
+use Rattle.std.proofs.Common.{◌≡◌, refl, ap, sym, ◌∙◌, Result, List, [], ◌∷◌, Bool, cond}
 use Rattle.reference.specs.Settings.{converter_of, filter_of, held_settings}
 use Rattle.reference.specs.Refusals.{Decision, accepted, refused, is_accepted, decide, wanted_places, filter_places, opening_places, held_places}
 use Rattle.reference.specs.Promises.{by_decision}

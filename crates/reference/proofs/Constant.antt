@@ -1,31 +1,9 @@
--- A signal that repeats gives stage values that repeat; where every byte is the same, so is every value of a stage.
-use mathlib.Core.Path.{◌≡◌, refl, ap, ◌∙◌}
-use mathlib.Core.List.{List}
-use Prim.Native.Nat.{ℕ, suc, ◌+◌, ◌-◌, ◌*◌, ◌<◌, ◌≤◌}
-use native.Mathlib.Omega.{arith}
-use lib.Dec.{lit<}
-use lib.IntN.{ℤ}
+-- Where every byte is the same, so is every value of a stage.
+use Rattle.std.proofs.Common.{◌≡◌, refl, ap, ◌∙◌, List, ℕ, suc, ◌+◌, ◌*◌, arith, lit<, ℤ}
 use Rattle.reference.specs.Rounding.{R}
 use Rattle.reference.specs.Taps.{S1, HB}
-use Rattle.reference.specs.Stages.{M, fir, u, v, w, y, reach}
-use Rattle.reference.specs.Output.{samples_per_frame}
-use Rattle.reference.specs.declared.PcmRate.{PcmRate}
-use Rattle.reference.specs.declared.Cutoff.{Cutoff}
-use Rattle.reference.proofs.Locality.{fir_same, u_same, S1_length, HB_last, y_same, reach_small}
-
--- bytes that repeat every d frames: so do the samples, from the second frame on
-pub y_repeats : (rate : PcmRate) (cutoff : Cutoff) (F : List ℤ) → M F ≤ 116 → (β : ℕ → ℕ) (d : ℕ) → ((p : ℕ) → β (4704 * d + p) ≡ β p)
-    → (k : ℕ) → k < samples_per_frame rate → y rate cutoff F β ((1 + d) * samples_per_frame rate + k) ≡ y rate cutoff F β (1 * samples_per_frame rate + k)
-y_repeats rate cutoff F few β d repeats k l =
-    y_same 1 β (1 + d) β 1 rate cutoff F
-    (record {
-      room = omega (arith, reach_small rate cutoff F few);
-      room' = omega (arith, reach_small rate cutoff F few);
-      same = λ p m.
-          let e : 4704 * (1 + d) - reach rate cutoff F + p ≡ 4704 * d + (4704 * 1 - reach rate cutoff F + p) = omega (arith, reach_small rate cutoff F few) in
-          rw e (repeats (4704 * 1 - reach rate cutoff F + p));
-    })
-    k (omega arith)
+use Rattle.reference.specs.Stages.{M, fir, u, v, w}
+use Rattle.reference.proofs.Locality.{fir_same, u_same, S1_length, HB_last}
 
 -- values that are z from place a on
 fir_constant : (h : List ℤ) (s : ℕ → ℤ) (a : ℕ) (z : ℤ) → ((k : ℕ) → s (a + k) ≡ z) → (k : ℕ) → fir h s (a + M h + k) ≡ fir h (λ _. z) 0

@@ -1,15 +1,8 @@
 -- The marked figures hold.
-use mathlib.Core.Path.{◌≡◌, refl, ap, ◌∙◌}
-use mathlib.Core.List.{◌++◌, map}
-use mathlib.Core.Bool.{Bool, true, false, cond}
-use Prim.Native.Nat.{ℕ, zero, suc, ◌+◌, ◌-◌, ◌*◌, ◌/◌, ◌%◌, ◌<◌}
-use native.Mathlib.Nat.{zero-add}
-use native.Mathlib.Omega.{arith}
-use borrow.Author.Tests.{le-ltb}
-use lib.Dec.{lit≤}
-use lib.IntN.{ℤ, pos, negsuc}
+use Rattle.std.proofs.Common.{◌≡◌, refl, ap, ◌∙◌, ◌++◌, map, Bool, true, false, cond, ℕ, zero, suc, ◌+◌, ◌-◌, ◌*◌, ◌/◌, ◌%◌, ◌<◌, zero-add, arith, le-ltb, lit≤}
+use Rattle.std.proofs.Common.{ℤ, pos, negsuc, replicate}
 use lib.Ieee.{of_int, of_bits, mul, div, add, lt}
-use lib.ListN.{replicate, length-replicate, get_or-replicate, replicate-append-replicate}
+use lib.ListN.{length-replicate, get_or-replicate, replicate-append-replicate}
 use Rattle.numbers.specs.Lists.{Each, tabulate}
 use Rattle.numbers.specs.Sums.{sum_to}
 use Rattle.numbers.proofs.Lists.{tabulate_constant, total_none}

@@ -1,14 +1,7 @@
 -- The built-in filter: its taps are F40, and it passes its places; the places of a filter record past its number of
 -- taps are free.
-use mathlib.Core.Path.{◌≡◌, refl, ap, ap₂, sym, ◌∙◌}
-use mathlib.Core.List.{List, [], ◌∷◌}
-use mathlib.Core.Bool.{not, ◌&&◌}
-use Prim.Native.Nat.{ℕ, ◌+◌}
-use native.Mathlib.Omega.{arith}
-use Rattle.std.specs.Prelude.{min, length, take}
-use Rattle.std.proofs.lemmas.List.{take_min, take_all}
-use lib.Dec.{leb}
-use lib.IntN.{ℤ}
+use Rattle.std.proofs.Common.{◌≡◌, refl, ap, ap₂, sym, ◌∙◌, List, [], ◌∷◌, not, ◌&&◌, ℕ, ◌+◌, arith, min, length, take, take_all, leb, ℤ}
+use Rattle.std.proofs.lemmas.List.{take_min}
 use Rattle.reference.specs.Frames.{Run, sequence, channel_byte}
 use Rattle.numbers.specs.Lists.{total}
 use Rattle.numbers.specs.Sums.{sum_to}

@@ -1,14 +1,8 @@
 -- The bytes of a channel in frames put end to end; and that no sample of a run reads before the frame before it.
-use mathlib.Core.Path.{◌≡◌, ◌∙◌}
-use mathlib.Core.List.{List, ◌++◌}
-use Prim.Native.Nat.{ℕ, suc, ◌+◌, ◌-◌, ◌*◌, ◌<◌, ◌≤◌}
-use native.Mathlib.Nat.{mul-le-mul_left}
-use native.Mathlib.Omega.{arith}
+use Rattle.std.proofs.Common.{◌≡◌, ◌∙◌, List, ◌++◌, ℕ, suc, ◌+◌, ◌-◌, ◌*◌, ◌<◌, ◌≤◌, mul-le-mul_left, arith, lit≤, lit<, ℤ, length, drop, get_or-take}
+use Rattle.std.proofs.Common.{get_or-drop, get_or-append-add}
 use lib.Arith.{digits_lt}
-use lib.Dec.{lit≤, lit<}
-use lib.IntN.{ℤ}
-use lib.ListN.{length, drop, get_or-append}
-use lib.Seq.{get_or-take, get_or-drop, get_or-append-add}
+use lib.ListN.{get_or-append}
 use Rattle.reference.specs.Frames.{frame_length, frame, channel_byte}
 use Rattle.reference.specs.Stages.{M, y, reach}
 use Rattle.reference.specs.Output.{samples_per_frame}

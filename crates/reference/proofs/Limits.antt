@@ -1,10 +1,6 @@
 -- A limit of frames that a run keeps does not show: the calls under two limits decide alike, so up to 8 frames the
 -- desk's entry gives what the rack's does.
-use mathlib.Core.Path.{◌≡◌, ap, sym, ◌∙◌}
-use mathlib.Core.List.{List, [], ◌∷◌, ◌++◌}
-use mathlib.Core.Bool.{Bool, false, cond}
-use Prim.Native.Nat.{ℕ, ◌≤◌}
-use native.Mathlib.Omega.{arith}
+use Rattle.std.proofs.Common.{◌≡◌, ap, sym, ◌∙◌, List, [], ◌∷◌, ◌++◌, Bool, false, cond, ℕ, ◌≤◌, arith}
 use Rattle.reference.specs.Frames.{Run, frame_count}
 use Rattle.reference.specs.Output.{samples, stats, per_frame_clips, s24le}
 use Rattle.reference.specs.Refusals.{accepted, refused, Place, decide, rack, desk, most, run_length, held_places, input_places, byte_lengths, convert_places}

@@ -1,10 +1,5 @@
 -- The converter that opening gives is tried as the settings are: its stored numbers are true.
-use mathlib.Core.Path.{◌≡◌, refl, ap}
-use mathlib.Core.List.{List, [], ◌∷◌, ◌++◌}
-use mathlib.Core.Bool.{true, false, cond, not}
-use Prim.Native.Nat.{ℕ}
-use borrow.Author.Tests.{eq-eqb}
-use lib.Dec.{eqb}
+use Rattle.std.proofs.Common.{◌≡◌, refl, ap, List, [], ◌∷◌, ◌++◌, true, false, cond, not, ℕ, eq-eqb, eqb}
 use Rattle.reference.specs.Frames.{frame_length}
 use Rattle.reference.specs.Stages.{taps_of, reach}
 use Rattle.reference.specs.Output.{samples_per_frame}

@@ -1,14 +1,6 @@
 -- A promise leaves nothing free: two answers to one call are the same, and so is what they leave in each lent list.
-use mathlib.Core.Path.{◌≡◌, refl, ap, sym, ◌∙◌}
-use Rattle.std.specs.Prelude.{Result, Ok, Err}
-use mathlib.Core.List.{List}
-use mathlib.Core.Bool.{Bool, true, false, cond}
-use Prim.Native.Nat.{ℕ}
-use native.Mathlib.Omega.{arith}
-use lib.Dec.{eqb}
-use lib.IntN.{ℤ}
-use lib.ListN.{get_or}
-use lib.Ieee.{Float, nan}
+use Rattle.std.proofs.Common.{◌≡◌, refl, ap, sym, ◌∙◌, Result, Ok, Err, List, Bool, true, false, cond, ℕ, arith, eqb, ℤ, get_or, Float}
+use lib.Ieee.{nan}
 use Rattle.reference.specs.Frames.{Run}
 use Rattle.reference.specs.Refusals.{Datum, number, rate, cutoff, decibels, Decision, accepted, refused, error_decision, decision, is_accepted, Place}
 use Rattle.reference.specs.Promises.{by_decision, Converted, stats_told, GainPromise, OpeningPromise, Answered, SamplesPromise, BytesPromise}

@@ -1,13 +1,8 @@
 -- What it takes to pass the table's places, and what a refusal says.
-use mathlib.Core.Path.{◌≡◌, refl, ap, sym, ◌∙◌}
-use mathlib.Core.List.{List, [], ◌∷◌, ◌++◌}
-use mathlib.Core.Bool.{Bool, true, false, cond, not, ◌&&◌}
-use Prim.Native.Nat.{ℕ, ◌*◌, ◌/◌, ◌%◌, ◌<◌, ◌≤◌}
-use native.Mathlib.Nat.{div-add-mod'}
-use native.Mathlib.Omega.{arith}
-use borrow.Author.Tests.{le-leb, lt-leb, ltb-false, lt-ltb, le-ltb, leb-true, eqb-true, not-false}
-use lib.Dec.{eqb, leb, lit≤}
-use lib.ListN.{length, length-replicate}
+use Rattle.std.proofs.Common.{◌≡◌, refl, ap, sym, ◌∙◌, List, [], ◌∷◌, ◌++◌, Bool, true, false, cond, not, ◌&&◌, ℕ, ◌*◌, ◌/◌, ◌%◌, ◌<◌, ◌≤◌, div-add-mod', arith}
+use Rattle.std.proofs.Common.{le-leb, ltb-false, lt-ltb, le-ltb, leb-true, eqb-true, eqb, leb, lit≤, length}
+use borrow.Author.Tests.{lt-leb, not-false}
+use lib.ListN.{length-replicate}
 use Rattle.reference.specs.Frames.{Run, idle, frame_length, frame_count, neighbour, before_frame}
 use Rattle.reference.specs.Scaling.{right_gain}
 use Rattle.reference.specs.Output.{samples_per_frame}

@@ -1,14 +1,9 @@
 -- R(v, q) is nearest v / 2^q, ties to even, and the only such number; and its size.
-use mathlib.Core.Path.{◌≡◌, refl, sym, ◌∙◌, ap}
-use mathlib.Core.Bool.{Bool, true, false, not, cond}
-use mathlib.Core.Logic.{◌⊎◌, inl, inr, ⊎_elim}
-use Prim.Native.Nat.{ℕ, zero, suc, ◌+◌, ◌*◌, ◌-◌, ◌/◌, ◌%◌, ◌<◌, ◌≤◌, ◌^◌}
-use native.Mathlib.Nat.{one-mul, div-add-mod', mod-lt, mul-le-mul_right, le_of_mul-le-mul_right}
-use native.Mathlib.Omega.{arith}
-use lib.Dec.{T, lit<, eqb, ltb, ltb→lt, nltb→le, eqb→eq}
-use lib.IntN.{ℤ, pos, negsuc, neg_ℤ, nat_abs, ◌+ℤ◌, ◌-ℤ◌, ◌*ℤ◌, +ℤ_one, +ℤ_assoc, +ℤ_idr, +ℤ_invr, neg_ℤ-+ℤ}
+use Rattle.std.proofs.Common.{◌≡◌, refl, sym, ◌∙◌, ap, Bool, true, false, not, cond, ◌⊎◌, inl, inr, ⊎_elim, ℕ, zero, suc, ◌+◌, ◌*◌, ◌-◌, ◌/◌, ◌%◌, ◌<◌, ◌≤◌}
+use Rattle.std.proofs.Common.{◌^◌, one-mul, div-add-mod', mod-lt, mul-le-mul_right, le_of_mul-le-mul_right, arith, T, lit<, eqb, ltb, ltb→lt, nltb→le, eqb→eq}
+use Rattle.std.proofs.Common.{ℤ, pos, negsuc, neg_ℤ, nat_abs, ◌+ℤ◌, ◌-ℤ◌, ◌*ℤ◌, pow_pos}
+use lib.IntN.{+ℤ_one, +ℤ_assoc, +ℤ_idr, +ℤ_invr, neg_ℤ-+ℤ}
 use lib.Arith.{digits_div}
-use lib.Pow.{pow_pos}
 use lib.Signed.{shr_z}
 use Rattle.numbers.proofs.Integers.{zext, add_parts, pp_neg, nn_neg, abs_neg, abs_add, abs_mul, abs_parts, add_mul, neg_mul}
 use Rattle.reference.specs.Rounding.{rest, nearer, R, lowest_kept, one_sum, distance, NearestEven}

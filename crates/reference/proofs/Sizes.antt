@@ -1,12 +1,6 @@
 -- How large the stages' values are, for any bytes: from the absolute sum of each filter's taps.
-use mathlib.Core.Path.{◌≡◌, refl, ap}
-use mathlib.Core.Bool.{Bool, true, false, cond}
-use mathlib.Core.List.{List}
-use Prim.Native.Nat.{ℕ, zero, suc, ◌+◌, ◌-◌, ◌*◌, ◌/◌, ◌%◌, ◌^◌, ◌≤◌, ◌<◌}
-use native.Mathlib.Nat.{mul-le-mul_right}
-use native.Mathlib.Omega.{arith}
-use lib.Dec.{lit≤, lit<, eqb}
-use lib.IntN.{ℤ, nat_abs, ◌+ℤ◌}
+use Rattle.std.proofs.Common.{◌≡◌, refl, ap, Bool, true, false, cond, List, ℕ, zero, suc, ◌+◌, ◌-◌, ◌*◌, ◌/◌, ◌%◌, ◌^◌, ◌≤◌, ◌<◌, mul-le-mul_right, arith, lit≤}
+use Rattle.std.proofs.Common.{lit<, eqb, ℤ, nat_abs, ◌+ℤ◌}
 use Rattle.numbers.specs.Sums.{apart}
 use Rattle.numbers.specs.Lists.{total}
 use Rattle.numbers.proofs.Integers.{abs_add}

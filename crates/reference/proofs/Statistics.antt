@@ -1,15 +1,9 @@
 -- What is told of equal stretches, and of stretches joined.
-use mathlib.Core.Path.{◌≡◌, refl, ap, ◌∙◌}
-use Prim.Native.Nat.{ℕ, zero, suc, ◌+◌, ◌^◌, ◌<◌, ◌≤◌}
-use native.Mathlib.Nat.{add-zero, zero-add, min-eq_left}
-use native.Mathlib.Omega.{arith}
+use Rattle.std.proofs.Common.{◌≡◌, refl, ap, ◌∙◌, ℕ, zero, suc, ◌+◌, ◌^◌, ◌<◌, ◌≤◌, add-zero, zero-add, arith, ℤ, get_or, length, take, take-suc, List, [], ◌∷◌}
+use native.Mathlib.Nat.{min-eq_left}
 use lib.Dec.{eqb-suc-zero}
-use lib.IntN.{ℤ}
-use lib.ListN.{get_or, length, take}
-use lib.Seq.{take-suc}
 use Rattle.std.specs.List.{sum_by}
 use Rattle.std.proofs.lemmas.List.Sums.{sum_by-append}
-use mathlib.Core.List.{List, [], ◌∷◌}
 use Rattle.numbers.specs.Extremes.{lesser, greater, extreme}
 use Rattle.numbers.specs.inner.Extremes.{extreme0, pick_unmarked}
 use Rattle.numbers.specs.Lists.{tabulate, total}

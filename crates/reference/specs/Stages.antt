@@ -90,7 +90,7 @@ y rate Standard F β n = y_narrow rate F β n
 y rate Low F β n = y_narrow rate F30 β n
 y rate Wide F β n = y_wide rate β n
 
--- ---- document 01's reach: bytes of each channel, before and after a stretch of frames, that its samples may depend on. With the low-pass F of Standard
+-- ---- reach: bytes of each channel around some frames that their samples may depend on; F: the low-pass of Standard
 unfoldable pub reach : PcmRate → Cutoff → List ℤ → ℕ
 reach Hz88200 Standard F = 2 * M F + 19
 reach Hz176400 Standard F = 2 * M F + 19

@@ -5,7 +5,7 @@ ghost use Rattle.std.specs.Prelude.{◌≡◌, sum_by, ◌^◌, ◌<◌, ◌≤�
 ghost use Rattle.reference.specs.Frames.{frame_length, run_of};
 ghost use Rattle.reference.specs.inner.Frames.{if_there};
 ghost use Rattle.reference.specs.Stages as stages;
-ghost use Rattle.reference.specs.Stages.{taps_of, M};
+ghost use Rattle.reference.specs.Stages.{taps_of};
 ghost use Rattle.reference.specs.Output.{samples_per_frame};
 ghost use Rattle.reference.specs.Refusals.{error_decision, refusal_number, length_number};
 ghost use Rattle.reference.specs.Settings.{built_in, filter_of, converter_of, held_settings};

@@ -1,10 +1,5 @@
 -- What each refusal of a lent list says of its place.
-use mathlib.Core.Path.{◌≡◌, sym, ap, ◌∙◌}
-use mathlib.Core.List.{List, ◌∷◌}
-use mathlib.Core.Bool.{not}
-use Prim.Native.Nat.{ℕ, ◌≤◌}
-use native.Mathlib.Omega.{arith}
-use borrow.Author.Tests.{ne_eqb, eq-eqb}
+use Rattle.std.proofs.Common.{◌≡◌, sym, ap, ◌∙◌, List, ◌∷◌, not, ℕ, ◌≤◌, arith, ne_eqb, eq-eqb}
 use Rattle.reference.specs.Frames.{Run, frame_count}
 use Rattle.reference.specs.Refusals.{Decision, accepted, error_decision, Place, decide, input_places, lent_length}
 use Rattle.reference.specs.declared.Converter.{Converter}

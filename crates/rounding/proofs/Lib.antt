@@ -1,1 +1,1 @@
-mod Lifted
+mod Biased

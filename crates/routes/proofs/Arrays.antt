@@ -1,12 +1,7 @@
 -- Parts of arrays: filled, and moved to the front.
-use mathlib.Core.Path.{◌≡◌, sym, ◌∙◌, ap}
-use mathlib.Core.Logic.{⊎_elim}
-use mathlib.Core.List.{List, ◌++◌}
-use Prim.Native.Nat.{ℕ, ◌+◌, ◌-◌, ◌≤◌, ◌<◌}
-use native.Mathlib.Omega.{arith}
-use lib.IntN.{ℤ, pos}
-use lib.ListN.{length, get_or, take, drop, length-drop, get_or-append}
-use lib.Seq.{length-take-le, get_or-take, get_or-append-add}
+use Rattle.std.proofs.Common.{◌≡◌, sym, ◌∙◌, ap, ⊎_elim, List, ◌++◌, ℕ, ◌+◌, ◌-◌, ◌≤◌, ◌<◌, arith, ℤ, pos, length, get_or, take, drop, length-drop}
+use Rattle.std.proofs.Common.{length-take-le, get_or-take, get_or-append-add}
+use lib.ListN.{get_or-append}
 use Rattle.numbers.specs.inner.Lists.{Held}
 use Rattle.numbers.proofs.Lists.{below_or}
 

@@ -1,16 +1,11 @@
 -- What the filters of `filters` give over the first e places of an array that holds a signal; the taps of a filter in
 -- halves; and the values between those of w.
-use mathlib.Core.Path.{◌≡◌, refl, ◌∙◌, ap}
-use mathlib.Core.List.{List}
-use Prim.Native.Nat.{ℕ, ◌+◌, ◌-◌, ◌*◌, ◌/◌, ◌%◌, ◌^◌, ◌≤◌, ◌<◌}
-use native.Mathlib.Omega.{arith}
-use lib.IntN.{ℤ, pos, nat_abs, ◌+ℤ◌}
-use lib.ListN.{length, take, drop, length-append}
-use lib.Seq.{get_or-take, take_at, drop_at, take_all}
+use Rattle.std.proofs.Common.{◌≡◌, refl, ◌∙◌, ap, List, ℕ, ◌+◌, ◌-◌, ◌*◌, ◌/◌, ◌%◌, ◌^◌, ◌≤◌, ◌<◌, arith, ℤ, pos, nat_abs, ◌+ℤ◌, length, take, drop}
+use Rattle.std.proofs.Common.{length-append, get_or-take, take_at, drop_at, take_all}
 use Rattle.numbers.specs.Sums.{at0}
 use Rattle.numbers.specs.Lists.{total, tabulate}
 use Rattle.numbers.specs.inner.Lists.{Held}
-use Rattle.numbers.specs.inner.Parts.{woven}
+use Rattle.numbers.specs.inner.Parts.{interleaved}
 use Rattle.numbers.proofs.Integers.{abs_add}
 use Rattle.numbers.proofs.Sums.{sum_size}
 use Rattle.reference.specs.Rounding.{R}
@@ -87,10 +82,10 @@ module _ (F : List ℤ) (β : ℕ → ℕ) (k : ℕ) (low : 8 ≤ k) (t : List �
       let h = held_at k (omega (arith, HB_odd)) (middle_held (odd_taps HB) around filled (omega (arith, HB_odd)) (omega (arith, HB_odd))) in
       record { is = λ i m. h.is i (omega arith) ∙ ap (λ z. R z 23) (between_is_HB (w F β) (k + i)) }
 
-  woven_y : {old new : List ℤ} (n : ℕ) → n ≡ 2 * k → Filled (λ i. R (middle (odd_taps HB) (take 183 (drop 1 t)) i) 23) old new → length old ≡ 168
-      → (j : ℕ) → j < 336 → woven (take 168 (drop 8 t)) new j ≡ y_narrow Hz352800 F β (n + j)
-  unfolding woven y_narrow
-  woven_y n two filled l j m =
+  interleaved_y : {old new : List ℤ} (n : ℕ) → n ≡ 2 * k → Filled (λ i. R (middle (odd_taps HB) (take 183 (drop 1 t)) i) 23) old new → length old ≡ 168
+      → (j : ℕ) → j < 336 → interleaved (take 168 (drop 8 t)) new j ≡ y_narrow Hz352800 F β (n + j)
+  unfolding interleaved y_narrow
+  interleaved_y n two filled l j m =
       let r : (n + j) % 2 ≡ j % 2 = omega arith in
       let q : (n + j) / 2 ≡ k + j / 2 = omega arith in
       let even : at0 (take 168 (drop 8 t)) (j / 2) ≡ w F β (k + j / 2) = (part_held 8 176 (omega arith) (omega arith) held).is (j / 2) (omega arith) ∙ ap (w F β) (omega arith) in
@@ -98,11 +93,11 @@ module _ (F : List ℤ) (β : ℕ → ℕ) (k : ℕ) (low : 8 ≤ k) (t : List �
       rw (r, q, even, odd)
 
 -- w and the values between, in turn, are y
-pub woven_gives : (F : List ℤ) (β : ℕ → ℕ) (n : ℕ) {len : ℕ} {t old new ys : List ℤ} → 16 ≤ n → n % 2 ≡ 0 → Held (pos 0) (w F β) (n / 2 - 8) 184 t
-    → Filled (λ i. R (middle (odd_taps HB) (take 183 (drop 1 t)) i) 23) old new → length old ≡ 168 → Held (pos 0) (woven (take 168 (drop 8 t)) new) 0 len ys → len ≡ 336
+pub interleaved_gives : (F : List ℤ) (β : ℕ → ℕ) (n : ℕ) {len : ℕ} {t old new ys : List ℤ} → 16 ≤ n → n % 2 ≡ 0 → Held (pos 0) (w F β) (n / 2 - 8) 184 t
+    → Filled (λ i. R (middle (odd_taps HB) (take 183 (drop 1 t)) i) 23) old new → length old ≡ 168 → Held (pos 0) (interleaved (take 168 (drop 8 t)) new) 0 len ys → len ≡ 336
     → Held (pos 0) (y_narrow Hz352800 F β) n 336 ys
-woven_gives F β n {t = t} {new = new} l even held filled long turns e =
-    record { is = λ j m. turns.is j (omega arith) ∙ ap (woven (take 168 (drop 8 t)) new) (omega arith) ∙ woven_y F β (n / 2) (omega arith) t held n (omega arith) filled long j m }
+interleaved_gives F β n {t = t} {new = new} l even held filled long turns e =
+    record { is = λ j m. turns.is j (omega arith) ∙ ap (interleaved (take 168 (drop 8 t)) new) (omega arith) ∙ interleaved_y F β (n / 2) (omega arith) t held n (omega arith) filled long j m }
 
 -- ---- the filters of Wide, as they are lent
 

@@ -1,26 +1,29 @@
 -- The tables and the taps of a route are facts: there is one proof of each at most.
-use mathlib.Core.List.{List}
-use lib.IntN.{ℤ}
+use Rattle.std.proofs.Common.{List, ℤ}
 use Rattle.std.proofs.Props.{props}
-use Rattle.reference.specs.declared.PcmRate.{PcmRate}
-use Rattle.reference.specs.declared.PcmRate.TheVariants.{Hz88200, Hz176400, Hz352800}
-use Rattle.reference.specs.declared.Cutoff.{Cutoff}
-use Rattle.reference.specs.declared.Cutoff.TheVariants.{Standard, Low, Wide}
-use Rattle.routes.specs.inner.Routes.{LastFilter, FirstTables, RouteTaps}
+use Rattle.reference.specs.declared.Converter.{Converter}
+use Rattle.routes.specs.declared.Route.{Route}
+use Rattle.routes.specs.declared.Route.TheVariants.{Narrow88, Narrow176, Narrow352, Wide176, Wide352}
+use Rattle.routes.specs.inner.Routes.{Routed, LastFilter, FirstTables, RouteTaps}
 
-pub first_prop : (cutoff : Cutoff) (tables : List ℤ) → IsProp (FirstTables cutoff tables)
+pub routed_prop : (conv : Converter) (route : Route) → IsProp (Routed conv route)
+routed_prop conv route = hlevel props
+
+pub first_prop : (route : Route) (tables : List ℤ) → IsProp (FirstTables route tables)
 unfolding FirstTables
-first_prop Standard tables = hlevel props
-first_prop Low tables = hlevel props
-first_prop Wide tables = hlevel props
+first_prop Narrow88 tables = hlevel props
+first_prop Narrow176 tables = hlevel props
+first_prop Narrow352 tables = hlevel props
+first_prop Wide176 tables = hlevel props
+first_prop Wide352 tables = hlevel props
 
-pub last_prop : (rate : PcmRate) (cutoff : Cutoff) (F : List ℤ) → IsProp (LastFilter rate cutoff F)
+pub last_prop : (route : Route) (F : List ℤ) → IsProp (LastFilter route F)
 unfolding LastFilter
-last_prop rate Standard F = hlevel props
-last_prop rate Low F = hlevel props
-last_prop Hz88200 Wide F = hlevel props
-last_prop Hz176400 Wide F = hlevel props
-last_prop Hz352800 Wide F = hlevel props
+last_prop Narrow88 F = hlevel props
+last_prop Narrow176 F = hlevel props
+last_prop Narrow352 F = hlevel props
+last_prop Wide176 F = hlevel props
+last_prop Wide352 F = hlevel props
 
-pub taps_prop : (rate : PcmRate) (cutoff : Cutoff) (F h : List ℤ) → IsProp (RouteTaps rate cutoff F h)
-taps_prop rate cutoff F h = hlevel (props, last_prop)
+pub taps_prop : (route : Route) (F h : List ℤ) → IsProp (RouteTaps route F h)
+taps_prop route F h = hlevel (props, last_prop)

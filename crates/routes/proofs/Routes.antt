@@ -1,14 +1,7 @@
 -- The routes of the reference are routes here, with every filter that 17 and 18 let through; sizes of their y.
-use mathlib.Core.Path.{◌≡◌, refl, ap, ◌∙◌}
-use mathlib.Core.Bool.{true, false, ◌&&◌}
-use mathlib.Core.List.{List}
-use Prim.Native.Nat.{ℕ, ◌^◌, ◌≤◌, ◌<◌}
-use native.Mathlib.Nat.{le_antisymm}
-use native.Mathlib.Omega.{arith}
-use borrow.Author.Tests.{leb-true, not-false}
-use lib.Dec.{lit≤, lit<, leb}
-use lib.IntN.{ℤ, pos, negsuc, nat_abs}
-use lib.ListN.{length, take, length-take}
+use Rattle.std.proofs.Common.{◌≡◌, refl, ap, ◌∙◌, true, false, ◌&&◌, List, ℕ, ◌^◌, ◌≤◌, ◌<◌, le_antisymm, arith, leb-true, lit≤, lit<, leb, ℤ, pos, negsuc}
+use Rattle.std.proofs.Common.{nat_abs, length, take, length-take}
+use borrow.Author.Tests.{not-false}
 use lib.Signed.{le_z}
 use Rattle.reference.specs.Taps.{F30}
 use Rattle.reference.specs.Stages.{taps_of, whole_sum, whole_size, y}
@@ -25,7 +18,9 @@ use Rattle.reference.proofs.Sizes.{F30_sum, y_narrow_size, y_wide_size}
 use Rattle.filters.specs.inner.Filters.{UnityGain}
 use Rattle.filters.proofs.Totals.{absolute_sum_is, taps_sum, filter_by_sums}
 use Rattle.filters.proofs.Tables.{filter_F30}
-use Rattle.routes.specs.inner.Routes.{LowPass, LastFilter, y_of, last_taps}
+use Rattle.routes.specs.inner.Routes.{route_of, LowPass, LastFilter, y_of, last_taps}
+use Rattle.routes.specs.declared.Route.{Route}
+use Rattle.routes.specs.declared.Route.TheVariants.{Narrow88, Narrow176, Narrow352, Wide176, Wide352}
 
 pub a_frame : (rate : PcmRate) → 1000 ≤ samples_per_frame rate
 unfolding samples_per_frame
@@ -80,24 +75,39 @@ low_pass_F30 : LowPass F30
 unfolding F30
 low_pass_F30 = record { some = lit< tt; few = lit≤ tt; keeps = filter_F30; small = F30_sum }
 
+no_route : {A : Type 0} → true ≡ false → A
+no_route e = let z : ◌≡◌ {A = ℕ} 0 1 = cc in absurd (omega arith)
+
 -- every rate and cutoff that opening supports has its last filter
-pub last_filter : (rate : PcmRate) (cutoff : Cutoff) (F : List ℤ) → LowPass F → unsupported rate cutoff ≡ false → LastFilter rate cutoff (last_taps rate cutoff F)
-unfolding unsupported LastFilter last_taps
-last_filter rate Standard F l e = l
-last_filter rate Low F l e = low_pass_F30
-last_filter Hz88200 Wide F l e = let z : ◌≡◌ {A = ℕ} 0 1 = cc in absurd (omega arith)
+pub last_filter : (rate : PcmRate) (cutoff : Cutoff) (F : List ℤ) → LowPass F → unsupported rate cutoff ≡ false → LastFilter (route_of rate cutoff) (last_taps rate cutoff F)
+unfolding unsupported LastFilter route_of last_taps
+last_filter Hz88200 Standard F l e = l
+last_filter Hz88200 Low F l e = low_pass_F30
+last_filter Hz88200 Wide F l e = no_route e
+last_filter Hz176400 Standard F l e = l
+last_filter Hz176400 Low F l e = low_pass_F30
 last_filter Hz176400 Wide F l e = refl
+last_filter Hz352800 Standard F l e = l
+last_filter Hz352800 Low F l e = low_pass_F30
 last_filter Hz352800 Wide F l e = refl
 
 -- with it, y is the reference's
-pub y_of_is : (rate : PcmRate) (cutoff : Cutoff) (F : List ℤ) (β : ℕ → ℕ) (n : ℕ) → y_of rate cutoff (last_taps rate cutoff F) β n ≡ y rate cutoff F β n
-unfolding y_of last_taps y
-y_of_is rate Standard F β n = refl
-y_of_is rate Low F β n = refl
-y_of_is rate Wide F β n = refl
+pub y_of_is : (rate : PcmRate) (cutoff : Cutoff) (F : List ℤ) → unsupported rate cutoff ≡ false → (β : ℕ → ℕ) (n : ℕ) → y_of (route_of rate cutoff) (last_taps rate cutoff F) β n ≡ y rate cutoff F β n
+unfolding unsupported y_of route_of last_taps y
+y_of_is Hz88200 Standard F e β n = refl
+y_of_is Hz88200 Low F e β n = refl
+y_of_is Hz88200 Wide F e β n = no_route e
+y_of_is Hz176400 Standard F e β n = refl
+y_of_is Hz176400 Low F e β n = refl
+y_of_is Hz176400 Wide F e β n = refl
+y_of_is Hz352800 Standard F e β n = refl
+y_of_is Hz352800 Low F e β n = refl
+y_of_is Hz352800 Wide F e β n = refl
 
-pub y_of_size : (rate : PcmRate) (cutoff : Cutoff) (F : List ℤ) → LastFilter rate cutoff F → (β : ℕ → ℕ) (n : ℕ) → nat_abs (y_of rate cutoff F β n) < 2 ^ 30
+pub y_of_size : (route : Route) (F : List ℤ) → LastFilter route F → (β : ℕ → ℕ) (n : ℕ) → nat_abs (y_of route F β n) < 2 ^ 30
 unfolding LastFilter y_of
-y_of_size rate Standard F l β n = y_narrow_size rate F l.small β n
-y_of_size rate Low F l β n = y_narrow_size rate F l.small β n
-y_of_size rate Wide F l β n = y_wide_size rate β n
+y_of_size Narrow88 F l β n = y_narrow_size Hz88200 F l.small β n
+y_of_size Narrow176 F l β n = y_narrow_size Hz176400 F l.small β n
+y_of_size Narrow352 F l β n = y_narrow_size Hz352800 F l.small β n
+y_of_size Wide176 F l β n = y_wide_size Hz176400 β n
+y_of_size Wide352 F l β n = y_wide_size Hz352800 β n

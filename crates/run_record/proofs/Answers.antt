@@ -1,12 +1,6 @@
 -- What an accepted call has, and the promises of a call that is accepted or refused.
-use mathlib.Core.Path.{◌≡◌, refl, sym, ap, ◌∙◌}
-use Rattle.std.specs.Prelude.{Ok, Err}
-use mathlib.Core.List.{List, [], ◌∷◌, ◌++◌}
-use mathlib.Core.Bool.{Bool, true, false}
-use Prim.Native.Nat.{ℕ, ◌*◌}
-use borrow.Author.Tests.{eqb-true, not-false}
-use lib.IntN.{ℤ}
-use lib.ListN.{length}
+use Rattle.std.proofs.Common.{◌≡◌, refl, sym, ap, ◌∙◌, Ok, Err, List, [], ◌∷◌, ◌++◌, Bool, true, false, ℕ, ◌*◌, eqb-true, ℤ, length}
+use borrow.Author.Tests.{not-false}
 use Rattle.reference.specs.Frames.{Run, frame_count}
 use Rattle.reference.specs.Output.{all_samples, samples, stats, s24le, frame_clips, per_frame_clips}
 use Rattle.reference.specs.Refusals.{rack, accepted, error_decision, is_accepted, Place, decide, if_present, lent_length, held_places}
@@ -21,7 +15,7 @@ use Rattle.reference.proofs.Refusals.{pass, decide_first, decide_skip, error_ref
 use Rattle.reference.proofs.Promises.{exit_accepted, exit_refused}
 use Rattle.reference.proofs.Limits.{rack_fits}
 use Rattle.numbers.specs.Lists.{tabulate}
-use Rattle.output.specs.inner.Fills.{items, byte_layout, written}
+use Rattle.output.specs.inner.Fills.{items, byte_layout, parts_of}
 use Rattle.output.proofs.Boxes.{written_items, written_bytes}
 use Rattle.run_record.specs.inner.Calls.{AcceptedCall}
 
@@ -71,7 +65,7 @@ module _ (places : List Place) (conv : Converter) (r : Run) where
     unfolding stats_told
     answered = record { decided = ok; counted = is_stats ∙ sym (exit_accepted (decide places) (stats conv r) no_stats (sym ok)) }
 
-    pub samples_promise : (out out' : List ℤ) → out' ≡ written items (samples conv r) → SamplesPromise places conv r out out' (Ok told)
+    pub samples_promise : (out out' : List ℤ) → out' ≡ parts_of items (samples conv r) → SamplesPromise places conv r out out' (Ok told)
     samples_promise out out' e = record { answered = answered; written = e ∙ written_items (samples conv r) ∙ sym (exit_accepted (decide places) (samples conv r) out (sym ok)) }
 
   module _ (e : PcmError) (no : error_decision e ≡ decide places) where
@@ -97,7 +91,7 @@ module _ (whose : Limit) (conv : Converter) (r : Run) (out counts : List ℕ) wh
         }
 
   pub lent_promise : (told : ConvertStats) → told ≡ stats conv r → accepted
-      ≡ decide (convert_places whose conv r out true counts) → (out' counts' : List ℕ) → out' ≡ written byte_layout (samples conv r)
+      ≡ decide (convert_places whose conv r out true counts) → (out' counts' : List ℕ) → out' ≡ parts_of byte_layout (samples conv r)
       → length counts ≡ frame_count conv.channels r.frames → counts' ≡ tabulate (frame_clips conv r) 0 (length counts) → BytesPromise whose conv r true out counts out' counts' (Ok told)
   unfolding if_lent per_frame_clips
   lent_promise told is_stats ok out' counts' w l k = bytes_promise true told is_stats ok out' counts' (w ∙ written_bytes (samples conv r)) (k ∙ ap (λ n. tabulate (frame_clips conv r) 0 n) l)
@@ -116,7 +110,7 @@ module _ (whose : Limit) (conv : Converter) (r : Run) (out counts : List ℕ) wh
 
 -- where no list is lent there are no counts
 module _ (whose : Limit) (conv : Converter) (r : Run) (out : List ℕ) where
-  pub unlent_promise : (told : ConvertStats) → told ≡ stats conv r → accepted ≡ decide (convert_places whose conv r out false []) → (out' : List ℕ) → out' ≡ written byte_layout (samples conv r)
+  pub unlent_promise : (told : ConvertStats) → told ≡ stats conv r → accepted ≡ decide (convert_places whose conv r out false []) → (out' : List ℕ) → out' ≡ parts_of byte_layout (samples conv r)
       → BytesPromise whose conv r false out [] out' [] (Ok told)
   unfolding if_lent
   unlent_promise told is_stats ok out' w = bytes_promise whose conv r out [] false told is_stats ok out' [] (w ∙ written_bytes (samples conv r)) refl

@@ -1,13 +1,7 @@
 -- An absent neighbour as an empty slice: the sequence is the same, and with it all that the definition gives.
-use mathlib.Core.Path.{◌≡◌, refl, ap, ap₂, ◌∙◌}
-use mathlib.Core.List.{List, [], ◌++◌, append-nil}
-use mathlib.Core.Bool.{Bool, true, false, cond}
-use Prim.Native.Nat.{ℕ, ◌+◌, ◌*◌, ◌/◌, ◌%◌, ◌<◌}
-use native.Mathlib.Omega.{arith}
-use borrow.Author.Tests.{lt-ltb, eqb-true, not-false}
-use lib.Dec.{T, ltb}
-use lib.IntN.{ℤ}
-use lib.ListN.{length}
+use Rattle.std.proofs.Common.{◌≡◌, refl, ap, ap₂, ◌∙◌, List, [], ◌++◌, append-nil, Bool, true, false, cond, ℕ, ◌+◌, ◌*◌, ◌/◌, ◌%◌, ◌<◌, arith, lt-ltb, eqb-true}
+use Rattle.std.proofs.Common.{T, ltb, ℤ, length, None}
+use borrow.Author.Tests.{not-false}
 use lib.Ieee.{binary64, fits}
 use Rattle.numbers.specs.Lists.{tabulate, total, count}
 use Rattle.reference.specs.Frames.{Run, run, frame_length, frame_count, neighbour, sequence, channel_byte}
@@ -15,8 +9,7 @@ use Rattle.reference.specs.Stages.{taps_of, y}
 use Rattle.reference.specs.Scaling.{scaled, clamp, clips}
 use Rattle.reference.specs.Output.{samples_per_frame, unclamped, sample, clipped, item, channel_samples, all_samples, samples, channel_clips, channel_extremes, channel_stats, stats, frame_clips}
 use Rattle.reference.specs.Statistics.{extremes_of}
-use Rattle.std.specs.Prelude.{None}
-use Rattle.output.specs.inner.Fills.{Layout, written}
+use Rattle.output.specs.inner.Fills.{Layout, parts_of}
 use Rattle.reference.specs.Refusals.{rack, accepted, decide, Datum, Place, if_present, one_long, run_length, input_places}
 use Rattle.reference.specs.declared.Converter.{Converter}
 use Rattle.reference.specs.declared.ConvertStats.{ConvertStats}
@@ -104,15 +97,16 @@ module _ (conv : Converter) (hb : Bool) (b f : List ℕ) (ha : Bool) (a : List �
   slices_accepted h long =
       record {
         slices = lent;
+        supported = supported conv ok.opens;
         few_taps = few_taps conv.filter (filtered conv ok.opens);
         last = last_filter conv.rate conv.cutoff (taps_of conv.filter) (low_pass conv.filter (filtered conv ok.opens) long) (supported conv ok.opens);
         factor = right_bounded conv.gain h (right conv ok.opens);
       }
 
   module _ {A : Type 0} {o : Layout A} {told : ConvertStats} {out' : List A} {counts counts' : List ℕ} (ran : Ran o conv (lent_run (present hb b) f (present ha a)) told out' counts counts') where
-    pub ran_places : out' ≡ written o (samples conv (run hb b f ha a))
+    pub ran_places : out' ≡ parts_of o (samples conv (run hb b f ha a))
     unfolding lent_run
-    ran_places = ran.places ∙ ap (written o) (samples_same conv _ _ sequence_same refl)
+    ran_places = ran.places ∙ ap (parts_of o) (samples_same conv _ _ sequence_same refl)
 
     pub ran_stats : told ≡ stats conv (run hb b f ha a)
     unfolding lent_run

@@ -3,7 +3,7 @@ ghost use Rattle.std.specs.Prelude.{◌≡◌, ◌≤◌, length};
 ghost use Rattle.numbers.specs.Lists.{tabulate};
 ghost use Rattle.reference.specs.Frames.{run_of, frame_count};
 ghost use Rattle.reference.specs.Output.{all_samples, samples, stats, frame_clips};
-ghost use Rattle.output.specs.inner.Fills.{Room, written};
+ghost use Rattle.output.specs.inner.Fills.{Room, parts_of};
 ghost use Rattle.run_record.specs.inner.Calls.{AcceptedCall};
 
 use channel_bytes::Slices;
@@ -20,7 +20,7 @@ pub fn converted<'a, P: Place>(
     requires accepted_call { AcceptedCall conv (run_of run) }
     requires room { Room P.layout (all_samples conv (run_of run)) out.old }
     requires few { length counts.old ≤ frame_count conv.channels run.frames.now }
-    ensures out_after { out.new ≡ written P.layout (samples conv (run_of run.entry)) }
+    ensures out_after { out.new ≡ parts_of P.layout (samples conv (run_of run.entry)) }
     ensures counts_after { counts.new ≡ tabulate (frame_clips conv (run_of run.entry)) 0 (length counts.old) }
     ensures value { result ≡ stats conv (run_of run.entry) }
 {

@@ -1,13 +1,6 @@
 -- What a run's lengths decide, place by place: `input`'s returns follow from these, whichever tests the code makes.
-use mathlib.Core.Path.{◌≡◌, refl, sym, ap, ◌∙◌}
-use mathlib.Core.List.{List, [], ◌∷◌, ◌++◌, append-nil}
-use mathlib.Core.Bool.{Bool, true, false, cond, not}
-use Prim.Native.Nat.{ℕ, ◌%◌, ◌/◌, ◌<◌}
-use native.Mathlib.Omega.{arith}
-use borrow.Author.Tests.{ne_eqb, eq-eqb}
-use lib.Dec.{eqb}
-use lib.ListN.{length}
-use Rattle.std.specs.Prelude.{Option, Some, None}
+use Rattle.std.proofs.Common.{◌≡◌, refl, sym, ap, ◌∙◌, List, [], ◌∷◌, ◌++◌, append-nil, Bool, true, false, cond, not, ℕ, ◌%◌, ◌/◌, ◌<◌, arith, ne_eqb, eq-eqb}
+use Rattle.std.proofs.Common.{eqb, length, Option, Some, None}
 use Rattle.reference.specs.Frames.{run, frame_length, frame_count}
 use Rattle.reference.specs.inner.Frames.{if_there}
 use Rattle.reference.specs.Refusals.{Decision, accepted, refused, number, error_decision, Place, decide, held_places, input_places, run_length, too_many, one_long, if_present}

@@ -1,11 +1,5 @@
 -- What each refusal of a run's frames says of its place.
-use mathlib.Core.Path.{◌≡◌, sym, ap, ◌∙◌}
-use mathlib.Core.List.{List, [], ◌∷◌}
-use mathlib.Core.Bool.{not}
-use Prim.Native.Nat.{ℕ, ◌*◌, ◌≤◌, ◌<◌}
-use native.Mathlib.Nat.{mul-le-mul}
-use borrow.Author.Tests.{ne_eqb, eq-eqb}
-use lib.ListN.{length}
+use Rattle.std.proofs.Common.{◌≡◌, sym, ap, ◌∙◌, List, [], ◌∷◌, not, ℕ, ◌*◌, ◌≤◌, ◌<◌, mul-le-mul, ne_eqb, eq-eqb, length}
 use Rattle.reference.specs.Output.{samples_per_frame}
 use Rattle.reference.specs.Refusals.{accepted, error_decision, decide, held_places, one_frame, one_long, too_many}
 use Rattle.reference.specs.declared.Converter.{Converter}

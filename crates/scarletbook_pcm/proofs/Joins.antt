@@ -1,10 +1,6 @@
 -- Demand 3 speaks of these functions: what `ensures` says of a call is, word for word, the promise that the join
 -- theorem (crate joins) goes by.
-use mathlib.Core.Path.{◌≡◌, refl}
-use mathlib.Core.List.{List, map}
-use mathlib.Core.Bool.{Bool}
-use Prim.Native.Nat.{ℕ}
-use lib.IntN.{ℤ}
+use Rattle.std.proofs.Common.{◌≡◌, refl, List, map, Bool, ℕ, ℤ, is_some}
 use seplogic.Ra.Ura.{Ura}
 use base.Logic.{SProp}
 use prog.Memory.{Memory}
@@ -15,7 +11,6 @@ use contract.Monad.{fact, Fun}
 use denote.Triple.Entry.{Args, Res}
 use denote.Triple.Clauses.{AtExit}
 use denote.Triple.Spec.{exits}
-use Rattle.std.specs.Prelude.{is_some}
 use Rattle.reference.specs.Frames.{Run, run, run_of}
 use Rattle.reference.specs.Refusals.{rack, desk}
 use Rattle.reference.specs.Promises.{Converted, BytesPromise, ConvertRunPromise}

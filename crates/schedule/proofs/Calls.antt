@@ -1,12 +1,5 @@
 -- What an accepted call returns, and that it is best.
-use mathlib.Core.Path.{◌≡◌, refl, sym, ◌∙◌, ap}
-use mathlib.Core.List.{List, []}
-use mathlib.Core.Bool.{Bool, true, false, cond, not}
-use Prim.Native.Nat.{ℕ, zero, suc, ◌-◌, ◌≤◌}
-use native.Mathlib.Nat.{zero-add}
-use native.Mathlib.Omega.{arith}
-use lib.IntN.{ℤ, pos}
-use lib.ListN.{length, get_or}
+use Rattle.std.proofs.Common.{◌≡◌, refl, sym, ◌∙◌, ap, List, [], Bool, true, false, cond, not, ℕ, zero, suc, ◌-◌, ◌≤◌, zero-add, arith, ℤ, pos, length, get_or}
 use Rattle.numbers.specs.Lists.{tabulate}
 use Rattle.numbers.proofs.Lists.{get_d_tabulate, length_tabulate}
 use Rattle.reference.specs.Refusals.{accepted, refused, is_accepted, decide}
@@ -30,15 +23,6 @@ was_fitting frames dues turn finishes late e = go (fitting frames dues turn fini
     go : (b : Bool) → is_accepted (cond (not b) (refused 19 []) accepted) ≡ true → b ≡ true
     go true h = refl
     go false h = h
-
--- a call that is refused does not
-pub was_not : (frames dues : List ℕ) (turn finishes late : ℕ) → is_accepted (decide (simulate_places frames dues turn finishes late)) ≡ false → fitting frames dues turn finishes late ≡ false
-unfolding decide simulate_places is_accepted
-was_not frames dues turn finishes late = go (fitting frames dues turn finishes late)
-  where
-    go : (b : Bool) → is_accepted (cond (not b) (refused 19 []) accepted) ≡ false → b ≡ false
-    go true h = h
-    go false h = refl
 
 pub returns_the_best : ReturnsTheBest
 unfolding greatest_lateness

@@ -1,12 +1,6 @@
 -- Lines printed by `Text`, one after another.
-use mathlib.Core.Path.{◌≡◌, refl, sym}
-use mathlib.Core.List.{List, [], ◌∷◌, ◌++◌, append-nil}
-use Prim.Native.Nat.{ℕ, ◌+◌, ◌-◌}
-use native.Mathlib.Omega.{arith}
-use lib.ListN.{replicate}
+use Rattle.std.proofs.Common.{◌≡◌, refl, sym, List, [], ◌∷◌, ◌++◌, append-nil, ℕ, ◌+◌, ◌-◌, arith, replicate, zero-add, add-zero, add-one, take-append-drop}
 use Rattle.columns.specs.Columns.{column, cell}
-use native.Mathlib.Nat.{zero-add, add-zero}
-use native.Mathlib.Numerals.{add-one}
 use Rattle.numbers.specs.Lists.{tabulate}
 use Rattle.text.specs.Text.{joined, with_text, printed}
 use Rattle.text.specs.inner.Writing.{Prints}
@@ -14,7 +8,6 @@ use Rattle.text.specs.declared.putting.Text.{Text}
 use Rattle.text.proofs.Printing as printing
 use Rattle.text.proofs.Printing.{joined_last}
 use Rattle.text.proofs.Writing.{both}
-use Rattle.std.proofs.Common.{take-append-drop}
 
 pub nothing : {a : Text} → Prints [] a a
 unfolding with_text

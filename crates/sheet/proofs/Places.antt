@@ -1,11 +1,7 @@
 -- A sheet's places, tried in turn.
-use mathlib.Core.Path.{◌≡◌, sym, ◌∙◌}
-use mathlib.Core.Logic.{◌⊎◌, inl, inr}
-use mathlib.Core.Bool.{true, false, ◌&&◌, and-eq-true_iff}
-use mathlib.Core.List.{[], ◌∷◌}
-use Prim.Native.Nat.{ℕ, ◌<◌, ◌≤◌}
-use borrow.Author.Tests.{le-leb, lt-leb, eq-eqb, ne_eqb, leb-true, eqb-true, not-false}
-use lib.Dec.{leb}
+use Rattle.std.proofs.Common.{◌≡◌, sym, ◌∙◌, ◌⊎◌, inl, inr, true, false, ◌&&◌, [], ◌∷◌, ℕ, ◌<◌, ◌≤◌, le-leb, eq-eqb, ne_eqb, leb-true, eqb-true, leb}
+use mathlib.Core.Bool.{and-eq-true_iff}
+use borrow.Author.Tests.{lt-leb, not-false}
 use Rattle.reference.specs.Refusals.{accepted, refused, number, decide, lent_length}
 use Rattle.reference.specs.declared.ConvertStats.{ConvertStats}
 use Rattle.reference.proofs.Refusals.{at_first, at_next, at_end, pass}

@@ -1,15 +1,8 @@
 -- Which numbers of a sheet fit their columns.
-use mathlib.Core.Path.{◌≡◌, refl, sym, ◌∙◌}
-use mathlib.Core.Bool.{Bool, true, false, ◌||◌, or-false}
-use native.Mathlib.Numerals.{add-one}
-use mathlib.Core.Logic.{⊎_elim}
-use Prim.Native.Nat.{ℕ, zero, suc, ◌+◌, ◌*◌, ◌^◌, ◌≤◌, ◌<◌}
-use native.Mathlib.Nat.{zero-add}
+use Rattle.std.proofs.Common.{◌≡◌, refl, sym, ◌∙◌, Bool, true, false, ◌||◌, add-one, ⊎_elim, ℕ, zero, suc, ◌+◌, ◌*◌, ◌^◌, ◌≤◌, ◌<◌, zero-add, arith, ltb-false}
+use Rattle.std.proofs.Common.{ltb, length}
+use mathlib.Core.Bool.{or-false}
 use Rattle.numbers.specs.Lists.{total}
-use native.Mathlib.Omega.{arith}
-use borrow.Author.Tests.{ltb-false}
-use lib.Dec.{ltb}
-use lib.ListN.{length}
 use Rattle.numbers.proofs.Lists.{below_or}
 use Rattle.reference.specs.Statistics.{channel_of, clip_sum}
 use Rattle.reference.specs.declared.ConvertStats.{ConvertStats}

@@ -4,7 +4,6 @@
 ghost use Rattle.std.specs.Prelude.{◌≡◌, false, ◌+◌, ◌*◌, ◌<◌, ◌≤◌, length};
 ghost use Rattle.numbers.specs.Lists.{tabulate};
 ghost use Rattle.reference.specs.Refusals.{decide, decision};
-ghost use Rattle.reference.specs.Statistics.{clip_sum, channel_of};
 ghost use Rattle.text.specs.Text.{joined, decimal};
 ghost use Rattle.text.specs.inner.Writing.{Prints};
 ghost use Rattle.columns.specs.Columns.{line, too_wide};

@@ -1,14 +1,7 @@
 -- Numbers that fit the columns by their sizes.
-use mathlib.Core.Path.{◌≡◌, refl, ◌∙◌}
-use mathlib.Core.Bool.{false}
-use Prim.Native.Nat.{ℕ, zero, suc, ◌*◌, ◌^◌, ◌≤◌, ◌<◌}
-use native.Mathlib.Nat.{zero-add}
-use native.Mathlib.Omega.{arith}
-use borrow.Author.Tests.{le-ltb}
-use lib.IntN.{ℤ, pos, negsuc, nat_abs}
-use lib.ListN.{length}
+use Rattle.std.proofs.Common.{◌≡◌, refl, ◌∙◌, false, ℕ, zero, suc, ◌*◌, ◌^◌, ◌≤◌, ◌<◌, zero-add, arith, le-ltb, ℤ, pos, negsuc, nat_abs, length, Option, Some}
+use Rattle.std.proofs.Common.{None}
 use Rattle.numbers.specs.Lists.{total}
-use Rattle.std.specs.Prelude.{Option, Some, None}
 use Rattle.reference.specs.Statistics.{channel_of, clip_sum}
 use Rattle.reference.specs.declared.ConvertStats.{ConvertStats}
 use Rattle.reference.specs.declared.Extremes.{Extremes}

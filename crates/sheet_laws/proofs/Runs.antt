@@ -1,14 +1,8 @@
 -- The statistics of a run are small, and those of its pieces join.
-use mathlib.Core.Path.{◌≡◌, refl, ap, ◌∙◌}
-use mathlib.Core.Bool.{Bool, true, false, cond, not, ◌&&◌, and-eq-true_iff, true≢false}
-use mathlib.Core.List.{List}
-use Prim.Native.Nat.{ℕ, zero, suc, ◌+◌, ◌*◌, ◌^◌, ◌≤◌, ◌<◌}
-use native.Mathlib.Nat.{mul-le-mul}
-use native.Mathlib.Omega.{arith}
-use borrow.Author.Tests.{not-false, leb-true}
-use lib.Dec.{eqb, ltb, leb}
-use lib.IntN.{ℤ, nat_abs}
-use Rattle.std.specs.Prelude.{None}
+use Rattle.std.proofs.Common.{◌≡◌, refl, ap, ◌∙◌, Bool, true, false, cond, not, ◌&&◌, true≢false, List, ℕ, zero, suc, ◌+◌, ◌*◌, ◌^◌, ◌≤◌, ◌<◌, mul-le-mul}
+use Rattle.std.proofs.Common.{arith, leb-true, eqb, ltb, leb, ℤ, nat_abs, None}
+use mathlib.Core.Bool.{and-eq-true_iff}
+use borrow.Author.Tests.{not-false}
 use Rattle.numbers.specs.Extremes.{extreme}
 use Rattle.numbers.specs.Lists.{count}
 use Rattle.numbers.proofs.Extremes.{Best, least_best, greatest_best, picked_in}
@@ -37,8 +31,8 @@ use Rattle.sheet_laws.proofs.Fitting.{SmallExtremes, Small, sheet_fits}
 module _ (conv : Converter) (r : Run) (held : ConverterHeld conv) (ok : AcceptedConverter conv) (fits : AcceptedRun conv r) where
   y_small : (β : ℕ → ℕ) (n : ℕ) → nat_abs (y conv.rate conv.cutoff (taps_of conv.filter) β n) < 2 ^ 30
   y_small β n =
-      rw (← y_of_is conv.rate conv.cutoff (taps_of conv.filter) β n)
-      (y_of_size conv.rate conv.cutoff _ (last_filter conv.rate conv.cutoff (taps_of conv.filter) (low_pass conv.filter (filtered conv ok.opens) held.1) (supported conv ok.opens)) β n)
+      rw (← y_of_is conv.rate conv.cutoff (taps_of conv.filter) (supported conv ok.opens) β n)
+      (y_of_size _ _ (last_filter conv.rate conv.cutoff (taps_of conv.filter) (low_pass conv.filter (filtered conv ok.opens) held.1) (supported conv ok.opens)) β n)
 
   -- ---- sizes
   scaled_within : (y : ℤ) → nat_abs y < 2 ^ 30 → nat_abs (scaled conv.gain.linear y) < 10 ^ 11

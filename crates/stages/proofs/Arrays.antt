@@ -1,14 +1,8 @@
 -- Arrays of stage values: parts, two in turn, and from u in two parts to v by the half band.
-use mathlib.Core.Path.{◌≡◌, ◌∙◌, ap}
-use mathlib.Core.List.{List}
-use Prim.Native.Nat.{ℕ, ◌+◌, ◌-◌, ◌*◌, ◌/◌, ◌%◌, ◌^◌, ◌≤◌, ◌<◌}
-use native.Mathlib.Omega.{arith}
-use lib.Dec.{lit<, lit≤}
-use lib.IntN.{ℤ, pos, nat_abs}
-use lib.ListN.{length, get_or}
+use Rattle.std.proofs.Common.{◌≡◌, ◌∙◌, ap, List, ℕ, ◌+◌, ◌-◌, ◌*◌, ◌/◌, ◌%◌, ◌^◌, ◌≤◌, ◌<◌, arith, lit<, lit≤, ℤ, pos, nat_abs, length, get_or}
 use Rattle.numbers.specs.Sums.{at0}
 use Rattle.numbers.specs.inner.Lists.{Held}
-use Rattle.numbers.specs.inner.Parts.{evens, odds, woven}
+use Rattle.numbers.specs.inner.Parts.{evens, odds, interleaved}
 use Rattle.reference.specs.Rounding.{R}
 use Rattle.reference.specs.Taps.{S1, S1_WIDE, HB}
 use Rattle.reference.specs.Stages.{M, fir, u, v}
@@ -31,16 +25,16 @@ pub any_bytes : (bytes : List ℕ) (base n : ℕ) → Held 0 (λ k. get_or bytes
 any_bytes bytes base n = record { is = λ k m. ap (λ (j : ℕ). get_or bytes j 0) (omega arith) }
 
 -- two arrays in turn, at an even and at an odd place
-pub woven_even : (even odd : List ℤ) (k : ℕ) → at0 even k ≡ woven even odd (0 + 2 * k)
-unfolding woven
-woven_even even odd k =
+pub interleaved_even : (even odd : List ℤ) (k : ℕ) → at0 even k ≡ interleaved even odd (0 + 2 * k)
+unfolding interleaved
+interleaved_even even odd k =
     let m : (0 + 2 * k) % 2 ≡ 0 = omega arith in
     let d : (0 + 2 * k) / 2 ≡ k = omega arith in
     rw (m, d)
 
-pub woven_odd : (even odd : List ℤ) (k : ℕ) → at0 odd k ≡ woven even odd (0 + (2 * k + 1))
-unfolding woven
-woven_odd even odd k =
+pub interleaved_odd : (even odd : List ℤ) (k : ℕ) → at0 odd k ≡ interleaved even odd (0 + (2 * k + 1))
+unfolding interleaved
+interleaved_odd even odd k =
     let m : (0 + (2 * k + 1)) % 2 ≡ 1 = omega arith in
     let d : (0 + (2 * k + 1)) / 2 ≡ k = omega arith in
     rw (m, d)

@@ -1,10 +1,7 @@
 -- u is the sum of the byte tables' entries over its window.
-use mathlib.Core.Path.{◌≡◌, sym, ◌∙◌, ap, ap₂}
-use mathlib.Core.List.{List}
-use Prim.Native.Nat.{ℕ, suc, ◌+◌, ◌-◌, ◌*◌, ◌/◌, ◌%◌, ◌≤◌, ◌<◌}
-use native.Mathlib.Omega.{arith}
-use lib.IntN.{ℤ, pos, ◌+ℤ◌, ◌*ℤ◌, +ℤ_idl, zero-*ℤ}
-use lib.ListN.{length, get_or, get_or-eq_default}
+use Rattle.std.proofs.Common.{◌≡◌, sym, ◌∙◌, ap, ap₂, List, ℕ, suc, ◌+◌, ◌-◌, ◌*◌, ◌/◌, ◌%◌, ◌≤◌, ◌<◌, arith, ℤ, pos, ◌+ℤ◌, ◌*ℤ◌, length, get_or}
+use lib.IntN.{+ℤ_idl, zero-*ℤ}
+use lib.ListN.{get_or-eq_default}
 use Rattle.numbers.specs.Sums.{sum_to, apart}
 use Rattle.numbers.specs.inner.Lists.{Held}
 use Rattle.numbers.proofs.Sums.{sum_same, sum_head, sum_blocks}

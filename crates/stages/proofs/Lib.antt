@@ -1,3 +1,4 @@
 pub mod Arrays
+pub mod Entries
 pub mod First
 pub mod Smalls

@@ -1,13 +1,7 @@
--- Arrays of small numbers: parts, filled and moved; what a filter asks of them; and new values put after a margin.
-use mathlib.Core.Path.{◌≡◌, ◌∙◌, ap}
-use mathlib.Core.Logic.{⊎_elim}
-use mathlib.Core.List.{List, ◌++◌}
-use Prim.Native.Nat.{ℕ, ◌+◌, ◌-◌, ◌^◌, ◌≤◌, ◌<◌}
-use native.Mathlib.Omega.{arith}
-use native.Mathlib.Nat.{mul-le-mul_right}
-use lib.IntN.{ℤ, pos}
-use lib.ListN.{length, get_or, take, drop, replicate, length-take, length-replicate, get_or-append, get_or-replicate}
-use lib.Seq.{get_or-take, get_or-drop, get_or-append-add}
+-- Arrays of small numbers: parts, filled and moved; what a filter asks of them; and new values put after a history.
+use Rattle.std.proofs.Common.{◌≡◌, ◌∙◌, ap, ⊎_elim, List, ◌++◌, ℕ, ◌+◌, ◌-◌, ◌^◌, ◌≤◌, ◌<◌, arith, mul-le-mul_right, ℤ, pos, length, take, drop, replicate}
+use Rattle.std.proofs.Common.{length-take, get_or-take, get_or-drop, get_or-append-add}
+use lib.ListN.{length-replicate, get_or-append, get_or-replicate}
 use borrow.Rule.Slice.PartMut.{put_mid}
 use Rattle.numbers.specs.Sums.{at0}
 use Rattle.numbers.specs.inner.Lists.{Held}
@@ -51,11 +45,6 @@ module _ {B : ℕ} where
   pub small_put : (m k : ℕ) {x new : List ℤ} → Small B x → Small B new → Small B (put_mid m k x new)
   small_put m k s r = small_append (small_front m s) (small_append r (small_drop k (small_drop m s)))
 
-  -- moved to the front
-  pub small_shift : {x x' : List ℤ} (by n : ℕ) → Small B x → ((k : ℕ) → k < n → get_or x' k (pos 0) ≡ get_or x (k + by) (pos 0))
-      → ((k : ℕ) → n ≤ k → get_or x' k (pos 0) ≡ get_or x k (pos 0)) → Small B x'
-  small_shift by n s e f = record { size = λ j. ⊎_elim (λ (m : j < n). rw (e j m) (s.size (j + by))) (λ (m : n ≤ j). rw (f j m) (s.size j)) (below_or j n) }
-
 pub zeros_small : (n : ℕ) {B : ℕ} → Small B (replicate n (pos 0))
 zeros_small n {B} =
     record {
@@ -81,7 +70,7 @@ fir1_small h {x} {old} {new} a s filled =
     record {
       size = λ j.
           ⊎_elim
-          (λ (m : j < length old). rw (filled.is j m) (omega (arith, R_size (fir h (at0 x) (j + M h)) 24, fir_size h (at0 x) (j + M h) (2 ^ 27) s.size, mul-le-mul_right (2 ^ 27) a)))
+          (λ (m : j < length old). rw (filled.done j m) (omega (arith, R_size (fir h (at0 x) (j + M h)) 24, fir_size h (at0 x) (j + M h) (2 ^ 27) s.size, mul-le-mul_right (2 ^ 27) a)))
           (λ (m : length old ≤ j). rw (past new j (omega (arith, filled.same))) (omega arith))
           (below_or j (length old));
     }
@@ -89,7 +78,7 @@ fir1_small h {x} {old} {new} a s filled =
 pub front_small : {h x old new : List ℤ} (e : ℕ) → LowPass h → Small (2 ^ 27) x → Filled (λ i. R (same_rate h (take e x) i) 24) old new → Small (2 ^ 29) new
 front_small {h} e f s filled = fir1_small h (omega (arith, f.small)) (small_front e s) filled
 
--- new values after a margin of m, up to place e
+-- new values after a history of m, up to place e
 pub joined_held : {S : ℕ → ℤ} {a i n : ℕ} (m e : ℕ) (x new : List ℤ) → m ≤ e → e ≤ length x → length new ≡ length (take (e - m) (drop m x))
     → Held (pos 0) S a m x → Held (pos 0) S i n new → i ≡ a + m → e - m ≤ n → Held (pos 0) S a e (put_mid m (e - m) x new)
 joined_held m e x new low room long old more i n = held_some e (omega arith) (put_held m (e - m) x new _ (omega arith) old more i n (omega (arith, long, part_length m e x room)))

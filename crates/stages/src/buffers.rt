@@ -7,23 +7,23 @@ ghost use Rattle.tables.specs.Tables.{ByteTables};
 ghost use Rattle.lanes.specs.inner.Lanes.{Small, Low};
 ghost use Rattle.band.specs.inner.Bands.{odd_sizes};
 
-// x has what the last filter reads, v of Standard and Low, u of Wide; `kept` has the values of w that are woven at
-// 352,800. In front both keep their margin, the values before a block that its filters read. `odd` is scratch, and
-// `lifted` and `second` are lent to the filters for their copies: arrays made for each block would be zeroed each time.
-// The half band's sizes stand here, where the compiler does not see their values: of taps that it sees it makes
+// x has what the last filter reads, v of Standard and Low, u of Wide; `kept` has the values of w that are interleaved
+// at 352,800. In front both keep their history, the values before a block that its filters read. `odd` is scratch,
+// and `biased` and `second` are lent to the filters for their copies: arrays made for each block would be zeroed each
+// time. The half band's sizes stand here, where the compiler does not see their values: of taps that it sees it makes
 // products that take longer.
 #[derive(Drop)]
 pub struct Buffers {
     pub odd: [i64; 247],
     pub x: [i64; 512],
     pub kept: [i64; 184],
-    pub lifted: [u64; 456],
+    pub biased: [u64; 456],
     pub second: [u64; 200],
     pub sizes: [u32; 8],
     ghost lent: { sizes ≡ odd_sizes },
     ghost x_small: { Small (2 ^ 27) x },
     ghost kept_small: { Small (2 ^ 29) kept },
-    ghost lifted_low: { Low lifted },
+    ghost biased_low: { Low biased },
     ghost second_low: { Low second },
 }
 
@@ -35,17 +35,17 @@ fn put_v(
     sizes: &[u32],
     bytes: &[u8],
     odd: &mut [i64],
-    lifted: &mut [u64],
+    biased: &mut [u64],
     x: &mut [i64],
     m: usize,
     n: usize,
 )
     requires lent { sizes.now ≡ odd_sizes }
     requires byte_tables { ByteTables S1 8 tables.now }
-    requires room { (n ≤ 232) × (m + n ≤ length x.old) × (length odd.old ≡ 247) × (length lifted.old ≡ 456) × (length bytes.now ≡ 2 * n + 36) }
-    requires low { Low lifted.old }
+    requires room { (n ≤ 232) × (m + n ≤ length x.old) × (length odd.old ≡ 247) × (length biased.old ≡ 456) × (length bytes.now ≡ 2 * n + 36) }
+    requires low { Low biased.old }
     requires small { Small (2 ^ 27) x.old }
-    ensures still_low { Low lifted.new }
+    ensures still_low { Low biased.new }
     ensures small_2 { Small (2 ^ 27) x.new }
     ensures held { (β : ℕ → ℕ) (i : ℕ) → 10 ≤ i + m → Held 0 β (2 * (i + m) - 19) (2 * n + 36) bytes.now → Held (pos 0) (v β) i m x.old → Held (pos 0) (v β) i (m + n) x.new }
     ensures rest { (k : ℕ) → m + n ≤ k → get_or x.new k (pos 0) ≡ get_or x.old k (pos 0) }
@@ -55,13 +55,14 @@ fn put_v(
         sizes,
         bytes,
         &mut odd[..n + 15],
-        lifted,
+        biased,
         &mut x[m..m + n],
     );
 }
 
 // n values of u of Wide to x, after its first m.
 #[inline(always)]
+#[tactic(auto, using(crate::proofs::Entries::S1_WIDE_small))]
 fn put_u(tables: &[i32], bytes: &[u8], x: &mut [i64], m: usize, n: usize)
     requires byte_tables { ByteTables S1_WIDE 12 tables.now }
     requires room { (n ≤ 400) × (m + n ≤ length x.old) × (length bytes.now ≡ n + 11) }
@@ -70,7 +71,7 @@ fn put_u(tables: &[i32], bytes: &[u8], x: &mut [i64], m: usize, n: usize)
     ensures held { (β : ℕ → ℕ) (i : ℕ) → 6 ≤ i + m → Held 0 β (i + m - 6) (n + 11) bytes.now → Held (pos 0) (u S1_WIDE β) i m x.old → Held (pos 0) (u S1_WIDE β) i (m + n) x.new }
     ensures rest { (k : ℕ) → m + n ≤ k → get_or x.new k (pos 0) ≡ get_or x.old k (pos 0) }
 {
-    first_stage::first_stage(tables, 6, bytes, 0, 1, &mut x[m..m + n]);
+    first_stage::first_stage::<6>(tables, bytes, 0, 1, &mut x[m..m + n]);
 }
 
 impl Buffers {
@@ -82,13 +83,13 @@ impl Buffers {
             odd: [0; 247],
             x: [0; 512],
             kept: [0; 184],
-            lifted: [0; 456],
+            biased: [0; 456],
             second: [0; 200],
             sizes: band::half_sizes(),
         }
     }
 
-    // n values of v, after a margin of m.
+    // n values of v, after a history of m.
     #[inline(always)]
     pub fn bring_v(&mut self, tables: &[i32], bytes: &[u8], m: usize, n: usize)
         requires byte_tables { ByteTables S1 8 tables.now }
@@ -102,14 +103,14 @@ impl Buffers {
             &self.sizes,
             bytes,
             &mut self.odd,
-            &mut self.lifted,
+            &mut self.biased,
             &mut self.x,
             m,
             n,
         );
     }
 
-    // n values of u of Wide, after a margin of m.
+    // n values of u of Wide, after a history of m.
     #[inline(always)]
     pub fn bring_u(&mut self, tables: &[i32], bytes: &[u8], m: usize, n: usize)
         requires byte_tables { ByteTables S1_WIDE 12 tables.now }
@@ -121,7 +122,7 @@ impl Buffers {
         put_u(tables, bytes, &mut self.x, m, n);
     }
 
-    // The n values of x from place `by` on are the next block's margin.
+    // The n values of x from place `by` on are the next block's history.
     #[inline(always)]
     pub fn move_on(&mut self, by: usize, n: usize)
         requires { by + n ≤ 512 }

@@ -1,10 +1,6 @@
 -- Joining is associative, and no samples may stand on either side: so a list is joined from either end.
-use mathlib.Core.Path.{◌≡◌, refl, sym, ap, ◌∙◌}
-use mathlib.Core.List.{List, [], ◌∷◌}
-use Prim.Native.Nat.{ℕ, ◌+◌, ◌<◌}
-use native.Mathlib.Omega.{arith}
+use Rattle.std.proofs.Common.{◌≡◌, refl, sym, ap, ◌∙◌, List, [], ◌∷◌, ℕ, ◌+◌, ◌<◌, arith, Option, Some, None}
 use lib.ListN.{get_or-replicate}
-use Rattle.std.specs.Prelude.{Option, Some, None}
 use Rattle.numbers.specs.Lists.{tabulate}
 use Rattle.numbers.proofs.Extremes.{least_best, greatest_best, assoc}
 use Rattle.numbers.proofs.Lists.{tabulate_same}

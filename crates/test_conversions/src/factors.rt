@@ -2,7 +2,7 @@
 // document 01.
 ghost use Rattle.std.specs.Prelude.{◌<◌, nat_abs};
 
-use crate::input::lifted;
+use crate::input::biased;
 use reference::PcmError;
 use std::io;
 use std::rt::Files;
@@ -53,7 +53,7 @@ fn edge_right(&[db, factor, made]: &[u64; 3]) -> bool {
     called && gain::right_gain(test_support::gain(db, factor)) == (made != 0 && factor == made)
 }
 
-// What `lifted` has made positive, above -2^31.
+// What `biased` has made positive, above -2^31.
 fn lowered(n: u64) -> i64
     ensures { nat_abs result < 2147483648 }
 {
@@ -69,7 +69,7 @@ fn scales(&[y, db, sample, clips]: &[u64; 4]) -> bool {
             let ys = [lowered(y)];
             let mut out = [0i32; 1];
             let t = gain::scale_block(&ys, g.linear, &mut out);
-            lifted(out[0]) == sample && t.clipped == clips
+            biased(out[0]) == sample && t.clipped == clips
         }
         Err(_) => false,
     }
@@ -78,17 +78,17 @@ fn scales(&[y, db, sample, clips]: &[u64; 4]) -> bool {
 // Document 01's figures: y is 2^26 where all bits are 1, and minus that where all are 0. The last is 8,388,607.25
 // before the rounding.
 fn figures() -> [[u64; 4]; 6] {
-    let high = lifted(67108864);
-    let low = lifted(-67108864);
-    let top = lifted(8388607);
-    let bottom = lifted(-8388608);
+    let high = biased(67108864);
+    let low = biased(-67108864);
+    let top = biased(8388607);
+    let bottom = biased(-8388608);
     [
         [high, 0, top, 1],
-        [high, 0xc034_0000_0000_0000, lifted(838861), 0],
-        [high, LOWEST, lifted(8), 0],
+        [high, 0xc034_0000_0000_0000, biased(838861), 0],
+        [high, LOWEST, biased(8), 0],
         [low, 0, bottom, 0],
         [low, HIGHEST, bottom, 1],
-        [lifted(67108858), 0, top, 0],
+        [biased(67108858), 0, top, 0],
     ]
 }
 

@@ -104,12 +104,12 @@ fn with([first, second]: Digest, x: u64) -> Digest {
 }
 
 // A sample, made positive.
-pub fn lifted(s: i32) -> u64 {
+pub fn biased(s: i32) -> u64 {
     (s as i64 + 0x8000_0000) as u64
 }
 
 pub fn of_samples(s: &[i32]) -> Digest {
-    s.iter().fold([1, 1], |d, x| with(d, lifted(*x)))
+    s.iter().fold([1, 1], |d, x| with(d, biased(*x)))
 }
 
 pub fn of_bytes(s: &[u8]) -> Digest {

@@ -1,11 +1,7 @@
 -- Laws of bytes, and of numbers as bytes.
-use mathlib.Core.Path.{◌≡◌, refl, ap}
-use mathlib.Core.List.{List, [], ◌∷◌, ◌++◌}
-use Prim.Native.Nat.{ℕ, zero, suc, ◌+◌, ◌*◌, ◌/◌, ◌%◌, ◌^◌, ◌≤◌, ◌<◌}
-use native.Mathlib.Nat.{pow-suc, mod-lt}
-use native.Mathlib.Omega.{arith}
-use lib.ListN.{length, get_or, take, drop, replicate, length-drop}
-use lib.Seq.{get_or-drop, drop-append-le, take-append-le}
+use Rattle.std.proofs.Common.{◌≡◌, refl, ap, List, [], ◌∷◌, ◌++◌, ℕ, zero, suc, ◌+◌, ◌*◌, ◌/◌, ◌%◌, ◌^◌, ◌≤◌, ◌<◌, pow-suc, mod-lt, arith, length, get_or, take}
+use Rattle.std.proofs.Common.{drop, replicate, length-drop, get_or-drop}
+use lib.Seq.{drop-append-le, take-append-le}
 use Rattle.std.specs.Int.{w16, w32, w64, from_le_bytes, to_le_bytes}
 use Rattle.text.specs.Bytes.{Bytes, number_of, number_at, bytes}
 

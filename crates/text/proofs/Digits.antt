@@ -1,12 +1,6 @@
 -- Laws of `NumberRead`: a number digit by digit.
-use mathlib.Core.Path.{◌≡◌, refl, sym, ap, ◌∙◌}
-use mathlib.Core.List.{List, [], ◌∷◌, ◌++◌, append_assoc, append-nil}
-use Prim.Native.Nat.{ℕ, ◌+◌, ◌*◌, ◌/◌, ◌%◌, ◌≤◌, ◌<◌}
-use native.Mathlib.Omega.{arith}
-use native.Mathlib.Numerals.{add-one}
-use lib.ListN.{length, take, drop, get_or, length-append, take-append-drop}
-use lib.Seq.{take-suc}
-use Rattle.std.specs.Prelude.{Option, Some, None}
+use Rattle.std.proofs.Common.{◌≡◌, refl, sym, ap, ◌∙◌, List, [], ◌∷◌, ◌++◌, append_assoc, append-nil, ℕ, ◌+◌, ◌*◌, ◌/◌, ◌%◌, ◌≤◌, ◌<◌, arith, add-one, length}
+use Rattle.std.proofs.Common.{take, drop, get_or, length-append, take-append-drop, take-suc, Option, Some, None}
 use Rattle.text.specs.Text.{decimal}
 use Rattle.text.specs.inner.Reading.{NumberRead}
 use Rattle.text.proofs.Numerals.{one_digit, last_digit, some_digit, single, split}

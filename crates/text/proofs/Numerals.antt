@@ -1,15 +1,9 @@
 -- Laws of `decimal`: its digits one by one, how many there are, the first and the last, and that there are digits only.
-use mathlib.Core.Path.{◌≡◌, refl, sym, ap, ◌∙◌}
-use mathlib.Core.Bool.{Bool, true, false, cond}
-use mathlib.Core.List.{List, [], ◌∷◌, ◌++◌}
-use mathlib.Core.Logic.{⊎_elim}
-use Prim.Native.Nat.{ℕ, zero, suc, ◌+◌, ◌/◌, ◌%◌, ◌^◌, ◌≤◌, ◌<◌}
+use Rattle.std.proofs.Common.{◌≡◌, refl, sym, ap, ◌∙◌, Bool, true, false, cond, List, [], ◌∷◌, ◌++◌, ⊎_elim, ℕ, zero, suc, ◌+◌, ◌/◌, ◌%◌, ◌^◌, ◌≤◌, ◌<◌, arith}
+use Rattle.std.proofs.Common.{ltb, length, take, get_or, length-append, take_at, lt-ltb, le-ltb}
 use native.Mathlib.Nat.{pow-succ'}
-use native.Mathlib.Omega.{arith}
-use lib.Dec.{ltb}
-use lib.ListN.{length, take, get_or, length-append, get_or-append}
-use lib.Seq.{take_at, get_or_at}
-use borrow.Author.Tests.{lt-ltb, le-ltb}
+use lib.ListN.{get_or-append}
+use lib.Seq.{get_or_at}
 use Rattle.numbers.proofs.Lists.{below_or}
 use Rattle.text.specs.Text.{numeral, decimal}
 

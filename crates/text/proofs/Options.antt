@@ -1,6 +1,5 @@
 -- Nothing and something.
-use mathlib.Core.Path.{◌≡◌}
-use Rattle.std.specs.Prelude.{Option, Some, None}
+use Rattle.std.proofs.Common.{◌≡◌, Option, Some, None}
 use Rattle.std.proofs.lemmas.Option.{none-some}
 
 -- nothing is something

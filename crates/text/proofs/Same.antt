@@ -1,10 +1,5 @@
 -- Equal lists as a test.
-use mathlib.Core.Path.{◌≡◌, refl, sym, ap₂, ◌∙◌}
-use mathlib.Core.List.{List, [], ◌∷◌}
-use mathlib.Core.Bool.{Bool, true, false, ◌&&◌, true≢false}
-use Prim.Native.Nat.{ℕ}
-use borrow.Author.Tests.{eqb-true, eq-eqb}
-use lib.Dec.{eqb}
+use Rattle.std.proofs.Common.{◌≡◌, refl, sym, ap₂, ◌∙◌, List, [], ◌∷◌, Bool, true, false, ◌&&◌, true≢false, ℕ, eqb-true, eq-eqb, eqb}
 use Rattle.text.specs.Lists.{same}
 
 pub and_left : (a b : Bool) → a && b ≡ true → a ≡ true

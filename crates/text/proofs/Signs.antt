@@ -1,16 +1,7 @@
 -- A number's sign and size: its text by them.
-use mathlib.Core.Path.{◌≡◌, refl}
-use mathlib.Core.Bool.{true, false, true≢false}
-use mathlib.Core.List.{◌∷◌}
-use Prim.Native.Nat.{suc, ◌<◌, ◌≤◌}
-use native.Mathlib.Omega.{arith}
-use lib.IntN.{ℤ, pos, negsuc, nat_abs}
-use lib.ListN.{length}
+use Rattle.std.proofs.Common.{◌≡◌, refl, true, false, true≢false, ◌∷◌, suc, ◌<◌, ◌≤◌, arith, ℤ, pos, negsuc, nat_abs, length, w64, SFits, to_z, of_z, to_z-of_z}
+use Rattle.std.proofs.Common.{ltb-true}
 use lib.Signed.{mag, lt_z}
-use mir.Syntax.{w64}
-use mir.Val.{SFits, to_z, of_z}
-use mir.Facts.{to_z-of_z}
-use borrow.Author.Tests.{ltb-true}
 use Rattle.text.specs.Text.{decimal, signed_decimal}
 use Rattle.text.proofs.Numerals.{places}
 

@@ -1,7 +1,5 @@
 -- Texts printed one after another.
-use mathlib.Core.Path.{◌≡◌, ◌∙◌}
-use mathlib.Core.List.{List, ◌++◌}
-use Prim.Native.Nat.{ℕ}
+use Rattle.std.proofs.Common.{◌≡◌, ◌∙◌, List, ◌++◌, ℕ}
 use Rattle.text.specs.Text.{Printed}
 use Rattle.text.specs.inner.Writing.{Prints}
 use Rattle.text.specs.declared.putting.Text.{Text}

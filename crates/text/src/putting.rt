@@ -1,6 +1,6 @@
 // Text put into a lent slice. Printing here cannot fail, so it is not by `write!`: that one answers a Result, and what
 // it promises is said for its Ok alone.
-ghost use Rattle.std.specs.Prelude.{◌≡◌, [], ◌∷◌, ◌++◌, ◌+◌, ◌≤◌, ◌<◌, length};
+ghost use Rattle.std.specs.Prelude.{◌++◌, ◌+◌, ◌≤◌, ◌<◌, length};
 ghost use Rattle.text.specs.Text as texts;
 ghost use Rattle.text.specs.inner.Writing.{Prints};
 

@@ -1,21 +1,14 @@
 -- The album's bytes: by position, and in its frames.
-use mathlib.Core.Path.{◌≡◌, refl, sym, ap, subst, ◌∙◌}
-use mathlib.Core.Bool.{cond}
-use mathlib.Core.Logic.{⊎_elim}
-use mathlib.Core.List.{List, [], ◌∷◌, ◌++◌, flat_map}
-use Prim.Native.Nat.{ℕ, ◌+◌, ◌-◌, ◌*◌, ◌≤◌, ◌<◌}
-use native.Mathlib.Nat.{zero-add, add-mul, mul_assoc, mul-le-mul_right}
-use native.Mathlib.Omega.{arith}
-use lib.Dec.{ltb}
-use lib.ListN.{length, get_or, length-append, get_or-append}
-use lib.Seq.{get_or-append-add}
-use borrow.Author.Tests.{lt-ltb, le-ltb}
+use Rattle.std.proofs.Common.{◌≡◌, refl, sym, ap, subst, ◌∙◌, cond, ⊎_elim, List, [], ◌∷◌, ◌++◌, ℕ, ◌+◌, ◌-◌, ◌*◌, ◌≤◌, ◌<◌, zero-add, add-mul}
+use Rattle.std.proofs.Common.{mul-le-mul_right, arith, ltb, length, get_or, length-append, get_or-append-add, lt-ltb, le-ltb}
+use mathlib.Core.List.{flat_map}
+use lib.ListN.{get_or-append}
 use Rattle.numbers.specs.Lists.{Each}
 use Rattle.numbers.proofs.Lists.{length_tabulate, get_d_tabulate, below_or}
 use Rattle.reference.specs.Frames.{idle}
-use Rattle.dsf.specs.Dsf.{channels, bits_per_sample, samples, turn_byte}
+use Rattle.dsf.specs.Dsf.{channels, bits_per_sample, sample_count, turn_byte}
 use Rattle.dsf_columns.proofs.Blocks.{quotient, remainder}
-use Rattle.tracks.specs.Tracks.{Track, heads, head_length, all_length, track_bytes, tracks_bytes, tracks_frame}
+use Rattle.tracks.specs.Tracks.{Track, heads, head_length, all_length, track_bytes, tracks_bytes}
 use Rattle.tracks.specs.inner.Tracks.{track_byte, tracks_byte}
 
 -- tracks of n channels
@@ -37,7 +30,7 @@ track_at : (t : Track) (c p : ℕ) → c < channels t.head.bytes → p < head_le
 unfolding track_bytes turn_byte
 track_at t c p h l =
     let n = channels t.head.bytes in
-    get_d_tabulate (turn_byte t.read n (bits_per_sample t.head.bytes) (samples t.head.bytes)) 0 (head_length t.head * n) (p * n + c) idle (omega (arith, mul-le-mul_right n l))
+    get_d_tabulate (turn_byte t.read n (bits_per_sample t.head.bytes) (sample_count t.head.bytes)) 0 (head_length t.head * n) (p * n + c) idle (omega (arith, mul-le-mul_right n l))
     ∙ rw (zero-add (p * n + c), quotient p n c h, remainder p n c h) refl
 
 -- of the tracks end to end
@@ -61,10 +54,3 @@ bytes_by_position n (t ∷ ts) e c p h = ⊎_elim inside (behind (bytes_by_posit
         let whole : head_length t.head + q ≡ p = omega arith in
         let at : p * n + c ≡ length (track_bytes t) + (q * n + c) = omega (arith, same, sym (add-mul (head_length t.head) q n) ∙ ap (λ (x : ℕ). x * n) whole) in
         rw (at, get_or-append-add (track_bytes t) (tracks_bytes ts) (q * n + c) idle, le-ltb p (head_length t.head) l) later
-
--- byte p of channel c of a frame stands at p × n + c, and is that channel's byte 4,704 k + p
-pub frame_by_position : (n : ℕ) (ts : List Track) → Alike n ts → (k c p : ℕ) → c < n → p < 4704 → get_or (tracks_frame n ts k) (p * n + c) 0 ≡ tracks_byte ts c (k * 4704 + p)
-unfolding tracks_frame
-frame_by_position n ts e k c p h l =
-    let at : k * (4704 * n) + (p * n + c) ≡ (k * 4704 + p) * n + c = omega (arith, mul_assoc k 4704 n, add-mul (k * 4704) p n) in
-    get_d_tabulate (λ j. get_or (tracks_bytes ts) j idle) (k * (4704 * n)) (4704 * n) (p * n + c) 0 (omega (arith, mul-le-mul_right n l)) ∙ rw at (bytes_by_position n ts e c (k * 4704 + p) h)

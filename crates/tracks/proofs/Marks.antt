@@ -1,11 +1,6 @@
 -- Where the tracks begin, in bytes of a channel, in samples and in the album's data.
-use mathlib.Core.Path.{◌≡◌, refl}
-use mathlib.Core.List.{List, [], ◌∷◌}
-use Prim.Native.Nat.{ℕ, zero, suc, ◌+◌, ◌-◌, ◌*◌, ◌/◌, ◌≤◌, ◌<◌}
-use native.Mathlib.Nat.{mul-le-mul_right, add-zero, le_trans}
-use native.Mathlib.Numerals.{add-one}
-use native.Mathlib.Omega.{arith}
-use lib.ListN.{length}
+use Rattle.std.proofs.Common.{◌≡◌, refl, List, [], ◌∷◌, ℕ, zero, suc, ◌+◌, ◌-◌, ◌*◌, ◌/◌, ◌≤◌, ◌<◌, mul-le-mul_right, add-zero, le_trans, add-one, arith}
+use Rattle.std.proofs.Common.{length}
 use lib.Seq.{take-length}
 use Rattle.reference.specs.Output.{samples_per_frame}
 use Rattle.reference.specs.declared.PcmRate.{PcmRate}

@@ -1,16 +1,11 @@
 -- An album of one track.
-use mathlib.Core.Path.{◌≡◌, refl, ap, ◌∙◌}
-use mathlib.Core.Logic.{⊎_elim}
-use mathlib.Core.List.{List, [], ◌∷◌, append-nil}
-use Prim.Native.Nat.{ℕ, ◌+◌, ◌*◌, ◌/◌, ◌≤◌, ◌<◌}
-use native.Mathlib.Nat.{zero-add, add-zero, le-div_iff_mul-le}
-use native.Mathlib.Omega.{arith}
-use lib.ListN.{get_or, get_or-eq_default}
-use borrow.Author.Tests.{le-ltb}
+use Rattle.std.proofs.Common.{◌≡◌, refl, ap, ◌∙◌, ⊎_elim, List, [], ◌∷◌, append-nil, ℕ, ◌+◌, ◌*◌, ◌/◌, ◌≤◌, ◌<◌, zero-add, add-zero, le-div_iff_mul-le, arith}
+use Rattle.std.proofs.Common.{get_or, le-ltb}
+use lib.ListN.{get_or-eq_default}
 use Rattle.numbers.proofs.Lists.{tabulate_same, get_d_tabulate, below_or}
 use Rattle.reference.specs.Frames.{frame_length, idle}
 use Rattle.reference.specs.Refusals.{decide}
-use Rattle.dsf.specs.Dsf.{channels, bits_per_sample, samples, frames, frames_in, sample_byte, turn_byte, data_frame, file_data, file_frame}
+use Rattle.dsf.specs.Dsf.{channels, bits_per_sample, sample_count, frames, frames_in, sample_byte, turn_byte, data_frame, file_data, file_frame}
 use Rattle.tracks.specs.Tracks.{track_of, head_length, all_length, frames_of_bytes, tracks_frames, track_bytes, tracks_bytes}
 use Rattle.tracks.specs.Tracks.{tracks_frame, tracks_run, first_places, rest_places, tracks_places, open_places}
 use Rattle.tracks.specs.OneTrack.{file_run, OneTrack, OneTrackFrames, OneOpened}
@@ -19,27 +14,27 @@ use Rattle.tracks.proofs.Bytes.{length_track}
 
 pub one_track_frames : OneTrackFrames
 unfolding tracks_frames frames_of_bytes all_length head_length frames frames_in
-one_track_frames file = rw (add-zero (samples file / 8)) refl
+one_track_frames file = rw (add-zero (sample_count file / 8)) refl
 
 module _ (file : List ℕ) (some : 0 < channels file) where
   abbrev n : ℕ
   n = channels file
 
   abbrev byte : ℕ → ℕ
-  byte = turn_byte (file_data file) n (bits_per_sample file) (samples file)
+  byte = turn_byte (file_data file) n (bits_per_sample file) (sample_count file)
 
   -- its bytes are the file's, and behind them idle
   one_byte : (j : ℕ) → get_or (track_bytes (track_of file)) j idle ≡ byte j
   unfolding track_bytes turn_byte sample_byte head_length
-  one_byte j = ⊎_elim inside behind (below_or j (samples file / 8 * n))
+  one_byte j = ⊎_elim inside behind (below_or j (sample_count file / 8 * n))
     where
-      inside : j < samples file / 8 * n → get_or (track_bytes (track_of file)) j idle ≡ byte j
-      inside l = get_d_tabulate byte 0 (samples file / 8 * n) j idle l ∙ ap byte (zero-add j)
+      inside : j < sample_count file / 8 * n → get_or (track_bytes (track_of file)) j idle ≡ byte j
+      inside l = get_d_tabulate byte 0 (sample_count file / 8 * n) j idle l ∙ ap byte (zero-add j)
 
-      behind : samples file / 8 * n ≤ j → get_or (track_bytes (track_of file)) j idle ≡ byte j
+      behind : sample_count file / 8 * n ≤ j → get_or (track_bytes (track_of file)) j idle ≡ byte j
       behind l =
-          let past : samples file / 8 ≤ j / n = (le-div_iff_mul-le {k = n} {x = samples file / 8} {y = j} some).1 l in
-          get_or-eq_default (track_bytes (track_of file)) idle {n = j} (omega (arith, length_track (track_of file))) ∙ rw (le-ltb (j / n) (samples file / 8) past) refl
+          let past : sample_count file / 8 ≤ j / n = (le-div_iff_mul-le {k = n} {x = sample_count file / 8} {y = j} some).1 l in
+          get_or-eq_default (track_bytes (track_of file)) idle {n = j} (omega (arith, length_track (track_of file))) ∙ rw (le-ltb (j / n) (sample_count file / 8) past) refl
 
   one_frame : (k : ℕ) → tracks_frame n (track_of file ∷ []) k ≡ file_frame file k
   unfolding tracks_frame tracks_bytes data_frame

@@ -1,14 +1,8 @@
 -- An album that is opened: what its tracks are.
-use mathlib.Core.Path.{◌≡◌, refl, sym, ap, subst, ◌∙◌}
-use mathlib.Core.Bool.{true≢false}
-use mathlib.Core.List.{List, [], ◌∷◌, ◌++◌, flat_map}
-use Prim.Native.Nat.{ℕ, ◌+◌, ◌-◌, ◌≤◌, ◌<◌, min}
-use native.Mathlib.Nat.{add_assoc, add-zero}
-use native.Mathlib.Omega.{arith}
-use borrow.Author.Tests.{eqb-true, not-false, ltb-false}
-use lib.Dec.{T, eqb}
-use lib.ListN.{length, drop, length-drop}
-use lib.Seq.{drop-drop}
+use Rattle.std.proofs.Common.{◌≡◌, refl, sym, ap, subst, ◌∙◌, true≢false, List, [], ◌∷◌, ◌++◌, ℕ, ◌+◌, ◌-◌, ◌≤◌, ◌<◌, min, add_assoc, add-zero, arith, eqb-true}
+use Rattle.std.proofs.Common.{ltb-false, T, eqb, length, drop, length-drop, drop-drop}
+use mathlib.Core.List.{flat_map}
+use borrow.Author.Tests.{not-false}
 use Rattle.numbers.specs.Lists.{Each}
 use Rattle.reference.specs.Refusals.{decide, accepted, opening_places, held_places}
 use Rattle.reference.specs.Settings.{converter_of}

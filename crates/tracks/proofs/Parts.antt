@@ -1,13 +1,8 @@
 -- Parts of a list.
-use mathlib.Core.Path.{◌≡◌, refl, sym, ap, ap₂, ◌∙◌}
-use mathlib.Core.Logic.{⊎_elim}
-use mathlib.Core.List.{List, [], ◌∷◌, ◌++◌}
-use Prim.Native.Nat.{ℕ, zero, suc, ◌+◌, ◌-◌, ◌≤◌, ◌<◌, min}
-use native.Mathlib.Nat.{zero-add, sub-zero, zero-sub}
-use native.Mathlib.Numerals.{add-one}
-use native.Mathlib.Omega.{arith}
-use lib.ListN.{length, take, drop, length-take, length-drop, drop_of_length-le, take-append-drop}
-use lib.Seq.{take-add, take-nil, drop-nil, drop-drop, take-take, take_all}
+use Rattle.std.proofs.Common.{◌≡◌, refl, sym, ap, ap₂, ◌∙◌, ⊎_elim, List, [], ◌∷◌, ◌++◌, ℕ, zero, suc, ◌+◌, ◌-◌, ◌≤◌, ◌<◌, min, zero-add, add-one, arith}
+use Rattle.std.proofs.Common.{length, take, drop, length-take, length-drop, drop_of_length-le, take-append-drop, take-add, drop-drop, take-take, take_all}
+use native.Mathlib.Nat.{sub-zero, zero-sub}
+use lib.Seq.{take-nil, drop-nil}
 use Rattle.numbers.specs.Lists.{tabulate}
 use Rattle.numbers.proofs.Lists.{below_or}
 use Rattle.text.specs.Text.{joined}

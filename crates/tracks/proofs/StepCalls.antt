@@ -1,13 +1,7 @@
 -- A step is a call of `convert` that is accepted.
-use mathlib.Core.Path.{◌≡◌, refl, sym, ◌∙◌}
-use mathlib.Core.Bool.{Bool, true, false}
-use mathlib.Core.List.{List, [], ◌++◌}
-use Prim.Native.Nat.{ℕ, ◌+◌, ◌-◌, ◌*◌, ◌%◌, ◌≤◌, ◌<◌}
-use native.Mathlib.Nat.{mul-div_cancel, mul-mod_left}
-use native.Mathlib.Omega.{arith}
-use lib.Dec.{ltb}
-use lib.ListN.{length}
-use borrow.Author.Tests.{eq-eqb, le-ltb}
+use Rattle.std.proofs.Common.{◌≡◌, refl, sym, ◌∙◌, Bool, true, false, List, [], ◌++◌, ℕ, ◌+◌, ◌-◌, ◌*◌, ◌%◌, ◌≤◌, ◌<◌, mul-div_cancel, arith, ltb, length}
+use Rattle.std.proofs.Common.{eq-eqb, le-ltb}
+use native.Mathlib.Nat.{mul-mod_left}
 use Rattle.reference.specs.Frames.{Run, frame_length, frame_count}
 use Rattle.reference.specs.Output.{channel_samples, all_samples}
 use Rattle.reference.specs.Refusals.{Place, rack, decide, accepted, held_places, one_long, if_present, run_length, input_places, lent_length, byte_lengths, convert_places}

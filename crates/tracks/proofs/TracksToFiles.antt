@@ -1,13 +1,9 @@
 -- From tracks to files.
-use mathlib.Core.Path.{◌≡◌, refl, sym, ap, ap₂, subst, ◌∙◌}
-use mathlib.Core.Bool.{Bool, true, false}
-use mathlib.Core.List.{List, [], ◌∷◌, ◌++◌, map, flat_map}
-use Prim.Native.Nat.{ℕ, suc, ◌+◌, ◌-◌, ◌*◌, ◌≤◌, ◌<◌}
-use native.Mathlib.Nat.{zero-add, sub-zero, zero-mul, le_trans}
-use native.Mathlib.Omega.{arith}
-use lib.ListN.{length, take, drop, drop_of_length-le, length-take, length-drop, take-append-drop}
-use lib.Seq.{drop-drop, take-length}
-use borrow.Author.Tests.{le-ltb}
+use Rattle.std.proofs.Common.{◌≡◌, refl, sym, ap, ap₂, subst, ◌∙◌, true, false, List, [], ◌∷◌, ◌++◌, map, ℕ, suc, ◌+◌, ◌-◌, ◌*◌, ◌≤◌, ◌<◌, zero-add, zero-mul}
+use Rattle.std.proofs.Common.{le_trans, arith, length, take, drop, drop_of_length-le, length-take, length-drop, take-append-drop, drop-drop, le-ltb, Ok}
+use mathlib.Core.List.{flat_map}
+use native.Mathlib.Nat.{sub-zero}
+use lib.Seq.{take-length}
 use Rattle.numbers.specs.Lists.{tabulate, Each}
 use Rattle.numbers.proofs.Lists.{length_tabulate}
 use Rattle.text.specs.Text.{joined}
@@ -17,7 +13,6 @@ use Rattle.reference.specs.Output.{samples, stats, s24le}
 use Rattle.reference.specs.Promises.{if_lent, stats_told}
 use Rattle.reference.specs.Refusals.{rack, accepted, decide, is_accepted, held_places, input_places, convert_places}
 use Rattle.reference.specs.Statistics.{all_joined}
-use Rattle.std.specs.Prelude.{Ok}
 use Rattle.reference.specs.declared.Settings.{Settings}
 use Rattle.reference.specs.declared.Converter.{Converter}
 use Rattle.reference.specs.declared.ConvertStats.{ConvertStats}
@@ -43,11 +38,6 @@ tracks_frame_length n ts k = length_tabulate _ _ _
 
 same_bytes : {n start m : ℕ} {x y : List ℕ} → x ≡ y → SameBytes n start m x y
 same_bytes {n} {start} e = record { same = λ c k h l. ap (λ (x : List ℕ). channel_byte n x c (start + k)) e }
-
-keep_all : {A B : Type 0} (p : B → Bool) (g : A → B) → ((x : A) → p (g x) ≡ true) → (xs : List A) → keep p (map g xs) ≡ map g xs
-unfolding keep
-keep_all p g h [] = refl
-keep_all p g h (x ∷ xs) = rw (h x) (ap (λ (l : List _). g x ∷ l) (keep_all p g h xs))
 
 pub length_heads : (ts : List Track) → length (heads ts) ≡ length ts
 length_heads [] = refl

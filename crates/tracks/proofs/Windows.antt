@@ -1,18 +1,10 @@
 -- A piece out of windows of files is the piece out of the files.
-use mathlib.Core.Path.{◌≡◌, refl, sym, ap, subst, ◌∙◌}
-use mathlib.Core.Bool.{cond}
-use mathlib.Core.Logic.{⊎_elim}
-use mathlib.Core.List.{List, [], ◌∷◌, map}
-use Prim.Native.Nat.{ℕ, ◌+◌, ◌-◌, ◌*◌, ◌/◌, ◌%◌, ◌≤◌, ◌<◌}
-use native.Mathlib.Nat.{mul_assoc, mul-le-mul_right, mod-lt, le-div_iff_mul-le, div-lt_iff_lt-mul, div-add-mod'}
-use native.Mathlib.Omega.{arith}
-use lib.Dec.{ltb}
-use lib.ListN.{get_or}
-use borrow.Author.Tests.{lt-ltb, le-ltb}
+use Rattle.std.proofs.Common.{◌≡◌, refl, sym, ap, subst, ◌∙◌, cond, ⊎_elim, List, [], ◌∷◌, map, ℕ, ◌+◌, ◌-◌, ◌*◌, ◌/◌, ◌%◌, ◌≤◌, ◌<◌, mul_assoc}
+use Rattle.std.proofs.Common.{mul-le-mul_right, mod-lt, le-div_iff_mul-le, div-lt_iff_lt-mul, div-add-mod', arith, ltb, get_or, lt-ltb, le-ltb}
 use Rattle.numbers.specs.Lists.{Each}
 use Rattle.numbers.proofs.Lists.{tabulate_same, below_or}
 use Rattle.reference.specs.Frames.{frame_length, idle}
-use Rattle.dsf.specs.Dsf.{blocks, data_place, channels, bits_per_sample, samples, sample_byte, file_data}
+use Rattle.dsf.specs.Dsf.{blocks, data_place, channels, bits_per_sample, sample_count, sample_byte, file_data}
 use Rattle.dsf.specs.Reading.{HeadOf, file_header}
 use Rattle.dsf.specs.declared.DsfHeader.{DsfHeader}
 use Rattle.dsf.proofs.Head.{header_right}
@@ -36,7 +28,7 @@ module _ (f : List ℕ) (h : Head) (g : HeadOf f h.bytes h.long) where
   unfolding file_header
   same_bits = ap (λ (d : DsfHeader). d.bits_per_sample) same_header
 
-  pub same_samples : samples h.bytes ≡ samples f
+  pub same_samples : sample_count h.bytes ≡ sample_count f
   unfolding file_header
   same_samples = ap (λ (d : DsfHeader). d.samples) same_header
 
@@ -96,7 +88,7 @@ module _ (n a b c : ℕ) (w : List ℕ) (l : c < n) where
         let whole : read_start n h o a b + j ≡ data_place n c q = omega (arith, begins) in
         d.holds j (omega (arith, begins, ends)) ∙ ap (file_data f) whole
 
-    byte_same : sample_byte (windowed_data (read_start n h o a b) p w) (channels h.bytes) (bits_per_sample h.bytes) (samples h.bytes) c q ≡ track_byte (track_of f) c q
+    byte_same : sample_byte (windowed_data (read_start n h o a b) p w) (channels h.bytes) (bits_per_sample h.bytes) (sample_count h.bytes) c q ≡ track_byte (track_of f) c q
     unfolding sample_byte
     byte_same = rw (← same_channels f h g, ← same_bits f h g, ← same_samples f h g, e, data_same) refl
 
@@ -113,7 +105,7 @@ module _ (n a b c : ℕ) (w : List ℕ) (l : c < n) where
       tail = windowed n a b (o + head_length h) (p + read_bytes n h o a b) w hs
 
       mine : ℕ
-      mine = sample_byte (windowed_data (read_start n h o a b) p w) (channels h.bytes) (bits_per_sample h.bytes) (samples h.bytes) c q
+      mine = sample_byte (windowed_data (read_start n h o a b) p w) (channels h.bytes) (bits_per_sample h.bytes) (sample_count h.bytes) c q
 
       inside : q < head_length h
           → cond (ltb q (head_length h)) mine (tracks_byte tail c (q - head_length h))

@@ -11,7 +11,7 @@ use Rattle.reference.specs.declared.Converter.{Converter}
 use Rattle.reference.specs.declared.PcmRate.{PcmRate}
 use Rattle.reference.specs.declared.PcmRate.TheVariants.{Hz88200, Hz176400, Hz352800}
 use Rattle.text.specs.Lists.{part}
-use Rattle.dsf.specs.Dsf.{channel_type, channels, bits_per_sample, samples, turn_byte, file_data}
+use Rattle.dsf.specs.Dsf.{channel_type, channels, bits_per_sample, sample_count, turn_byte, file_data}
 use Rattle.dsf.specs.Reading.{header_places}
 use Rattle.wav_header.specs.Header.{sample_bytes}
 use Rattle.tracks.specs.Runs.{frames_from, run_from}
@@ -49,7 +49,7 @@ heads_of bytes lengths = tabulate (head_at bytes lengths) 0 (length lengths)
 
 -- bytes of each channel of a track: its samples are whole bytes
 unfoldable pub head_length : Head → ℕ
-head_length h = samples h.bytes / 8
+head_length h = sample_count h.bytes / 8
 
 -- of all tracks
 unfoldable pub all_length : List Head → ℕ
@@ -82,7 +82,7 @@ tracks_type (h ∷ hs) = channel_type h.bytes
 unfoldable pub track_bytes : Track → List ℕ
 track_bytes t =
     let b = t.head.bytes in
-    tabulate (turn_byte t.read (channels b) (bits_per_sample b) (samples b)) 0 (head_length t.head * channels b)
+    tabulate (turn_byte t.read (channels b) (bits_per_sample b) (sample_count b)) 0 (head_length t.head * channels b)
 
 -- the tracks end to end: one may end inside a frame, or be shorter than one
 unfoldable pub tracks_bytes : List Track → List ℕ

@@ -1,20 +1,17 @@
-use Rattle.std.proofs.Common.{min}
+use Rattle.std.proofs.Common.{min, ◌≡◌, refl, sym, ap, subst, ◌∙◌, ⊎_elim, List, [], ◌∷◌, ◌++◌, append-nil, append_assoc, ℕ, zero, suc, ◌+◌, ◌-◌, ◌*◌, ◌≤◌, ◌<◌}
+use Rattle.std.proofs.Common.{zero-add, zero-mul, add-mul, mul_assoc, mul_comm, mul-le-mul_right, add-one, arith, length, get_or, take, drop, replicate}
+use Rattle.std.proofs.Common.{length-append, length-drop, drop_of_length-le, get_or-take, get_or-drop, get_or-append-add, take_at, drop_at, take_all}
 -- Frames gathered from tracks.
-use mathlib.Core.Path.{◌≡◌, refl, sym, ap, subst, ◌∙◌}
-use mathlib.Core.Logic.{⊎_elim}
-use mathlib.Core.List.{List, [], ◌∷◌, ◌++◌, flat_map, append-nil, append_assoc}
-use Prim.Native.Nat.{ℕ, zero, suc, ◌+◌, ◌-◌, ◌*◌, ◌≤◌, ◌<◌, min}
-use native.Mathlib.Nat.{zero-add, zero-mul, add-mul, mul_assoc, mul_comm, mul-sub, mul-le-mul_right, sub-zero, min-eq_right}
-use native.Mathlib.Numerals.{add-one}
-use native.Mathlib.Omega.{arith}
-use lib.ListN.{length, get_or, take, drop, replicate, length-append, length-drop, length-replicate, get_or-replicate, drop_of_length-le, get_or-append, get_or-eq_default}
-use lib.Seq.{get_or-take, get_or-drop, get_or-append-add, take_at, drop_at, take_all, drop-nil}
+use mathlib.Core.List.{flat_map}
+use native.Mathlib.Nat.{mul-sub, sub-zero, min-eq_right}
+use lib.ListN.{length-replicate, get_or-replicate, get_or-append, get_or-eq_default}
+use lib.Seq.{drop-nil}
 use Rattle.numbers.specs.Lists.{tabulate}
 use Rattle.numbers.proofs.Lists.{tabulate_join, length_tabulate, is_tabulate, get_d_any, below_or}
 use Rattle.text.specs.Text.{with_text, Printed}
 use Rattle.text.proofs.Printing.{then, filled}
 use Rattle.reference.specs.Frames.{frame_length, idle}
-use Rattle.dsf.specs.Dsf.{channels, bits_per_sample, samples, turn_byte}
+use Rattle.dsf.specs.Dsf.{channels, bits_per_sample, sample_count, turn_byte}
 use Rattle.tracks.specs.Runs.{frames_from}
 use Rattle.tracks.specs.Tracks.{Track, heads, head_length, all_length, track_bytes, tracks_bytes, tracks_frame}
 use Rattle.tracks.specs.TracksToFiles.{clip}
@@ -77,11 +74,12 @@ lesser_times : (l k m n : ℕ) → min (l * n) (k * n) - m * n ≡ (min l k - m)
 lesser_times l k m n = rw (min_times l k n) (sub_times (min l k) m n)
 
 own_clip : (t : Track) (o a b : ℕ)
-    → let n = channels t.head.bytes in stretch t.read n (bits_per_sample t.head.bytes) (samples t.head.bytes) (a - o) (min (head_length t.head) (b - o)) ≡ clip (a * n) (b * n) (o * n) (track_bytes t)
+    → let n = channels t.head.bytes in
+    stretch t.read n (bits_per_sample t.head.bytes) (sample_count t.head.bytes) (a - o) (min (head_length t.head) (b - o)) ≡ clip (a * n) (b * n) (o * n) (track_bytes t)
 unfolding stretch clip track_bytes
 own_clip t o a b =
     let n = channels t.head.bytes in
-    let byte = turn_byte t.read n (bits_per_sample t.head.bytes) (samples t.head.bytes) in
+    let byte = turn_byte t.read n (bits_per_sample t.head.bytes) (sample_count t.head.bytes) in
     sym
     (rw (
       sub_times a o n,
@@ -92,9 +90,9 @@ own_clip t o a b =
     ) refl)
 
 stretch_clip : (t : Track) (n o a b : ℕ) → channels t.head.bytes ≡ n
-    → stretch t.read n (bits_per_sample t.head.bytes) (samples t.head.bytes) (a - o) (min (head_length t.head) (b - o)) ≡ clip (a * n) (b * n) (o * n) (track_bytes t)
+    → stretch t.read n (bits_per_sample t.head.bytes) (sample_count t.head.bytes) (a - o) (min (head_length t.head) (b - o)) ≡ clip (a * n) (b * n) (o * n) (track_bytes t)
 stretch_clip t n o a b e =
-    subst (λ (n : ℕ). stretch t.read n (bits_per_sample t.head.bytes) (samples t.head.bytes) (a - o) (min (head_length t.head) (b - o))
+    subst (λ (n : ℕ). stretch t.read n (bits_per_sample t.head.bytes) (sample_count t.head.bytes) (a - o) (min (head_length t.head) (b - o))
     ≡ clip (a * n) (b * n) (o * n) (track_bytes t)) e (own_clip t o a b)
 
 -- ---- texts one after the other

@@ -1,10 +1,7 @@
 -- What a gathering has done before a track, and what is left to do.
-use mathlib.Core.Path.{◌≡◌, refl, sym, ap, subst, ◌∙◌}
-use mathlib.Core.List.{List, [], ◌∷◌}
-use Prim.Native.Nat.{ℕ, ◌+◌, ◌-◌, ◌*◌, ◌≤◌, ◌<◌, min}
-use native.Mathlib.Nat.{zero-add, sub-zero, mul_assoc, mul-le-mul_right}
-use native.Mathlib.Omega.{arith}
-use lib.ListN.{length}
+use Rattle.std.proofs.Common.{◌≡◌, refl, sym, ap, subst, ◌∙◌, List, [], ◌∷◌, ℕ, ◌+◌, ◌-◌, ◌*◌, ◌≤◌, ◌<◌, min, zero-add, mul_assoc, mul-le-mul_right, arith}
+use Rattle.std.proofs.Common.{length}
+use native.Mathlib.Nat.{sub-zero}
 use Rattle.numbers.specs.Lists.{Each}
 use Rattle.dsf.specs.Dsf.{channels}
 use Rattle.tracks.specs.Runs.{frames_from}
@@ -34,8 +31,8 @@ unfolding windowed
 windowed_alike n a b o p w [] e = tt
 windowed_alike n a b o p w (h ∷ hs) e = (e.0, windowed_alike n a b (o + head_length h) (p + read_bytes n h o a b) w hs e.1)
 
--- ---- before a track: of n channels, some bytes of an album of `total` into a buffer of `room`, out of windows w, which
--- will hold `whole`
+-- ---- before a track: of n channels, some bytes of an album of `total` into a buffer of `room`, out of windows w,
+-- which will hold `whole`
 pub record Going (n : ℕ) (span : Span) (total room : ℕ) (w whole : List ℕ) (rest : List Head) (start : Start) (out : List ℕ) : Type 0 where
   pub alike : Each (λ h. channels h.bytes ≡ n) rest
   pub gives : with_tracks n span.from span.to start.byte (windowed n span.from span.to start.byte start.window w rest) out ≡ whole

@@ -1,11 +1,6 @@
 -- What one track needs.
-use mathlib.Core.Path.{◌≡◌, refl, sym, ap, ◌∙◌}
-use mathlib.Core.List.{List}
-use Prim.Native.Nat.{ℕ, ◌+◌, ◌-◌, ◌*◌, ◌/◌, ◌<◌}
-use native.Mathlib.Omega.{arith}
-use lib.ListN.{length, take, drop, length-drop}
-use lib.Seq.{get_or-drop, take_all}
-use Rattle.dsf.specs.Dsf.{blocks, channels, bits_per_sample, samples}
+use Rattle.std.proofs.Common.{◌≡◌, refl, sym, ap, ◌∙◌, List, ℕ, ◌+◌, ◌-◌, ◌*◌, ◌/◌, ◌<◌, arith, length, take, drop, length-drop, get_or-drop, take_all}
+use Rattle.dsf.specs.Dsf.{blocks, channels, bits_per_sample, sample_count}
 use Rattle.dsf.specs.Reading.{file_header}
 use Rattle.dsf.specs.declared.DsfHeader.{DsfHeader}
 use Rattle.dsf_frames.specs.Reading.{window_data}
@@ -37,7 +32,7 @@ module _ (heads lengths : List ℕ) (k : ℕ) (start : Start) (span : Span) (w :
   unfolding file_header
   channels_are = ap (λ (x : DsfHeader). x.channels) is
 
-  samples_are : header.samples ≡ samples h.bytes
+  samples_are : header.samples ≡ sample_count h.bytes
   unfolding file_header
   samples_are = ap (λ (x : DsfHeader). x.samples) is
 
@@ -66,7 +61,7 @@ module _ (heads lengths : List ℕ) (k : ℕ) (start : Start) (span : Span) (w :
   put_args =
       let size = length-drop start.window w in
       let within = t.within in
-      let args : TrackArgs n (samples h.bytes) start.byte span r.start (length (drop start.window w)) room = record {
+      let args : TrackArgs n (sample_count h.bytes) start.byte span r.start (length (drop start.window w)) room = record {
         one = t.one;
         six = t.six;
         order = t.order;
@@ -77,11 +72,11 @@ module _ (heads lengths : List ℕ) (k : ℕ) (start : Start) (span : Span) (w :
       } in
       rw (channels_are, samples_are) args
     where
-      begins_at : track_from start.byte span.from < track_to (samples h.bytes / 8) start.byte span.to → r.start ≡ track_from start.byte span.from / 4096 * 4096 * n
-      begins_at l = begins ∙ rw (channels_are, samples_are) (sym (some_start n (samples h.bytes / 8) start.byte span l))
+      begins_at : track_from start.byte span.from < track_to (sample_count h.bytes / 8) start.byte span.to → r.start ≡ track_from start.byte span.from / 4096 * 4096 * n
+      begins_at l = begins ∙ rw (channels_are, samples_are) (sym (some_start n (sample_count h.bytes / 8) start.byte span l))
 
-      ends_at : track_from start.byte span.from < track_to (samples h.bytes / 8) start.byte span.to → r.end ≡ blocks (track_to (samples h.bytes / 8) start.byte span.to) * 4096 * n
-      ends_at l = ends ∙ rw (channels_are, samples_are) (sym (some_end n (samples h.bytes / 8) start.byte span l))
+      ends_at : track_from start.byte span.from < track_to (sample_count h.bytes / 8) start.byte span.to → r.end ≡ blocks (track_to (sample_count h.bytes / 8) start.byte span.to) * 4096 * n
+      ends_at l = ends ∙ rw (channels_are, samples_are) (sym (some_end n (sample_count h.bytes / 8) start.byte span l))
 
   pub taken : {old new : List ℕ} {next : Start}
       → new ≡ with_track (window_data (drop start.window w) r.start) header.channels header.bits_per_sample header.samples start.byte span.from span.to old

@@ -5,7 +5,7 @@ use Rattle.reference.specs.declared.Settings.{Settings}
 use Rattle.reference.proofs.Refusals.{decide_first, decide_skip}
 use Rattle.tracks.specs.Tracks.{Head, all_length, frames_of_bytes, tracks_frames, tracks_channels, tracks_places, open_places, refused_from, refused_track}
 use Rattle.tracks.proofs.Opened.{is_opened, six_channels}
-use Rattle.tracks_open.specs.Open.{numbers, album_of, AlbumFits}
+use Rattle.tracks_open.specs.Open.{numbers, album_of, AcceptedFits}
 use Rattle.tracks_open.proofs.Bounds.{size_bound}
 use Rattle.tracks_open.proofs.Following.{flat}
 
@@ -16,7 +16,7 @@ accepted_few hs s e =
     let o = is_opened hs s e in
     (six_channels hs s o, omega (arith, o.few))
 
-pub album_fits : (hs : List Head) (s : Settings) → decide (open_places hs s) ≡ accepted → AlbumFits (album_of s.rate hs)
+pub album_fits : AcceptedFits
 unfolding album_of numbers tracks_frames
 album_fits hs s e =
     let o = is_opened hs s e in

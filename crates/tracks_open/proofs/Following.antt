@@ -1,6 +1,5 @@
 -- The tracks behind the first, one after the other.
-use Rattle.std.proofs.Common.{◌≡◌, Ok, Err, false, ℕ, ◌+◌, ◌-◌, ◌≤◌, ◌<◌, List, ◌∷◌, length, flat_map, sym, refl, ap, ◌∙◌, arith}
-use borrow.Author.Tests.{ltb-false}
+use Rattle.std.proofs.Common.{◌≡◌, Ok, Err, false, ℕ, ◌+◌, ◌-◌, ◌≤◌, ◌<◌, List, ◌∷◌, length, flat_map, sym, refl, ap, ◌∙◌, arith, ltb-false}
 use Rattle.numbers.specs.Lists.{tabulate}
 use Rattle.reference.specs.Refusals.{Place, accepted, is_accepted, decide}
 use Rattle.reference.specs.declared.PcmError.{PcmError}

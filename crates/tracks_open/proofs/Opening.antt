@@ -1,6 +1,5 @@
 -- The first track, and those behind it.
-use Rattle.std.proofs.Common.{◌≡◌, Ok, Err, false, ℕ, ◌+◌, ◌-◌, ◌/◌, ◌≤◌, List, ◌∷◌, ◌++◌, length, get_or, take, sym, refl, ap, ◌∙◌, arith}
-use borrow.Author.Tests.{ltb-false}
+use Rattle.std.proofs.Common.{◌≡◌, Ok, Err, false, ℕ, ◌+◌, ◌-◌, ◌/◌, ◌≤◌, List, ◌∷◌, ◌++◌, length, get_or, take, sym, refl, ap, ◌∙◌, arith, ltb-false}
 use Rattle.numbers.specs.Lists.{tabulate}
 use Rattle.numbers.proofs.Lists.{tabulate_join}
 use Rattle.reference.specs.Refusals.{Place, accepted, is_accepted, decide, opening_places}

@@ -1,9 +1,6 @@
 -- What is tried of each track.
-use Rattle.std.proofs.Common.{◌≡◌, Ok, Err, ℕ, ◌+◌, ◌/◌, ◌≤◌, ◌<◌, ◌≢◌, List, [], ◌∷◌, sym, refl, ap, ◌∙◌}
-use Rattle.std.specs.Prelude.{Result}
+use Rattle.std.proofs.Common.{◌≡◌, Ok, Err, ℕ, ◌+◌, ◌/◌, ◌≤◌, ◌<◌, ◌≢◌, List, [], ◌∷◌, sym, refl, ap, ◌∙◌, Result, lt-ltb, le-ltb, ne_eqb, eq-eqb, not}
 use Rattle.std.specs.Result.{result_and}
-use borrow.Author.Tests.{lt-ltb, le-ltb, ne_eqb, eq-eqb}
-use mathlib.Core.Bool.{not}
 use Rattle.reference.specs.Refusals.{Place, Decision, accepted, error_decision, decision, decide}
 use Rattle.reference.specs.declared.Settings.{Settings}
 use Rattle.reference.specs.declared.PcmError.{PcmError}

@@ -33,7 +33,7 @@ impl<'a> Tracks<'a> {
     }
 
     // Bytes of each channel of track k.
-    #[tactic(auto, unfolding(tracks::specs::Tracks::head_length, dsf::specs::Dsf::samples))]
+    #[tactic(auto, unfolding(tracks::specs::Tracks::head_length, dsf::specs::Dsf::sample_count))]
     pub fn length(self, k: usize) -> u64
         requires { TracksArgs self.heads.now self.lengths.now × (k < length self.lengths.now) }
         ensures { result ≡ head_length (head_at self.entry.heads.now self.entry.lengths.now k) }

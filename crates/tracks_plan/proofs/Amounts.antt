@@ -1,15 +1,13 @@
 -- How much a piece asks.
 use Rattle.std.proofs.Common.{◌≡◌, Some, None, Bool, true, false, ℕ, ◌+◌, ◌-◌, ◌*◌, ◌/◌, ◌≤◌, ◌<◌, List, [], ◌∷◌, length, cond, ltb, arith, refl, min}
-use native.Mathlib.Nat.{mul-le-mul_right, add-mul}
-use borrow.Author.Tests.{ltb-true}
+use Rattle.std.proofs.Common.{mul-le-mul_right, add-mul, ltb-true}
 use Rattle.reference.specs.declared.PcmRate.{PcmRate}
 use Rattle.dsf.specs.Dsf.{blocks}
 use Rattle.tracks.specs.Tracks.{Head, head_length, tracks_channels, tracks_frames}
 use Rattle.tracks.specs.Windows.{own_from, own_to, read_start, read_end, read_bytes, windows_length}
 use Rattle.tracks_open.specs.Open.{piece_total, numbers, album_of}
 use Rattle.tracks_plan.specs.Plan.{piece_count, piece_from, piece_at}
-use Rattle.tracks_plan.specs.Theorems.{AsksAtMost}
-use Rattle.tracks_plan.specs.declared.cutting.Piece.{Piece}
+use Rattle.tracks_plan.specs.Theorems.{AsksAtMost, PiecesAskAtMost}
 use Rattle.text.proofs.Options.{some_is, no_some}
 
 -- ---- of each track
@@ -88,10 +86,10 @@ module _ (rate : PcmRate) (hs : List Head) where
         bytes = mul-le-mul_right _ few;
       }
 
-  pub asks_at_most : (i : ℕ) (p : Piece) → piece_at (album_of rate hs) i ≡ Some p → AsksAtMost rate hs p
-  unfolding piece_at
-  asks_at_most i p e = go (ltb i (piece_total (album_of rate hs).frames)) e
-    where
-      go : (c : Bool) → cond c (Some (piece_from (album_of rate hs) (i * 128))) None ≡ Some p → AsksAtMost rate hs p
-      go true e = rw (← some_is e) (at_most (i * 128))
-      go false e = no_some e
+pub asks_at_most : PiecesAskAtMost
+unfolding piece_at
+asks_at_most rate hs i p e = go (ltb i (piece_total (album_of rate hs).frames)) e
+  where
+    go : (c : Bool) → cond c (Some (piece_from (album_of rate hs) (i * 128))) None ≡ Some p → AsksAtMost rate hs p
+    go true e = rw (← some_is e) (at_most rate hs (i * 128))
+    go false e = no_some e

@@ -2,11 +2,10 @@
 use Rattle.tracks_open.specs.Open.{piece_total}
 use Rattle.tracks_plan.specs.Plan.{last, piece_count, piece_from, piece_at}
 use Rattle.tracks_plan.specs.Theorems.{PlanCuts}
-use borrow.Author.Tests.{ltb-true}
+use Rattle.std.proofs.Common.{ltb-true, ◌≡◌, Some, None, Bool, true, false, cond, ltb, refl, sym, ℕ, ◌+◌, ◌-◌, ◌*◌, ◌/◌, ◌≤◌, ◌<◌, mul-le-mul, arith}
 use Rattle.text.proofs.Options.{some_is, no_some}
 use Rattle.tracks_open.specs.declared.Album.{Album}
 use Rattle.tracks_plan.specs.declared.cutting.Piece.{Piece}
-use Rattle.std.proofs.Common.{◌≡◌, Some, None, Bool, true, false, cond, ltb, refl, sym, ℕ, ◌+◌, ◌-◌, ◌*◌, ◌/◌, ◌≤◌, ◌<◌, mul-le-mul, arith}
 
 pub place_bound : (f size : ℕ) → f ≤ 540000 → size ≤ 84672 → f * size ≤ 45722880000
 place_bound f size a b = mul-le-mul a b

@@ -1,7 +1,7 @@
 -- What is read, track after track.
-use Rattle.std.proofs.Common.{◌≡◌, ℕ, ◌+◌, ◌-◌, ◌*◌, ◌≤◌, ◌<◌, List, [], ◌∷◌, ◌++◌, length, take, drop, arith, refl, sym, ap, ◌∙◌, append_assoc, append-nil, length-append}
+use Rattle.std.proofs.Common.{◌≡◌, ℕ, ◌+◌, ◌-◌, ◌*◌, ◌≤◌, ◌<◌, List, [], ◌∷◌, ◌++◌, length, take, drop, arith, refl, sym, ap, ◌∙◌, append_assoc, append-nil}
+use Rattle.std.proofs.Common.{length-append, take_at, take_all, length-take-le}
 use borrow.Rule.Slice.PartMut.{put_mid}
-use lib.Seq.{take_at, take_all, length-take-le}
 use Rattle.tracks.specs.Tracks.{Head, head_at, heads_of, head_length, all_length}
 use Rattle.tracks.specs.Windows.{read_start, read_end, windows_length}
 use Rattle.tracks_open.specs.inner.Trying.{heads_from}

@@ -1,15 +1,14 @@
 -- What is read is in the files.
-use Rattle.std.proofs.Common.{◌≡◌, Bool, true, false, ℕ, ◌+◌, ◌*◌, ◌/◌, ◌≤◌, List, [], ◌∷◌, cond, ltb, arith}
-use native.Mathlib.Nat.{mul-le-mul_right}
+use Rattle.std.proofs.Common.{◌≡◌, Bool, true, false, ℕ, ◌+◌, ◌*◌, ◌/◌, ◌≤◌, List, [], ◌∷◌, cond, ltb, arith, mul-le-mul_right}
 use Rattle.numbers.specs.Lists.{Each}
 use Rattle.reference.specs.Refusals.{accepted, decide}
-use Rattle.reference.specs.declared.Settings.{Settings}
 use Rattle.dsf.specs.Dsf.{blocks, channels, needed, data_bytes}
 use Rattle.dsf.specs.Reading.{header_places}
 use Rattle.dsf.proofs.Accepted.{head_sound}
-use Rattle.tracks.specs.Tracks.{Head, head_length, tracks_channels, open_places}
+use Rattle.tracks.specs.Tracks.{Head, head_length, tracks_channels}
 use Rattle.tracks.specs.Windows.{own_from, own_to, read_end}
 use Rattle.tracks.proofs.Opened.{is_opened}
+use Rattle.tracks_plan.specs.Theorems.{ReadsWithin}
 
 grow : (x y n : ℕ) → x ≤ y → blocks x * 4096 * n ≤ blocks y * 4096 * n
 unfolding blocks
@@ -38,5 +37,5 @@ each_within : (n : ℕ) (hs : List Head) → Each (λ h. decide (header_places h
 each_within n [] e c = tt
 each_within n (h ∷ hs) e c = (one_within n h e.0 c.0, each_within n hs e.1 c.1)
 
-pub reads_within : (hs : List Head) (s : Settings) → decide (open_places hs s) ≡ accepted → Each (λ h. (o a b : ℕ) → 92 + read_end (tracks_channels hs) h o a b ≤ h.long) hs
+pub reads_within : ReadsWithin
 reads_within hs s e = let o = is_opened hs s e in each_within (tracks_channels hs) hs o.taken o.alike

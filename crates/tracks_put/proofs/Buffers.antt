@@ -1,22 +1,19 @@
 -- A stretch from its channels.
-use mathlib.Core.Path.{◌≡◌, refl, sym, ap, ◌∙◌}
-use mathlib.Core.Logic.{◌≢◌, ⊎_elim}
-use mathlib.Core.List.{List, ◌++◌}
-use Prim.Native.Nat.{ℕ, ◌+◌, ◌*◌, ◌-◌, ◌/◌, ◌%◌, ◌^◌, ◌≤◌, ◌<◌}
-use native.Mathlib.Nat.{add-mul, mul-le-mul_right, mod-lt, div-add-mod', div-lt_iff_lt-mul}
-use native.Mathlib.Omega.{arith}
-use lib.ListN.{length, get_or, take, drop, length-append, length-drop, get_or-append}
-use lib.Seq.{get_or-take, get_or-drop, get_or-append-add, length-take-le, ext_get_or}
-use borrow.Author.Tests.{lt-ltb}
+use Rattle.std.proofs.Common.{◌≡◌, refl, sym, ap, ◌∙◌, ⊎_elim, List, ◌++◌, ℕ, ◌+◌, ◌*◌, ◌-◌, ◌/◌, ◌%◌, ◌^◌, ◌≤◌, ◌<◌, add-mul, mul-le-mul_right, mod-lt}
+use Rattle.std.proofs.Common.{div-add-mod', div-lt_iff_lt-mul, arith, length, get_or, take, drop, length-append, length-drop, get_or-take, get_or-drop}
+use Rattle.std.proofs.Common.{get_or-append-add, length-take-le, ext_get_or, lt-ltb}
+use lib.ListN.{get_or-append}
 use Rattle.numbers.specs.Lists.{tabulate}
+use Rattle.numbers.specs.inner.Lists.{Written}
 use Rattle.numbers.proofs.Lists.{below_or, length_tabulate, get_d_tabulate}
 use Rattle.text.specs.Text.{with_text}
 use Rattle.text.specs.Bytes.{Bytes}
 use Rattle.dsf.specs.Dsf.{data_place, sample_byte, turn_byte}
 use Rattle.dsf.specs.inner.Orders.{bit_order}
 use Rattle.dsf_frames.specs.Reading.{window_data}
-use Rattle.dsf_columns.specs.inner.Columns.{Strided, Ordering}
+use Rattle.dsf_columns.specs.inner.Columns.{Ordering}
 use Rattle.dsf_columns.proofs.Blocks.{quotient, remainder}
+use Rattle.dsf_columns.proofs.Strides.{other}
 use Rattle.dsf_columns.proofs.Turned.{ordered_is}
 use Rattle.tracks_put.specs.declared.Part.{Part}
 use Rattle.tracks_put.specs.inner.Putting.{table_byte, stretch, Placed, PutArgs, ChannelArgs}
@@ -56,23 +53,18 @@ is_with_text old new t a fits same before inside behind =
         ∙ get_or-append-add t (drop (a + length t) old) k 0 ∙ get_or-drop (a + length t) old k 0 ∙ ap (λ (x : ℕ). get_or old x 0) e)
 
 -- ---- one channel more
-cell : (n at c i : ℕ) → at * n + c + i * n ≡ (at + i) * n + c
-cell n at c i = omega (arith, add-mul at i n)
-
-other : (n at c d i k : ℕ) → c < n → d < n → d ≢ c → (at + i) * n + d ≢ at * n + c + k * n
-other n at c d i k l h g e = g (sym (remainder (at + i) n d h) ∙ ap (λ (x : ℕ). x % n) (e ∙ cell n at c k) ∙ remainder (at + k) n c l)
-
 module _ {n at m : ℕ} {f : ℕ → ℕ → ℕ} {old : List ℕ} where
   pub placed_none : Placed n at m 0 f old old
   placed_none = record { same = refl; done = λ d i h l. absurd (omega arith); before = λ j h. refl; behind = λ j h. refl }
 
-  pub placed_more : {c : ℕ} {mid new : List ℕ} → c < n → Placed n at m c f old mid → Strided (f c) (at * n + c) n m mid new → Placed n at m (c + 1) f old new
+  pub placed_more : {c : ℕ} {mid new : List ℕ} → c < n → Placed n at m c f old mid → Written 0 (λ i. at * n + c + i * n) (f c) m mid new → Placed n at m (c + 1) f old new
   placed_more {c} {mid} {new} l w p =
       record {
         same = p.same ∙ w.same;
-        done = λ d i h t. ⊎_elim (λ b. p.kept ((at + i) * n + d) (λ k s. other n at c d i k l (omega arith) (omega arith)) ∙ w.done d i b t) (λ b.
+        done = λ d i h t. ⊎_elim (λ b. p.kept ((at + i) * n + d) (λ k s z. other (at + i) (at + k) l (omega arith) (omega arith) (z ∙ omega (arith, add-mul at k n))) ∙ w.done d i b t) (λ b.
             let e : d ≡ c = omega arith in
-            rw (e, ← cell n at c i) (p.done i t)) (below_or d c);
+            let here : at * n + c + i * n ≡ (at + i) * n + c = omega (arith, add-mul at i n) in
+            rw e (rw here at (p.done i t))) (below_or d c);
         before = λ j h. p.kept j (λ k s. omega arith) ∙ w.before j h;
         behind = λ j h. p.kept j (λ k s. omega (arith, mul-le-mul_right n s, add-mul at m n)) ∙ w.behind j h;
       }
@@ -91,9 +83,6 @@ module _ {n samples : ℕ} {part : Part} {start size out : ℕ} (a : PutArgs n s
         lent = omega (arith, a.lent, add-mul part.at (part.to - part.from) n);
         room = omega (arith, a.small, a.six);
       }
-
-  pub place_small : part.at * n ≤ out
-  place_small = omega (arith, a.lent, add-mul part.at (part.to - part.from) n)
 
   module _ (bits : ℕ) (window table old new : List ℕ) (each : Bytes window) (o : Ordering (bit_order bits) table) (lent : length old ≡ out) where
     abbrev byte : ℕ → ℕ

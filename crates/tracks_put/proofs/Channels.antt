@@ -1,32 +1,13 @@
 -- A channel from its pieces.
-use mathlib.Core.Path.{◌≡◌, refl, sym, ap, ◌∙◌}
-use mathlib.Core.Logic.{⊎_elim}
-use mathlib.Core.List.{List}
-use Prim.Native.Nat.{ℕ, ◌+◌, ◌*◌, ◌-◌, ◌/◌, ◌%◌, ◌^◌, ◌≤◌, ◌<◌}
-use native.Mathlib.Nat.{add-mul, mul-le-mul_right}
-use native.Mathlib.Omega.{arith}
-use lib.ListN.{length, get_or, take, drop, length-drop}
-use lib.Seq.{get_or-take, get_or-drop, length-take-le}
-use Rattle.numbers.proofs.Lists.{below_or}
+use Rattle.std.proofs.Common.{◌≡◌, refl, sym, ap, ◌∙◌, List, ℕ, ◌+◌, ◌*◌, ◌-◌, ◌/◌, ◌%◌, ◌^◌, ◌≤◌, ◌<◌, add-mul, mul-le-mul_right, arith, length, get_or, take}
+use Rattle.std.proofs.Common.{drop, length-drop, get_or-take, get_or-drop, length-take-le}
+use Rattle.numbers.specs.inner.Lists.{Written}
 use Rattle.reference.specs.Frames.{frame_length}
 use Rattle.dsf.specs.Dsf.{blocks, data_place}
-use Rattle.dsf_columns.specs.inner.Columns.{Strided, ColumnArgs}
+use Rattle.dsf_columns.specs.inner.Columns.{ColumnArgs}
 use Rattle.dsf_columns.proofs.Strides as strides
+use Rattle.dsf_columns.proofs.Strides.{strided_then}
 use Rattle.tracks_put.specs.inner.Putting.{table_byte, ChannelArgs}
-
--- ---- places at a stride, and more of them behind
-pub strided_join : {f g : ℕ → ℕ} {at stride m s : ℕ} {old mid new : List ℕ} → 1 ≤ stride → Strided f at stride m old mid → Strided g (at + m * stride) stride s mid new
-    → ((i : ℕ) → i < s → g i ≡ f (m + i)) → Strided f at stride (m + s) old new
-strided_join {f} {g} {at} {stride} {m} {s} {old} {mid} {new} one w p e =
-    record {
-      same = p.same ∙ w.same;
-      done = λ i h. ⊎_elim (λ b. p.kept (at + i * stride) (λ k t. omega (arith, mul-le-mul_right stride b)) ∙ w.done i b) (λ b.
-          let q : m + (i - m) ≡ i = omega arith in
-          let place : at + m * stride + (i - m) * stride ≡ at + i * stride = omega (arith, sym (add-mul m (i - m) stride) ∙ ap (λ (x : ℕ). x * stride) q) in
-          let r = p.done (i - m) (omega arith) ∙ e (i - m) (omega arith) in
-          rw (place, q) at r) (below_or i m);
-      kept = λ j h. p.kept j (λ i t. λ z. h (m + i) (omega arith) (z ∙ omega (arith, add-mul m i stride))) ∙ w.kept j (λ i t. h i (omega arith));
-    }
 
 -- the place behind s more of them
 pub next_place : (stride at m s k j : ℕ) → j ≡ at + m * stride → m + s ≡ k → j + s * stride ≡ at + k * stride
@@ -101,8 +82,9 @@ module _ {n c from to start size at out : ℕ} (a : ChannelArgs n c from to star
           let p : place - start + i ≡ (q / 4096 * n + c) * 4096 + (q % 4096 + i) - start = omega (arith, above) in
           rw (count, get_or-take (stop - q) (drop (place - start) window) i 0 h, get_or-drop (place - start) window i 0, p, k, b, r) refl
 
-      pub next_piece : {old mid new : List ℕ} → Strided (table_byte window table n start c from) at n (q - from) old mid
-          → Strided (λ i. get_or table (get_or piece i 0) 0) (at + (q - from) * n) n (length piece) mid new → Strided (table_byte window table n start c from) at n (stop - from) old new
+      pub next_piece : {old mid new : List ℕ} → Written 0 (λ i. at + i * n) (table_byte window table n start c from) (q - from) old mid
+          → Written 0 (λ i. at + (q - from) * n + i * n) (λ i. get_or table (get_or piece i 0) 0) (length piece) mid new
+          → Written 0 (λ i. at + i * n) (table_byte window table n start c from) (stop - from) old new
       next_piece w p =
           let r : q - from + length piece ≡ stop - from = omega (arith, piece_length) in
-          rw r at (strided_join (omega (arith, a.channel)) w p (λ i g. piece_byte i (omega (arith, piece_length))))
+          rw r at (strided_then at n (omega (arith, a.channel)) (at + (q - from) * n) refl w p (λ i g. piece_byte i (omega (arith, piece_length))))

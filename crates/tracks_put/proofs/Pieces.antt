@@ -1,13 +1,10 @@
 -- What `put_track` and `fill` need.
-use mathlib.Core.Path.{◌≡◌, refl, sym, ◌∙◌}
-use mathlib.Core.List.{List, []}
-use Prim.Native.Nat.{ℕ, ◌+◌, ◌-◌, ◌*◌, ◌/◌, ◌≤◌, ◌<◌, ◌^◌}
-use native.Mathlib.Nat.{mul-le-mul, mul-le-mul_right, zero-mul}
-use native.Mathlib.Omega.{arith}
-use lib.ListN.{length, set, replicate, length-replicate, get_or-replicate, get_or-eq_default, take-append-drop}
+use Rattle.std.proofs.Common.{◌≡◌, refl, sym, ◌∙◌, List, [], ℕ, ◌+◌, ◌-◌, ◌*◌, ◌/◌, ◌≤◌, ◌<◌, ◌^◌, mul-le-mul, mul-le-mul_right, zero-mul, arith, length, set}
+use Rattle.std.proofs.Common.{replicate, take-append-drop}
+use lib.ListN.{length-replicate, get_or-replicate, get_or-eq_default}
 use Rattle.numbers.specs.Lists.{tabulate}
-use Rattle.numbers.specs.inner.Lists.{Wrote}
-use Rattle.numbers.proofs.Lists.{wrote_more}
+use Rattle.numbers.specs.inner.Lists.{Written}
+use Rattle.numbers.proofs.Lists.{written_more}
 use Rattle.text.specs.Text.{with_text}
 use Rattle.reference.specs.Frames.{idle}
 use Rattle.tracks_put.specs.declared.Part.{Part}
@@ -61,18 +58,19 @@ untouched read n bits samples o a b l h =
     rw (z, zero-mul n) (sym (with_none l (track_at o a * n)))
 
 -- one idle byte more
-pub wrote_next : {at j : ℕ} {old new : List ℕ} → at ≤ j → Wrote 0 (λ i. idle) at (j - at) old new → j < length old → Wrote 0 (λ i. idle) at (j + 1 - at) old (set new j idle)
-wrote_next {at} {j} {old} {new} h w l =
-    let here : at + (j - at) ≡ j = omega arith in
+pub written_next : {at j : ℕ} {old new : List ℕ} → at ≤ j → Written 0 (λ i. at + i) (λ i. idle) (j - at) old new → j < length old
+    → Written 0 (λ i. at + i) (λ i. idle) (j + 1 - at) old (set new j idle)
+written_next {at} {j} {old} {new} h w l =
     let more : j - at + 1 ≡ j + 1 - at = omega arith in
-    rw (here, more) at (wrote_more {v = idle} w (omega arith) refl)
+    rw more at (written_more {j = j} w (omega arith) (λ i m. omega arith) (omega (arith, w.same)) refl)
 
 -- idle bytes to the end
-pub filled : (at : ℕ) (old new : List ℕ) (k : ℕ) → at + k ≡ length old → Wrote 0 (λ i. idle) at k old new → new ≡ with_fill at old
+pub filled : (at : ℕ) (old new : List ℕ) (k : ℕ) → at + k ≡ length old → Written 0 (λ i. at + i) (λ i. idle) k old new → new ≡ with_fill at old
 unfolding with_fill
 filled at old new k e w =
     let r : length old - at ≡ k = omega arith in
     let long = length-replicate k idle in
     rw r
-    (is_with_text old new (replicate k idle) at (omega (arith, long)) w.same w.kept (λ i h. w.done i (omega (arith, long)) ∙ sym (get_or-replicate k i idle 0 (omega (arith, long))))
+    (is_with_text old new (replicate k idle) at (omega (arith, long)) w.same (λ j h. w.kept j (λ i m. omega arith))
+    (λ i h. w.done i (omega (arith, long)) ∙ sym (get_or-replicate k i idle 0 (omega (arith, long))))
     (λ j h. get_or-eq_default new 0 {n = j} (omega (arith, long, w.same)) ∙ sym (get_or-eq_default old 0 {n = j} (omega (arith, long)))))

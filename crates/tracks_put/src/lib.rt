@@ -1,10 +1,10 @@
 // Bytes of a track put into their places of an album's frames.
 #![tactic(auto)]
 
-ghost use Rattle.std.specs.Prelude.{◌≡◌, ◌-◌, ◌*◌, ◌≤◌, length};
+ghost use Rattle.std.specs.Prelude.{◌≡◌, ◌+◌, ◌-◌, ◌*◌, ◌≤◌, length};
+ghost use Rattle.numbers.specs.inner.Lists.{Written};
 ghost use Rattle.text.specs.Text.{with_text};
 ghost use Rattle.text.specs.Bytes.{Bytes};
-ghost use Rattle.dsf_columns.specs.inner.Columns.{Strided};
 ghost use Rattle.dsf_frames.specs.Reading.{window_data};
 ghost use Rattle.tracks_put.specs.inner.Putting.{table_byte, ChannelArgs, stretch, PutArgs};
 ghost use Rattle.tracks_put.specs.inner.Placing.{with_track, with_fill, TrackArgs};
@@ -23,7 +23,8 @@ struct Part {
 // A channel's bytes, block by block through a table, into places at a stride from `at` on.
 fn channel(window: &Stretch, table: &[u8; 256], channel: Channel, at: usize, out: &mut [u8])
     requires { ChannelArgs channel.channels channel.number channel.first channel.end window.now.start (length window.now.bytes.now) at (length out.old) }
-    ensures { Strided (table_byte window.now.bytes.now table.now channel.channels window.now.start channel.number channel.first) at channel.channels (channel.end - channel.first) out.old out.new }
+    ensures { Written 0 (λ i. at + i * channel.channels) (table_byte window.now.bytes.now table.now channel.channels window.now.start channel.number channel.first)
+        (channel.end - channel.first) out.old out.new }
 {
     let stride = channel.channels as usize;
     let mut q = channel.first;

@@ -1,10 +1,6 @@
 -- Windows of the tracks ahead.
-use mathlib.Core.Path.{◌≡◌, refl, ◌∙◌}
-use mathlib.Core.List.{List}
-use Prim.Native.Nat.{ℕ, ◌+◌, ◌-◌, ◌*◌, ◌≤◌, ◌<◌}
-use native.Mathlib.Nat.{zero-add, sub-zero}
-use native.Mathlib.Omega.{arith}
-use lib.ListN.{length}
+use Rattle.std.proofs.Common.{◌≡◌, refl, ◌∙◌, List, ℕ, ◌+◌, ◌-◌, ◌*◌, ◌≤◌, ◌<◌, zero-add, arith, length}
+use native.Mathlib.Nat.{sub-zero}
 use Rattle.tracks.specs.Tracks.{Head, head_length, all_length, head_at, heads_of}
 use Rattle.tracks.specs.Windows.{read_bytes, windows_length}
 use Rattle.tracks_open.specs.inner.Trying.{heads_from}

@@ -1,10 +1,5 @@
 -- The stretch of a track to read.
-use mathlib.Core.Path.{◌≡◌, refl}
-use mathlib.Core.Logic.{⊎_elim}
-use Prim.Native.Nat.{ℕ, ◌+◌, ◌*◌, ◌/◌, ◌≤◌, ◌<◌}
-use native.Mathlib.Nat.{mul-le-mul, mul-le-mul_right}
-use native.Mathlib.Omega.{arith}
-use borrow.Author.Tests.{lt-ltb, le-ltb}
+use Rattle.std.proofs.Common.{◌≡◌, refl, ⊎_elim, ℕ, ◌+◌, ◌*◌, ◌/◌, ◌≤◌, ◌<◌, mul-le-mul, mul-le-mul_right, arith, lt-ltb, le-ltb}
 use Rattle.numbers.proofs.Lists.{below_or}
 use Rattle.dsf.specs.Dsf.{blocks}
 use Rattle.tracks.specs.Tracks.{Head, head_length}

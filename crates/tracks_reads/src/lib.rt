@@ -1,7 +1,7 @@
 // What is to be read of each track for some bytes of an album.
 #![tactic(auto)]
 
-ghost use Rattle.std.specs.Prelude.{◌≡◌, ◌≤◌};
+ghost use Rattle.std.specs.Prelude.{◌≡◌};
 ghost use Rattle.tracks.specs.Tracks.{heads_of};
 ghost use Rattle.tracks.specs.Windows.{windows_length};
 ghost use Rattle.tracks_reads.specs.inner.Reading.{ReadArgs, read_from, read_to, WindowsArgs};

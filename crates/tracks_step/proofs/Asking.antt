@@ -1,8 +1,7 @@
 -- What a step asks, place by place.
-use Rattle.std.proofs.Common.{◌≡◌, Result, Ok, Err, ℕ, ◌+◌, ◌-◌, ◌*◌, ◌≤◌, ◌<◌, List, [], ◌∷◌, ◌++◌, min, sym, refl, ap, ◌∙◌, arith}
-use mathlib.Core.Bool.{not}
-use borrow.Author.Tests.{lt-leb, le-leb, eq-eqb, ne_eqb, leb-true, not-false}
-use lib.Dec.{leb}
+use Rattle.std.proofs.Common.{◌≡◌, Result, Ok, Err, ℕ, ◌+◌, ◌-◌, ◌*◌, ◌≤◌, ◌<◌, List, [], ◌∷◌, ◌++◌, min, sym, refl, ap, ◌∙◌, arith, not, le-leb, eq-eqb}
+use Rattle.std.proofs.Common.{ne_eqb, leb-true, leb}
+use borrow.Author.Tests.{lt-leb, not-false}
 use Rattle.reference.specs.Refusals.{Decision, Place, accepted, refused, error_decision, decide, number, lent_length}
 use Rattle.reference.specs.declared.PcmError.{PcmError}
 use Rattle.reference.specs.declared.Settings.{Settings}

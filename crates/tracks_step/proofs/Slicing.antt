@@ -1,12 +1,6 @@
 -- A piece out of its frames is the album's.
-use Rattle.std.proofs.Common.{◌≡◌, Ok, Err, ℕ, ◌+◌, ◌-◌, ◌*◌, ◌≤◌, ◌<◌, List, [], ◌++◌, min, sym, refl, ap, ◌∙◌, arith}
-use mathlib.Core.Bool.{false, true≢false}
-use mathlib.Core.Logic.{⊎_elim}
-use mathlib.Core.List.{append_assoc}
-use lib.Dec.{ltb}
-use lib.ListN.{length, take, drop, length-append, length-drop}
-use lib.Seq.{take_at, drop_at, take_all}
-use borrow.Author.Tests.{lt-ltb, le-ltb}
+use Rattle.std.proofs.Common.{◌≡◌, Ok, Err, ℕ, ◌+◌, ◌-◌, ◌*◌, ◌≤◌, ◌<◌, List, [], ◌++◌, min, sym, refl, ap, ◌∙◌, arith, false, true≢false, ⊎_elim, append_assoc}
+use Rattle.std.proofs.Common.{ltb, length, take, drop, length-append, length-drop, take_at, drop_at, take_all, lt-ltb, le-ltb}
 use Rattle.numbers.proofs.Lists.{below_or}
 use Rattle.reference.specs.Frames.{frame_length}
 use Rattle.reference.specs.Output.{stats}

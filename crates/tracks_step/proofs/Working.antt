@@ -1,9 +1,7 @@
 -- What the calls promise, from what their parts do.
-use Rattle.std.proofs.Common.{◌≡◌, Result, Ok, Err, ℕ, ◌+◌, ◌-◌, ◌*◌, ◌≤◌, List, [], ◌∷◌, min, sym, refl, ap, ◌∙◌, arith}
-use Rattle.std.specs.Prelude.{false}
-use borrow.Author.Tests.{leb-true, eqb-true, not-false}
-use lib.ListN.{length}
-use native.Mathlib.Nat.{mul-le-mul}
+use Rattle.std.proofs.Common.{◌≡◌, Result, Ok, Err, ℕ, ◌+◌, ◌-◌, ◌*◌, ◌≤◌, List, [], ◌∷◌, min, sym, refl, ap, ◌∙◌, arith, false, leb-true, eqb-true, length}
+use Rattle.std.proofs.Common.{mul-le-mul}
+use borrow.Author.Tests.{not-false}
 use Rattle.numbers.proofs.Lists.{length_tabulate}
 use Rattle.reference.specs.Frames.{frame_length}
 use Rattle.reference.specs.Output.{stats}

@@ -1,5 +1,5 @@
 // What a step asks of its windows and its lists.
-ghost use Rattle.std.specs.Prelude.{◌≡◌, [], ◌∷◌, ◌+◌, ◌≤◌, min, length};
+ghost use Rattle.std.specs.Prelude.{◌≡◌, [], ◌∷◌, ◌+◌, ◌≤◌, min};
 ghost use Rattle.reference.specs.Refusals.{decision, decide, lent_length, most};
 ghost use Rattle.reference.specs.declared.Limit.TheVariants as limit;
 ghost use Rattle.tracks.specs.Tracks.{heads_of};

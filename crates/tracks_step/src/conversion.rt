@@ -1,5 +1,4 @@
 // Frames of an album converted, with those next to them.
-ghost use Rattle.reference.specs.Refusals.{decide, accepted};
 ghost use Rattle.tracks_step.specs.inner.Slices.{sliced, SliceArgs, Converting};
 
 use reference::{ConvertStats, Converter, FRAME_BYTES, PcmError, Run};

@@ -4,7 +4,6 @@
 mod asked;
 mod conversion;
 
-ghost use Rattle.std.specs.Prelude.{◌≡◌};
 ghost use Rattle.tracks.specs.Tracks.{heads_of};
 ghost use Rattle.tracks_open.specs.inner.Open.{TracksArgs};
 ghost use Rattle.tracks_step.specs.Promises.{FramesPromise, StepPromise};

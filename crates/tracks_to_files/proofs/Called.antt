@@ -1,9 +1,6 @@
 -- What the contract of `step` ensures of a call is, word for word, `StepPromise`; so a call with what the plan tells of
 -- a piece is one of the theorem's.
-use mathlib.Core.Path.{◌≡◌, refl}
-use mathlib.Core.List.{List}
-use Prim.Native.Nat.{ℕ}
-use lib.ListN.{length}
+use Rattle.std.proofs.Common.{◌≡◌, refl, List, ℕ, length, Some}
 use seplogic.Ra.Ura.{Ura}
 use base.Logic.{SProp}
 use prog.Memory.{Memory}
@@ -14,7 +11,6 @@ use contract.Monad.{fact, Fun}
 use denote.Triple.Entry.{Args, Res}
 use denote.Triple.Clauses.{AtExit}
 use denote.Triple.Spec.{exits}
-use Rattle.std.specs.Prelude.{Some}
 use Rattle.tracks.specs.Tracks.{Head, heads_of, tracks_channels}
 use Rattle.tracks.specs.Windows.{WindowsOf}
 use Rattle.tracks_open.specs.Open.{album_of}

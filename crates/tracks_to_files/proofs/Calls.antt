@@ -1,13 +1,7 @@
 -- Calls of `step` with what the plan tells are steps that cut the album.
-use mathlib.Core.Path.{◌≡◌, refl, sym, ap, subst, ◌∙◌}
-use mathlib.Core.Bool.{Bool, true, false, cond}
-use mathlib.Core.List.{List, [], ◌∷◌, ◌++◌, map, flat_map}
-use Prim.Native.Nat.{ℕ, ◌+◌, ◌-◌, ◌*◌, ◌≤◌, ◌<◌}
-use native.Mathlib.Omega.{arith}
-use lib.Dec.{ltb}
-use lib.ListN.{length}
-use borrow.Author.Tests.{le-leb, lt-ltb, ltb-true, eq-eqb}
-use Rattle.std.specs.Prelude.{Option, Some, None, min}
+use Rattle.std.proofs.Common.{◌≡◌, refl, sym, ap, subst, ◌∙◌, Bool, true, false, cond, List, [], ◌∷◌, ◌++◌, map, ℕ, ◌+◌, ◌-◌, ◌*◌, ◌≤◌, ◌<◌, arith, ltb, length}
+use Rattle.std.proofs.Common.{le-leb, lt-ltb, ltb-true, eq-eqb, Option, Some, None, min}
+use mathlib.Core.List.{flat_map}
 use Rattle.numbers.specs.Lists.{Each}
 use Rattle.text.proofs.Options.{no_some, some_is}
 use Rattle.reference.specs.Frames.{frame_length}

@@ -1,10 +1,8 @@
 -- First bytes end to end are heads.
-use mathlib.Core.Path.{◌≡◌, refl, sym, ap, ap₂, subst, ◌∙◌}
-use mathlib.Core.List.{List, [], ◌∷◌, ◌++◌, map, flat_map}
-use Prim.Native.Nat.{ℕ, suc, ◌+◌, ◌*◌}
-use native.Mathlib.Omega.{arith}
-use lib.ListN.{length, take}
-use lib.Seq.{take_at, take-take, drop-append-add, length-take-le}
+use Rattle.std.proofs.Common.{◌≡◌, refl, sym, ap, ap₂, subst, ◌∙◌, List, [], ◌∷◌, ◌++◌, map, ℕ, suc, ◌+◌, ◌*◌, arith, length, take, take_at, take-take}
+use Rattle.std.proofs.Common.{length-take-le}
+use mathlib.Core.List.{flat_map}
+use lib.Seq.{drop-append-add}
 use Rattle.numbers.specs.Lists.{tabulate}
 use Rattle.numbers.proofs.Lists.{tabulate_same, tabulate_join}
 use Rattle.tracks.specs.Tracks.{Head, head_at, heads_of}

@@ -1,11 +1,6 @@
 -- Headers of an accepted album.
-use mathlib.Core.Path.{◌≡◌, refl, subst, ◌∙◌}
-use mathlib.Core.Bool.{true}
-use mathlib.Core.List.{List, [], ◌∷◌}
-use Prim.Native.Nat.{ℕ, ◌+◌, ◌-◌, ◌*◌, ◌≤◌, ◌<◌}
-use native.Mathlib.Omega.{arith}
-use native.Mathlib.Nat.{mul-le-mul, mul-sub, mul_comm, le_trans}
-use lib.ListN.{length}
+use Rattle.std.proofs.Common.{◌≡◌, refl, subst, ◌∙◌, true, List, [], ◌∷◌, ℕ, ◌+◌, ◌-◌, ◌*◌, ◌≤◌, ◌<◌, arith, mul-le-mul, mul_comm, le_trans, length}
+use native.Mathlib.Nat.{mul-sub}
 use Rattle.numbers.specs.Lists.{Each}
 use Rattle.reference.specs.Output.{samples_per_frame}
 use Rattle.reference.specs.Refusals.{decide, accepted}

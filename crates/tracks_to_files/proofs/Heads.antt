@@ -1,9 +1,6 @@
 -- Heads tell the album.
-use mathlib.Core.Path.{◌≡◌, refl, sym, ap, ◌∙◌}
-use mathlib.Core.Bool.{Bool, true, false, cond}
-use mathlib.Core.List.{List, [], ◌∷◌, ◌++◌, flat_map}
-use Prim.Native.Nat.{ℕ, zero, suc, ◌+◌}
-use lib.ListN.{length, take}
+use Rattle.std.proofs.Common.{◌≡◌, refl, sym, ap, ◌∙◌, Bool, true, false, cond, List, [], ◌∷◌, ◌++◌, ℕ, zero, suc, ◌+◌, length, take}
+use mathlib.Core.List.{flat_map}
 use Rattle.reference.specs.Refusals.{Place, refused, decide}
 use Rattle.reference.specs.Promises.{by_decision}
 use Rattle.reference.specs.declared.Settings.{Settings}

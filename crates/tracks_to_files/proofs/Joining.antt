@@ -1,6 +1,6 @@
 -- Statistics, part by part.
-use mathlib.Core.Path.{◌≡◌, refl, sym, ap, ap₂, ◌∙◌}
-use mathlib.Core.List.{List, [], ◌∷◌, ◌++◌, map, flat_map}
+use Rattle.std.proofs.Common.{◌≡◌, refl, sym, ap, ap₂, ◌∙◌, List, [], ◌∷◌, ◌++◌, map}
+use mathlib.Core.List.{flat_map}
 use Rattle.numbers.specs.Lists.{tabulate}
 use Rattle.reference.specs.Statistics.{no_stats, no_samples, add_clips, channel_of, joined_channel, joined_extremes, joined_stats, all_joined}
 use Rattle.reference.specs.declared.ConvertStats.{ConvertStats}

@@ -1,13 +1,8 @@
 -- Windows made out of files, and a call on each piece.
-use mathlib.Core.Path.{◌≡◌, refl, sym, ap, subst, ◌∙◌}
-use mathlib.Core.List.{List, [], ◌∷◌, ◌++◌, append_assoc}
-use Prim.Native.Nat.{ℕ, zero, suc, ◌+◌, ◌-◌, ◌*◌, ◌/◌, ◌≤◌, ◌<◌}
-use native.Mathlib.Nat.{zero-add, le_trans, le-div_iff_mul-le, div-mul-le_self, mul-le-mul_left, mul-div_cancel}
-use native.Mathlib.Omega.{arith}
-use lib.ListN.{length, replicate, length-append, length-replicate, get_or-append}
-use lib.Seq.{get_or-append-add}
-use borrow.Author.Tests.{lt-ltb}
-use Rattle.std.specs.Prelude.{Ok, Some}
+use Rattle.std.proofs.Common.{◌≡◌, refl, sym, ap, subst, ◌∙◌, List, [], ◌∷◌, ◌++◌, append_assoc, ℕ, zero, suc, ◌+◌, ◌-◌, ◌*◌, ◌/◌, ◌≤◌, ◌<◌, zero-add, le_trans}
+use Rattle.std.proofs.Common.{le-div_iff_mul-le, div-mul-le_self, mul-le-mul_left, mul-div_cancel, arith, length, replicate, length-append, get_or-append-add}
+use Rattle.std.proofs.Common.{lt-ltb, Ok, Some}
+use lib.ListN.{length-replicate, get_or-append}
 use Rattle.numbers.specs.Lists.{tabulate}
 use Rattle.numbers.proofs.Lists.{length_tabulate, get_d_tabulate}
 use Rattle.reference.specs.Output.{samples, stats, s24le}

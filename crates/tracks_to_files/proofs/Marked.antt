@@ -1,10 +1,5 @@
 -- Marks and what is told by them.
-use mathlib.Core.Path.{◌≡◌, refl, ap, ◌∙◌}
-use mathlib.Core.List.{List}
-use Prim.Native.Nat.{ℕ, ◌+◌, ◌<◌}
-use native.Mathlib.Nat.{zero-add}
-use native.Mathlib.Omega.{arith}
-use lib.ListN.{length, get_or}
+use Rattle.std.proofs.Common.{◌≡◌, refl, ap, ◌∙◌, List, ℕ, ◌+◌, ◌<◌, zero-add, arith, length, get_or}
 use Rattle.numbers.proofs.Lists.{get_d_tabulate}
 use Rattle.reference.specs.declared.Settings.{Settings}
 use Rattle.tracks.specs.Tracks.{Head, tracks_channels, data_start}

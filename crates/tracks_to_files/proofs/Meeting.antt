@@ -1,13 +1,10 @@
 -- The files that the definition gives hold what calls wrote.
-use mathlib.Core.Path.{◌≡◌, refl, sym, ap, subst, ◌∙◌}
-use mathlib.Core.Logic.{⊎_elim}
-use mathlib.Core.List.{List, [], ◌∷◌, ◌++◌, map, flat_map, append_assoc}
-use Prim.Native.Nat.{ℕ, ◌+◌, ◌-◌, ◌*◌, ◌≤◌, ◌<◌, min}
-use native.Mathlib.Nat.{add_assoc, zero-mul, sub-zero}
-use native.Mathlib.Omega.{arith}
-use lib.ListN.{length, take, drop, length-append, length-drop, length-replicate}
-use lib.Seq.{drop-drop, take-take, take-append_seam, drop-append_seam, drop-append-add, drop-append-le, take-append-le, take-length}
-use borrow.Author.Tests.{lt-ltb, le-ltb}
+use Rattle.std.proofs.Common.{◌≡◌, refl, sym, ap, subst, ◌∙◌, ⊎_elim, List, [], ◌∷◌, ◌++◌, map, append_assoc, ℕ, ◌+◌, ◌-◌, ◌*◌, ◌≤◌, ◌<◌, min, add_assoc}
+use Rattle.std.proofs.Common.{zero-mul, arith, length, take, drop, length-append, length-drop, drop-drop, take-take, lt-ltb, le-ltb}
+use mathlib.Core.List.{flat_map}
+use native.Mathlib.Nat.{sub-zero}
+use lib.ListN.{length-replicate}
+use lib.Seq.{take-append_seam, drop-append_seam, drop-append-add, drop-append-le, take-append-le, take-length}
 use Rattle.numbers.specs.Lists.{Each}
 use Rattle.numbers.proofs.Lists.{below_or}
 use Rattle.reference.specs.Refusals.{decide, accepted}

@@ -1,10 +1,5 @@
 -- One file.
-use mathlib.Core.Path.{◌≡◌, ap, ◌∙◌}
-use mathlib.Core.List.{List, [], ◌∷◌}
-use Prim.Native.Nat.{ℕ, ◌*◌, ◌%◌, ◌<◌}
-use native.Mathlib.Omega.{arith}
-use native.Mathlib.Nat.{mul_assoc}
-use lib.ListN.{length}
+use Rattle.std.proofs.Common.{◌≡◌, ap, ◌∙◌, List, [], ◌∷◌, ℕ, ◌*◌, ◌%◌, ◌<◌, arith, mul_assoc, length}
 use Rattle.reference.specs.Frames.{Run}
 use Rattle.reference.specs.Output.{samples, stats, s24le, samples_per_frame}
 use Rattle.reference.specs.Refusals.{decide, accepted}

@@ -1,9 +1,7 @@
 -- The plan, from tracks to files.
-use mathlib.Core.Path.{◌≡◌, refl, sym, ap, subst, ◌∙◌}
-use mathlib.Core.List.{List, [], ◌∷◌, ◌++◌, map, flat_map}
-use Prim.Native.Nat.{ℕ, ◌+◌, ◌-◌, ◌*◌, ◌≤◌, ◌<◌}
-use native.Mathlib.Omega.{arith}
-use lib.ListN.{length, replicate, length-replicate}
+use Rattle.std.proofs.Common.{◌≡◌, refl, sym, ap, subst, ◌∙◌, List, [], ◌∷◌, ◌++◌, map, ℕ, ◌+◌, ◌-◌, ◌*◌, ◌≤◌, ◌<◌, arith, length, replicate}
+use mathlib.Core.List.{flat_map}
+use lib.ListN.{length-replicate}
 use Rattle.numbers.specs.Lists.{Each}
 use Rattle.reference.specs.Codes.{hertz}
 use Rattle.reference.specs.Refusals.{decide, accepted}

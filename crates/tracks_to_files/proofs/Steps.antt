@@ -1,12 +1,6 @@
 -- A call of `step` that is accepted is a step.
-use mathlib.Core.Path.{◌≡◌, refl, sym, ap, ◌∙◌}
-use mathlib.Core.Bool.{true≢false}
-use mathlib.Core.List.{List}
-use Prim.Native.Nat.{ℕ, ◌+◌, ◌≤◌}
-use lib.Dec.{leb}
-use lib.ListN.{length}
-use borrow.Author.Tests.{leb-true, not-false}
-use Rattle.std.specs.Prelude.{Result, Ok, Err, IfOk}
+use Rattle.std.proofs.Common.{◌≡◌, refl, sym, ap, ◌∙◌, true≢false, List, ℕ, ◌+◌, ◌≤◌, leb, length, leb-true, Result, Ok, Err, IfOk}
+use borrow.Author.Tests.{not-false}
 use Rattle.reference.specs.Frames.{Run}
 use Rattle.reference.specs.Output.{samples, stats, s24le}
 use Rattle.reference.specs.Settings.{converter_of}

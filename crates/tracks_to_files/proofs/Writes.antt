@@ -1,12 +1,6 @@
 -- What is told of a piece's bytes are those that a file has.
-use mathlib.Core.Path.{◌≡◌, refl, sym, ap, ◌∙◌}
-use mathlib.Core.Logic.{⊎_elim}
-use mathlib.Core.List.{List, [], ◌∷◌}
-use Prim.Native.Nat.{ℕ, ◌+◌, ◌-◌, ◌≤◌, ◌<◌, min}
-use native.Mathlib.Omega.{arith}
-use lib.ListN.{length, take, drop, length-drop}
-use lib.Seq.{take_all}
-use borrow.Author.Tests.{lt-ltb}
+use Rattle.std.proofs.Common.{◌≡◌, refl, sym, ap, ◌∙◌, ⊎_elim, List, [], ◌∷◌, ℕ, ◌+◌, ◌-◌, ◌≤◌, ◌<◌, min, arith, length, take, drop, length-drop, take_all}
+use Rattle.std.proofs.Common.{lt-ltb}
 use Rattle.numbers.proofs.Lists.{below_or}
 use Rattle.text.specs.Lists.{part}
 use Rattle.tracks.specs.TracksToFiles.{HoldsAt, clip}

@@ -1,6 +1,6 @@
 -- What `ensures` says of a call of `convert_parts`, and of `convert` over the run record, is, word for word, the
 -- promise that the join theorem of files goes by.
-use mathlib.Core.Path.{◌≡◌, refl}
+use Rattle.std.proofs.Common.{◌≡◌, refl, is_some}
 use seplogic.Ra.Ura.{Ura}
 use base.Logic.{SProp}
 use prog.Memory.{Memory}
@@ -12,7 +12,6 @@ use borrow.Fn.Kinds.{Dens, res_t, ended_of}
 use denote.Triple.Entry.{Args, Res}
 use denote.Triple.Clauses.{AtExit}
 use denote.Triple.Spec.{exits}
-use Rattle.std.specs.Prelude.{is_some}
 use Rattle.reference.specs.Frames.{run, run_of}
 use Rattle.run_record.specs.Calls.{listed, left}
 use Rattle.wav.specs.Promises.{WavPromise}

@@ -1,12 +1,6 @@
 -- What the converting writer leaves, from its places and from what `convert` leaves behind the header.
-use mathlib.Core.Path.{◌≡◌, sym, ap, ◌∙◌}
-use Rattle.std.specs.Prelude.{Err}
-use mathlib.Core.List.{List, ◌++◌}
-use mathlib.Core.Bool.{Bool, false}
-use Prim.Native.Nat.{ℕ, ◌-◌, ◌*◌, ◌≤◌}
-use native.Mathlib.Omega.{arith}
-use lib.ListN.{length, take, drop, length-drop, length-append}
-use lib.Seq.{length-take-le}
+use Rattle.std.proofs.Common.{◌≡◌, sym, ap, ◌∙◌, Err, List, ◌++◌, Bool, false, ℕ, ◌-◌, ◌*◌, ◌≤◌, arith, length, take, drop, length-drop, length-append}
+use Rattle.std.proofs.Common.{length-take-le}
 use borrow.Rule.Slice.PartMut.{put_mid}
 use Rattle.numbers.proofs.Lists.{length_tabulate}
 use Rattle.reference.specs.Codes.{hertz}
@@ -23,12 +17,12 @@ use Rattle.wav_header.specs.Header.{header, most_data}
 use Rattle.wav_format.specs.Wav.{wav_file}
 use Rattle.wav_header.proofs.ThreeParts.{length_header}
 use Rattle.wav_format.proofs.Writing.{whole}
-use Rattle.wav_checks.specs.Places.{data_size, wav_places}
+use Rattle.wav_checks.specs.Places.{run_bytes, wav_places}
 use Rattle.wav_checks.proofs.Accepted.{length_of, long_enough, two_channels, rest_told, convert_takes}
 use Rattle.wav.specs.Promises.{WavPromise}
 
-pub length_data : (conv : Converter) (r : Run) → length (s24le (samples conv r)) ≡ data_size conv r
-unfolding s24le samples data_size
+pub length_data : (conv : Converter) (r : Run) → length (s24le (samples conv r)) ≡ run_bytes conv r
+unfolding s24le samples run_bytes
 length_data conv r = length_tabulate _ 0 (3 * length (samples conv r)) ∙ ap (λ (n : ℕ). 3 * n) (length_tabulate _ 0 (all_samples conv r))
 
 module _ (conv : Converter) (r : Run) (lent : Bool) (out counts : List ℕ) where
@@ -53,7 +47,7 @@ module _ (conv : Converter) (r : Run) (lent : Bool) (out counts : List ℕ) wher
     fits_header = (two_channels conv r out lent counts ok, rest_told conv r out lent counts ok, long_enough conv r out lent counts ok)
 
     -- what `convert` leaves in a part of the right length
-    module _ (part part' counts' : List ℕ) (a : Converted) (n : length part ≡ data_size conv r) (p : ConvertPromise conv r lent part counts part' counts' a) where
+    module _ (part part' counts' : List ℕ) (a : Converted) (n : length part ≡ run_bytes conv r) (p : ConvertPromise conv r lent part counts part' counts' a) where
       takes : decide (convert_places rack conv r part lent counts) ≡ accepted
       takes = convert_takes conv r out lent counts ok part n
 
@@ -81,7 +75,7 @@ module _ (conv : Converter) (r : Run) (lent : Bool) (out counts : List ℕ) wher
       pub mid_long : 44 ≤ length mid
       mid_long = omega (arith, mid_length, long_enough conv r out lent counts ok)
 
-      part_length : length (take (length mid - 44) (drop 44 mid)) ≡ data_size conv r
+      part_length : length (take (length mid - 44) (drop 44 mid)) ≡ run_bytes conv r
       part_length =
           length-take-le (length mid - 44) (drop 44 mid) (omega (arith, length-drop 44 mid))
           ∙ omega (arith, mid_length, length_of conv r out lent counts ok)

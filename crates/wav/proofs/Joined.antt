@@ -1,12 +1,7 @@
 -- Demand 3 of files, from the join theorem of calls: each file made is a call of `convert` on the part behind the
 -- header.
-use mathlib.Core.Path.{◌≡◌, refl, sym, ap, ap₂, ◌∙◌}
-use mathlib.Core.List.{List, [], ◌∷◌, ◌++◌, map, flat_map}
-use mathlib.Core.Bool.{Bool, true, false, cond}
-use Rattle.std.specs.Prelude.{Ok}
-use Prim.Native.Nat.{ℕ}
-use native.Mathlib.Omega.{arith}
-use lib.ListN.{drop, length-drop}
+use Rattle.std.proofs.Common.{◌≡◌, refl, sym, ap, ap₂, ◌∙◌, List, [], ◌∷◌, ◌++◌, map, Bool, true, false, cond, Ok, ℕ, arith, drop, length-drop}
+use mathlib.Core.List.{flat_map}
 use Rattle.reference.specs.Frames.{Run}
 use Rattle.reference.specs.Output.{samples, stats, per_frame_clips, s24le}
 use Rattle.reference.specs.Refusals.{rack, accepted, decide, is_accepted, held_places, convert_places}
@@ -18,12 +13,11 @@ use Rattle.reference.proofs.Promises.{accepted_is, exit_accepted}
 use Rattle.joins.specs.Joins.{Call, convert, right_lengths, is_answered_accepted, run_of, samples_of, read_s24le, keep, pieces, accepted_calls}
 use Rattle.joins.proofs.Bytes.{samples_back, bytes_join, no_bytes}
 use Rattle.joins.proofs.Joins.{cut_runs_join}
-use Rattle.joins.proofs.Cases.{uncut}
 use Rattle.wav_format.specs.Wav.{wav_file}
 use Rattle.wav_checks.specs.Places.{wav_places}
-use Rattle.wav.specs.Joined.{WavCall, right_call, made, data_of, file_pieces, FilesJoinTo, FilesJoin, call_file, CallFilesJoin}
+use Rattle.wav.specs.Joined.{WavCall, right_call, made, data_of, file_pieces, FilesJoin, call_file, CallFilesJoin}
 use Rattle.wav_format.proofs.Reading.{data_is}
-use Rattle.wav_checks.proofs.Accepted.{opens_of, fits_of, length_of, convert_takes}
+use Rattle.wav_checks.proofs.Accepted.{opens_of, length_of, convert_takes}
 
 -- ---- a file made is a call of `convert`
 
@@ -132,22 +126,6 @@ files_join conv r calls opens fits joins =
     }) in
     let e = joined_data calls ∙ ap s24le g.sampled in
     (e, λ whole is m. e ∙ ap (λ (x : Run). s24le (samples conv x)) (sym is) ∙ sym (data_made whole (sym (made_right whole) ∙ m)))
-
-keep_one : {A : Type 0} (p : A → Bool) (x : A) → p x ≡ true → keep p (x ∷ []) ≡ x ∷ []
-unfolding keep
-keep_one p x e = rw e
-
-no_pieces : (conv : Converter) → pieces {conv = conv} [] ≡ []
-unfolding pieces keep
-no_pieces conv = refl
-
--- a list that joins exists: an uncut run's one call
-pub uncut_file : {conv : Converter} (c : WavCall conv) → right_call c ≡ true → FilesJoinTo c.run (c ∷ [])
-unfolding file_pieces as_call step
-uncut_file {conv} c e =
-    let j = uncut (as_call c e) (record { fits = fits_of conv c.run c.out c.lent c.counts (ok c e) }) (call_right c e) in
-    let p : pieces (as_call c e ∷ []) ≡ file_pieces (c ∷ []) = step_pieces c true e [] [] (no_pieces conv) ∙ sym (ap (map (λ (w : WavCall conv). w.run)) (keep_one right_call c e)) in
-    record { bytes = rw p at j.bytes; neighbours = rw p at j.neighbours }
 
 -- ---- demand 3's own list
 

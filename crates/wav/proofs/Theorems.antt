@@ -1,10 +1,5 @@
 -- A file made from a run is read back, and the writer's promise leaves nothing free.
-use mathlib.Core.Path.{◌≡◌, sym, ap, subst, ◌∙◌}
-use mathlib.Core.List.{List}
-use mathlib.Core.Bool.{Bool}
-use Prim.Native.Nat.{ℕ, ◌*◌}
-use native.Mathlib.Omega.{arith}
-use lib.ListN.{length}
+use Rattle.std.proofs.Common.{◌≡◌, sym, ap, subst, ◌∙◌, List, Bool, ℕ, ◌*◌, arith, length}
 use Rattle.reference.specs.Frames.{Run, frame_count}
 use Rattle.reference.specs.Output.{samples_per_frame, channel_samples, all_samples, samples, s24le}
 use Rattle.reference.specs.Refusals.{rack, accepted, decide}
@@ -16,13 +11,13 @@ use Rattle.wav_format.specs.Wav.{wav_file, frame_size, Right}
 use Rattle.wav_format.specs.Promises.{ReadPromise, file_samples}
 use Rattle.wav_format.proofs.Theorems.{read_back, samples_back}
 use Rattle.wav.specs.Theorems.{ConvertedRead}
-use Rattle.wav_checks.specs.Places.{data_size, wav_places}
+use Rattle.wav_checks.specs.Places.{run_bytes, wav_places}
 use Rattle.wav.specs.Promises.{WavPromise}
 use Rattle.wav_checks.proofs.Accepted.{opens_of, fits_of, two_channels, data_told}
 use Rattle.wav.proofs.Converting.{length_data}
 
-in_frames : (conv : Converter) (r : Run) → data_size conv r ≡ frame_count conv.channels r.frames * frame_size conv.rate conv.channels
-unfolding data_size all_samples channel_samples frame_size
+in_frames : (conv : Converter) (r : Run) → run_bytes conv r ≡ frame_count conv.channels r.frames * frame_size conv.rate conv.channels
+unfolding run_bytes all_samples channel_samples frame_size
 in_frames conv r = regroup (frame_count conv.channels r.frames) (samples_per_frame conv.rate) conv.channels
   where
     regroup : (f p c : ℕ) → 3 * (f * p * c) ≡ f * (3 * p * c)

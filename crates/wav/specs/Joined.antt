@@ -1,6 +1,6 @@
 -- Demand 3 of files: the data of the pieces end to end is the data of the whole file.
-use Rattle.std.specs.Prelude.{◌≡◌, Bool, true, ℕ, drop}
-use mathlib.Core.List.{List, map, flat_map}
+use Rattle.std.specs.Prelude.{◌≡◌, Bool, true, ℕ, drop, List, map}
+use mathlib.Core.List.{flat_map}
 use Rattle.reference.specs.Frames.{Run, sequence}
 use Rattle.reference.specs.Refusals.{decision, decide, is_accepted}
 use Rattle.reference.specs.Promises.{Converted}

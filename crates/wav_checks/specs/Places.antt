@@ -12,15 +12,15 @@ unfoldable pub too_large : ℕ → ℕ → Place
 too_large channels n = place (not (leb channels 2 && leb n most_data)) 12 []
 
 -- bytes of a run's data
-unfoldable pub data_size : Converter → Run → ℕ
-data_size conv r = sample_bytes * all_samples conv r
+unfoldable pub run_bytes : Converter → Run → ℕ
+run_bytes conv r = sample_bytes * all_samples conv r
 
 module _ (conv : Converter) (r : Run) (out : List ℕ) (lent : Bool) (counts : List ℕ) where
   unfoldable pub wav_lengths : List Place
   wav_lengths =
-      lent_length 7 (length out) (44 + data_size conv r)
+      lent_length 7 (length out) (44 + run_bytes conv r)
       ∷ (if_present lent (lent_length 8 (length counts) (frame_count conv.channels r.frames))
-      ++ (too_large conv.channels (data_size conv r) ∷ []))
+      ++ (too_large conv.channels (run_bytes conv r) ∷ []))
 
   unfoldable pub wav_places : List Place
   wav_places = held_places conv ++ (input_places rack conv r ++ wav_lengths)

@@ -1,15 +1,9 @@
 -- The reader takes exactly the files of the definition, and tells their rate and channels.
-use mathlib.Core.Path.{◌≡◌, refl, sym, ap, subst, ◌∙◌}
-use mathlib.Core.List.{List, [], ◌++◌}
-use mathlib.Core.Bool.{Bool, true, false, not, ◌||◌}
-use mathlib.Core.Logic.{◌⊎◌, inl, inr, ⊎_elim}
-use Prim.Native.Nat.{ℕ, zero, suc, ◌+◌, ◌-◌, ◌/◌, ◌%◌, ◌≤◌, ◌<◌}
-use native.Mathlib.Nat.{div-add-mod', mul-mod_left, mul-div_left}
-use native.Mathlib.Omega.{arith}
-use borrow.Author.Tests.{eqb-true, leb-true, le-leb, not-false}
-use lib.Dec.{eqb, leb}
-use lib.ListN.{length, get_or, take, drop, take-append-drop, length-append, length-drop}
-use lib.Seq.{take_at, drop_at, get_or-take}
+use Rattle.std.proofs.Common.{◌≡◌, refl, sym, ap, subst, ◌∙◌, List, [], ◌++◌, Bool, true, false, not, ◌||◌, ◌⊎◌, inl, inr, ⊎_elim, ℕ, zero, suc, ◌+◌, ◌-◌, ◌/◌}
+use Rattle.std.proofs.Common.{◌%◌, ◌≤◌, ◌<◌, div-add-mod', arith, eqb-true, leb-true, le-leb, eqb, leb, length, get_or, take, drop, take-append-drop}
+use Rattle.std.proofs.Common.{length-append, length-drop, take_at, drop_at, get_or-take, Ok, Err}
+use native.Mathlib.Nat.{mul-mod_left, mul-div_left}
+use borrow.Author.Tests.{not-false}
 use Rattle.text.specs.Text.{text, joined}
 use Rattle.reference.specs.Codes.{hertz}
 use Rattle.reference.specs.Output.{samples_per_frame}
@@ -25,7 +19,6 @@ use Rattle.wav_format.specs.Wav.{wav_file, frame_size, Right, Taken, right_data,
 use Rattle.wav_format.specs.Places.{at_rate, takes, read_places}
 use Rattle.wav_format.specs.Promises.{ReadPromise}
 use Rattle.wav_format.specs.inner.Deciding.{rate_of_byte, channels_of}
-use Rattle.std.specs.Prelude.{Ok, Err}
 use Rattle.text.specs.Lists.{same}
 use Rattle.text.proofs.Same.{and_left, and_right, and_not, and_false, and_both, no_true, same_self, same_is}
 

@@ -1,10 +1,6 @@
 -- Files written and read: the reader takes exactly the files of the definition, what is written is read back, what is
 -- read is written back; and a promise leaves nothing free.
-use mathlib.Core.Path.{◌≡◌, refl, sym, ap, subst, ◌∙◌}
-use mathlib.Core.List.{List}
-use mathlib.Core.Bool.{true}
-use Prim.Native.Nat.{ℕ, ◌+◌}
-use lib.ListN.{length, drop}
+use Rattle.std.proofs.Common.{◌≡◌, refl, sym, ap, subst, ◌∙◌, List, true, ℕ, ◌+◌, length, drop, Result, Ok, Err}
 use Rattle.reference.specs.Refusals.{accepted, decide}
 use Rattle.reference.specs.declared.PcmRate.{PcmRate}
 use Rattle.reference.specs.declared.PcmError.{PcmError}
@@ -14,7 +10,6 @@ use Rattle.wav_format.specs.Wav.{wav_file, Right, Taken, right_data}
 use Rattle.wav_format.specs.Places.{write_places}
 use Rattle.wav_format.specs.Promises.{ReadPromise, file_samples, WritePromise}
 use Rattle.wav_format.specs.declared.WavFormat.{WavFormat}
-use Rattle.std.specs.Prelude.{Result, Ok, Err}
 use Rattle.wav_format.proofs.Reading.{right_of, right_is, takes_taken, taken_takes, of_file, data_is, length_file, read_accepts, accepts_read, read_refuses, tells}
 use Rattle.wav_format.proofs.Writing.{samples_there, accepted_right, writes}
 

@@ -1,13 +1,7 @@
 -- The sample bytes of a file, and what the second entry's places decide.
-use mathlib.Core.Path.{◌≡◌, sym, ap, ◌∙◌}
-use mathlib.Core.List.{List, [], ◌∷◌, ◌++◌, append-nil}
-use mathlib.Core.Bool.{true, false, not}
-use mathlib.Core.Logic.{◌≢◌}
-use Prim.Native.Nat.{ℕ, ◌+◌, ◌-◌}
-use native.Mathlib.Omega.{arith}
-use borrow.Author.Tests.{eq-eqb, ne_eqb, not-false}
-use lib.ListN.{length, take, drop, length-drop, drop_of_length-le}
-use lib.Seq.{take_at}
+use Rattle.std.proofs.Common.{◌≡◌, sym, ap, ◌∙◌, List, [], ◌∷◌, ◌++◌, append-nil, true, false, not, ◌≢◌, ℕ, ◌+◌, ◌-◌, arith, eq-eqb, ne_eqb, length, take, drop}
+use Rattle.std.proofs.Common.{length-drop, drop_of_length-le, take_at, Ok, Err}
+use borrow.Author.Tests.{not-false}
 use borrow.Rule.Slice.PartMut.{put_mid, post_of}
 use Rattle.reference.specs.Refusals.{Decision, accepted, refused, decide, is_accepted, lent_length}
 use Rattle.reference.specs.declared.PcmRate.{PcmRate}
@@ -19,7 +13,6 @@ use Rattle.wav_format.specs.Places.{takes, write_places}
 use Rattle.wav_format.specs.Promises.{ReadPromise, file_samples, WritePromise}
 use Rattle.wav_format.specs.declared.WavFormat.{WavFormat}
 use Rattle.reference.specs.declared.PcmError.{PcmError}
-use Rattle.std.specs.Prelude.{Ok, Err}
 use Rattle.wav_format.proofs.Reading.{read_accepts, accepts_read}
 
 -- ---- the sample bytes of a file

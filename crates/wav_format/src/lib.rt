@@ -1,7 +1,7 @@
 // WAV files: read, and made from sample bytes. Neither call asks anything.
 #![tactic(auto)]
 
-ghost use Rattle.std.specs.Prelude.{◌≡◌, ◌++◌, ◌+◌, ◌*◌, ◌-◌, ◌≤◌, ◌<◌, length, take, drop};
+ghost use Rattle.std.specs.Prelude.{◌≡◌, ◌+◌, ◌*◌, ◌-◌, ◌≤◌, ◌<◌, length, take};
 ghost use Rattle.text.specs.Lists.{same};
 ghost use Rattle.reference.specs.Codes as codes;
 ghost use Rattle.wav_format.specs.Wav as wav;

@@ -1,9 +1,5 @@
 -- The header, and how it is made of its three parts.
-use mathlib.Core.Path.{◌≡◌, refl, ap, ◌∙◌}
-use mathlib.Core.List.{List, ◌++◌}
-use Prim.Native.Nat.{ℕ, ◌+◌}
-use lib.ListN.{length, drop}
-use lib.Seq.{drop-drop}
+use Rattle.std.proofs.Common.{◌≡◌, refl, ap, ◌∙◌, List, ◌++◌, ℕ, ◌+◌, length, drop, drop-drop}
 use borrow.Rule.Slice.PartMut.{put_mid}
 use Rattle.text.specs.Text.{text, joined}
 use Rattle.reference.specs.Codes.{hertz}

@@ -1,10 +1,7 @@
 -- What a kind holds, and how many channels have loudspeakers.
-use mathlib.Core.Path.{◌≡◌, refl, sym, ◌∙◌}
-use mathlib.Core.Bool.{Bool, true, false, cond, ◌&&◌}
-use Prim.Native.Nat.{ℕ, ◌≤◌}
-use native.Mathlib.Omega.{arith}
-use Rattle.std.specs.Prelude.{List, [], ◌∷◌, eqb, leb, length, sum}
-use borrow.Author.Tests.{leb-true, leb-false, le-leb, lt-leb, eqb-true}
+use Rattle.std.proofs.Common.{◌≡◌, refl, sym, ◌∙◌, Bool, true, false, cond, ◌&&◌, ℕ, ◌≤◌, arith, List, [], ◌∷◌, eqb, leb, length, sum, leb-true, leb-false}
+use Rattle.std.proofs.Common.{le-leb, eqb-true}
+use borrow.Author.Tests.{lt-leb}
 use Rattle.wave_headers.specs.Speakers.{loudspeakers, rising, InMaskOrder}
 use Rattle.wave_headers.specs.Headers.{pad, riff_size}
 use Rattle.wave_headers.specs.Choice.{most_of_kind, holds, kind_of, few_for, placed, whole_samples, writable}

@@ -1,13 +1,9 @@
 -- Laws of the headers: the plain one is wav_header's, lengths, what a reader finds in the fields, what is accepted.
-use mathlib.Core.Path.{◌≡◌, refl, sym, ap, ◌∙◌}
-use mathlib.Core.List.{List, [], ◌∷◌, append-nil}
-use mathlib.Core.Bool.{Bool, true, false, cond, not, ◌&&◌}
-use Prim.Native.Nat.{ℕ, ◌+◌, ◌-◌, ◌*◌, ◌%◌, ◌^◌, ◌≤◌, ◌<◌}
-use native.Mathlib.Nat.{mul-le-mul, mul-div_cancel, mul-mod_left, div-le_self}
-use native.Mathlib.Omega.{arith}
-use lib.ListN.{length, replicate, length-append, length-replicate}
-use borrow.Author.Tests.{le-leb, eq-eqb, not-false}
-use Rattle.std.specs.Prelude.{leb}
+use Rattle.std.proofs.Common.{◌≡◌, refl, sym, ap, ◌∙◌, List, [], ◌∷◌, append-nil, Bool, true, false, cond, not, ◌&&◌, ℕ, ◌+◌, ◌-◌, ◌*◌, ◌%◌, ◌^◌, ◌≤◌, ◌<◌}
+use Rattle.std.proofs.Common.{mul-le-mul, mul-div_cancel, div-le_self, arith, length, replicate, length-append, le-leb, eq-eqb, leb}
+use native.Mathlib.Nat.{mul-mod_left}
+use lib.ListN.{length-replicate}
+use borrow.Author.Tests.{not-false}
 use Rattle.text.specs.Text.{text, joined}
 use Rattle.text.specs.Bytes.{bytes, number_of, number_at}
 use Rattle.text.proofs.Bytes.{number_bytes}

@@ -1,7 +1,5 @@
 -- A header of its parts.
-use mathlib.Core.Path.{◌≡◌, refl}
-use mathlib.Core.List.{List, ◌++◌}
-use Prim.Native.Nat.{ℕ}
+use Rattle.std.proofs.Common.{◌≡◌, refl, List, ◌++◌, ℕ}
 use Rattle.text.specs.Text.{text, joined, with_text}
 use Rattle.text.specs.Bytes.{bytes}
 use Rattle.wav_header.specs.inner.Parts as parts

@@ -1,12 +1,5 @@
 -- A header written, or refused.
-use mathlib.Core.Path.{◌≡◌, refl, sym, ap, ◌∙◌}
-use mathlib.Core.List.{List}
-use mathlib.Core.Bool.{true, false, not}
-use Prim.Native.Nat.{ℕ, ◌≤◌}
-use native.Mathlib.Nat.{zero-add}
-use native.Mathlib.Omega.{arith}
-use lib.ListN.{length}
-use Rattle.std.specs.Prelude.{Ok, Err, []}
+use Rattle.std.proofs.Common.{◌≡◌, refl, sym, ap, ◌∙◌, List, true, false, not, ℕ, ◌≤◌, zero-add, arith, length, Ok, Err, []}
 use Rattle.text.specs.Text.{text, joined, with_text}
 use Rattle.text.specs.Bytes.{bytes}
 use Rattle.reference.specs.Codes.{hertz}

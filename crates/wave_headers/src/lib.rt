@@ -2,9 +2,7 @@
 // for data past 32 bits RF64 with the format of either. The definitions are in specs/.
 #![tactic(auto)]
 
-ghost use Rattle.std.specs.Prelude.{◌≡◌, ◌+◌, ◌*◌, ◌≤◌, length};
-ghost use Rattle.text.specs.Text.{joined};
-ghost use Rattle.text.specs.inner.Writing.{Prints};
+ghost use Rattle.std.specs.Prelude.{◌≡◌, ◌*◌, length};
 ghost use Rattle.wave_headers.specs.Speakers as speakers;
 ghost use Rattle.wave_headers.specs.Headers as headers;
 ghost use Rattle.wave_headers.specs.Choice as choice;

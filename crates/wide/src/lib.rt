@@ -27,7 +27,7 @@ pub fn wide176(tables: &[i32], h: &[i64], bytes: &[u8], buffers: &mut Buffers, y
     stages::halved(
         h,
         &buffers.x[..400],
-        &mut buffers.lifted,
+        &mut buffers.biased,
         &mut buffers.second,
         y,
     );
@@ -45,6 +45,6 @@ pub fn wide352(tables: &[i32], h: &[i64], bytes: &[u8], buffers: &mut Buffers, y
         → Held (pos 0) (y_wide Hz352800 β) n 336 y.new × Held (pos 0) (u S1_WIDE β) (n + 336 - 60) 120 buffers.new.x }
 {
     buffers.bring_u(tables, bytes, 120, 336);
-    filters::fir1(y, h, &buffers.x[..456], &mut buffers.lifted);
+    filters::fir1(y, h, &buffers.x[..456], &mut buffers.biased);
     buffers.move_on(336, 120);
 }

@@ -1,21 +1,11 @@
 -- What is bound once a call: the taps in the front of their array, the tables of a route, and what makes a run ready.
-use mathlib.Core.Path.{◌≡◌, ◌∙◌, ap₂}
-use mathlib.Core.List.{List, ◌++◌, append_assoc}
-use Prim.Native.Nat.{ℕ, ◌+◌, ◌-◌, ◌*◌, ◌/◌}
-use native.Mathlib.Omega.{arith}
+use Rattle.std.proofs.Common.{◌≡◌, ◌∙◌, ap₂, List, ◌++◌, append_assoc, ℕ, ◌+◌, ◌-◌, ◌*◌, ◌/◌, arith, ℤ, length, take, length-append, take_at}
 use borrow.Rule.Slice.PartMut.{put_mid}
-use lib.IntN.{ℤ}
-use lib.ListN.{length, take, length-append}
-use lib.Seq.{take_at}
 use Rattle.numbers.specs.Sums.{at0}
 use Rattle.lanes.specs.inner.Lanes.{Filled}
 use Rattle.filters.proofs.Signals.{is_even, is_odd}
-use Rattle.routes.specs.inner.Routes.{FirstTables, last_of, halves_of, lent_taps}
-use mathlib.Core.Logic.{◌⊎◌, inl, inr}
-use Rattle.reference.specs.Taps.{S1}
-use Rattle.reference.specs.declared.Cutoff.{Cutoff}
-use Rattle.reference.specs.declared.Cutoff.TheVariants.{Standard, Low}
-use Rattle.tables.specs.Tables.{ByteTables}
+use Rattle.routes.specs.declared.Route.{Route}
+use Rattle.routes.specs.inner.Routes.{route_of, FirstTables, last_of, halves_of, lent_taps}
 use Rattle.reference.specs.declared.Converter.{Converter}
 use Rattle.blocks.specs.inner.Blocks.{Ready}
 use Rattle.workspace.specs.inner.Accepted.{Accepted}
@@ -31,12 +21,7 @@ halves_bound f rest e {new = new} {new' = new'} is g a g' b =
     rw (take_at new rest e long, ← append_assoc)
     (take_at (new ++ new') _ (length f) (omega (arith, length-append new new')) ∙ ap₂ (λ a b. a ++ b) (is_even f g (a ∙ is)) (is_odd f g' (b ∙ omega arith)))
 
--- the tables of Standard and Low
-pub narrow_tables : (cutoff : Cutoff) (tables : List ℤ) → (cutoff ≡ Standard) ⊎ (cutoff ≡ Low) → ByteTables S1 8 tables → FirstTables cutoff tables
-unfolding FirstTables
-narrow_tables cutoff tables is t = elim is [ inl e ↦ rw e t | inr e ↦ rw e t ]
-
 -- the tables and the taps that are bound are the route's
-pub made_ready : {conv : Converter} {n : ℕ} {b f a : List ℕ} {tables taps : List ℤ} → Accepted conv n b f a
-    → FirstTables conv.cutoff tables → taps ≡ lent_taps conv.rate conv.cutoff (last_of conv) → Ready conv n b f a tables taps
-made_ready x t e = record { slices = x.slices; first = t; last = record { last = x.last; lent = e }; factor = x.factor }
+pub made_ready : {conv : Converter} {route : Route} {n : ℕ} {b f a : List ℕ} {tables taps : List ℤ} → Accepted conv n b f a → route ≡ route_of conv.rate conv.cutoff
+    → FirstTables route tables → taps ≡ lent_taps route (last_of conv) → Ready conv route n b f a tables taps
+made_ready x is t e = record { slices = x.slices; routed = record { is = is; supported = x.supported }; first = t; last = record { last = rw is x.last; lent = e }; factor = x.factor }

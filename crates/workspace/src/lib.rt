@@ -2,7 +2,6 @@
 #![tactic(auto)]
 
 ghost use Rattle.std.specs.Prelude.{◌≡◌, ◌*◌, ◌≤◌, length};
-ghost use Rattle.reference.specs.Stages.{taps_of};
 ghost use Rattle.reference.specs.Output.{samples_per_frame};
 ghost use Rattle.channel_bytes.specs.inner.Runs.{slices_run};
 ghost use Rattle.routes.specs.inner.Routes.{last_of, halves_of, lent_taps};
@@ -15,6 +14,7 @@ use blocks::Job;
 use channel_bytes::Slices;
 use output::Place;
 use reference::{ConvertStats, Converter, Cutoff, Filter, PcmRate};
+use routes::Route;
 
 mod taps;
 
@@ -46,29 +46,26 @@ fn halves(f: &[i32]) -> Taps
 
 // The taps as the route's function takes them.
 #[tactic(auto, unfolding(routes::specs::inner::Routes::lent_taps))]
-fn lent(rate: PcmRate, cutoff: Cutoff, f: &[i32]) -> Taps
+fn lent(route: Route, f: &[i32]) -> Taps
     requires { length f.now ≤ 117 }
-    ensures { bound result ≡ lent_taps rate cutoff f.now }
+    ensures { bound result ≡ lent_taps route f.now }
 {
-    match (rate, cutoff) {
-        (PcmRate::Hz88200, _) | (PcmRate::Hz176400, Cutoff::Wide) => halves(f),
-        _ => plain(f),
+    match route {
+        Route::Narrow88 | Route::Wide176 => halves(f),
+        Route::Narrow176 | Route::Narrow352 | Route::Wide352 => plain(f),
     }
 }
 
 // The taps of a route's last filter. Wide at 88,200 is refused before.
 #[tactic(auto, using(reference::proofs::Filters::built_in_taps), unfolding(routes::specs::inner::Routes::last_taps))]
-fn last_taps(conv: &Converter) -> Taps
-    ensures { bound result ≡ lent_taps conv.now.rate conv.now.cutoff (last_of conv.now) }
+fn last_taps(conv: &Converter, route: Route) -> Taps
+    ensures { bound result ≡ lent_taps route (last_of conv.now) }
 {
-    let rate = conv.rate;
-    let cutoff = conv.cutoff;
-    match (cutoff, rate) {
-        (Cutoff::Standard, _) => lent(rate, cutoff, conv.filter.taps()),
-        (Cutoff::Low, _) => lent(rate, cutoff, &tables::f30()),
-        (Cutoff::Wide, PcmRate::Hz176400) => lent(rate, cutoff, &tables::f80()),
-        (Cutoff::Wide, PcmRate::Hz88200) => lent(rate, cutoff, Filter::built_in().taps()),
-        (Cutoff::Wide, PcmRate::Hz352800) => lent(rate, cutoff, Filter::built_in().taps()),
+    match (conv.cutoff, conv.rate) {
+        (Cutoff::Standard, _) => lent(route, conv.filter.taps()),
+        (Cutoff::Low, _) => lent(route, &tables::f30()),
+        (Cutoff::Wide, PcmRate::Hz176400) => lent(route, &tables::f80()),
+        (Cutoff::Wide, _) => lent(route, Filter::built_in().taps()),
     }
 }
 
@@ -85,24 +82,27 @@ pub fn convert_slices<'a, P: Place>(
     requires few { length counts.old ≤ slices.count }
     ensures { Ran P.layout conv (slices_run slices.entry) result out.new counts.old counts.new }
 {
-    let bound = last_taps(&conv);
+    let route = Route::new(conv.rate, conv.cutoff);
+    let bound = last_taps(&conv, route);
     let taps = bound.as_slice();
-    match conv.cutoff {
-        Cutoff::Standard | Cutoff::Low => {
+    match route {
+        Route::Narrow88 | Route::Narrow176 | Route::Narrow352 => {
             let tables = tables::s1_tables();
             let job = Job {
                 conv,
                 slices,
+                route,
                 tables: &tables,
                 taps,
             };
             runs::every(&job, out, counts)
         }
-        Cutoff::Wide => {
+        Route::Wide176 | Route::Wide352 => {
             let tables = tables::s1_wide_tables();
             let job = Job {
                 conv,
                 slices,
+                route,
                 tables: &tables,
                 taps,
             };

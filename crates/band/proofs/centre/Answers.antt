@@ -1,7 +1,6 @@
-use Rattle.std.proofs.Common.{rules, arith, ◌+◌}
-use Rattle.filters.specs.inner.Lifts.{lifted}
-use Rattle.lanes.proofs.Places.{written_more}
-use Rattle.band.proofs.Bands.{written_hold}
+use Rattle.std.proofs.Common.{rules, arith, refl, ◌+◌}
+use Rattle.filters.specs.inner.Biases.{biased}
+use Rattle.numbers.proofs.Lists.{written_more}
 use Rattle.band.proofs.centre.Goals as goal
 
 pub halved-requires : goal.halved-requires
@@ -10,9 +9,9 @@ halved-requires g c =
     search rules
 
 pub loop-l-preserved : goal.loop-l-preserved
-unfolding lifted
+unfolding biased
 loop-l-preserved g c =
-    (search rules, written_more c.loop-l.invariant.1 (omega arith) (omega arith) (search rules) (omega arith))
+    (search rules, written_more c.loop-l.invariant.1 refl (λ j m. omega arith) (omega arith) (search rules))
 
 pub returns : goal.returns
-returns g c = written_hold c.loop-l.invariant.1 (omega arith)
+returns g c = record { is = λ l m. c.loop-l.invariant.1.done l (omega arith) }

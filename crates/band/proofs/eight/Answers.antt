@@ -2,7 +2,7 @@
 -- them.
 use Rattle.std.proofs.Common.{rules, arith, ◌≡◌, ◌+◌, ◌-◌, ◌*◌, ◌^◌, ◌≤◌, ◌<◌, ℕ, List, true, false, get_or, refl, ◌∙◌}
 use Rattle.reference.specs.Taps.{HB}
-use Rattle.lanes.specs.inner.Lanes.{raised, Lanes}
+use Rattle.lanes.specs.inner.Lanes.{copied, Lanes}
 use Rattle.lanes.proofs.Places.{added_then}
 use Rattle.filters.specs.inner.Filters.{odd_taps}
 use Rattle.band.specs.inner.Bands.{odd_sizes}
@@ -53,7 +53,7 @@ returns g c =
     let b = c.args.band in
     let i = c.args.i in
     let h = odd_taps HB in
-    let s = raised b.v.now in
+    let s = copied b.v.now in
     added_then (added_then (added_then c.two-a.ensures c.two-b.ensures (λ l. refl)) c.two-c.ensures (λ l. refl)) c.two.ensures
     (λ l. four
     (two_is h s i l 0 (i + 5) (i + 8) (rw b.odd (in_turn 0 (omega arith))) (rw b.odd (in_turn 2 (omega arith))) (omega arith) (omega arith))

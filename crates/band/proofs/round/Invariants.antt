@@ -1,7 +1,7 @@
-use Rattle.std.proofs.Common.{◌+◌, ◌-◌}
-use Rattle.lanes.specs.inner.Lanes.{Written}
-use Rattle.filters.specs.inner.Lifts.{rounded}
+use Rattle.std.proofs.Common.{◌+◌, pos}
+use Rattle.numbers.specs.inner.Lists.{Written}
+use Rattle.filters.specs.inner.Biases.{rounded}
 use Rattle.band.proofs.round.Given as goal
 
 abbrev pub invariant-loop-l : goal.invariant-loop-l
-invariant-loop-l g l = Written (λ k. rounded g.row.Q l.s (k - l.i)) l.i (l.i + l.l) l.initial.y l.y
+invariant-loop-l g l = Written (pos 0) (λ k. l.i + k) (rounded g.row.Q l.s) l.l l.initial.y l.y

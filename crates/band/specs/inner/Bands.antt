@@ -1,10 +1,9 @@
 -- The half band: its taps by sign and size, and its sums.
 use Rattle.std.specs.Prelude.{◌≡◌, List, map, Bool, cond, ℕ, ◌+◌, ◌-◌, ◌^◌, ◌≤◌, ◌<◌, ℤ, pos, neg_ℤ, nat_abs, ◌+ℤ◌, ◌*ℤ◌}
-use Rattle.numbers.specs.Sums.{at0}
 use Rattle.reference.specs.Taps.{HB}
-use Rattle.lanes.specs.inner.Lanes.{raised, arms}
+use Rattle.lanes.specs.inner.Lanes.{copied, arms}
 use Rattle.filters.specs.inner.Filters.{odd_taps}
-use Rattle.filters.specs.inner.Lifts.{lifted}
+use Rattle.filters.specs.inner.Biases.{biased}
 
 -- the sizes of the half band's odd taps
 unfoldable pub odd_sizes : List ℕ
@@ -14,13 +13,9 @@ odd_sizes = map nat_abs (odd_taps HB)
 unfoldable pub signed : Bool → ℕ → ℤ
 signed minus n = cond minus (neg_ℤ (pos n)) (pos n)
 
--- L lanes hold f
-pub record Hold (L : ℕ) (f : ℕ → ℤ) (s : List ℤ) : Type 0 where
-  pub is : (l : ℕ) → l < L → at0 s l ≡ f l
-
 -- the half band's sum at place k: the centre over y, the odd taps over the copy
 unfoldable pub band_sum : List ℤ → List ℕ → ℕ → ℤ
-band_sum y v k = pos 8388608 *ℤ lifted y k +ℤ arms (odd_taps HB) (raised v) 0 (8 + k - 1) (8 + k) 8
+band_sum y v k = pos 8388608 *ℤ biased y k +ℤ arms (odd_taps HB) (copied v) 0 (8 + k - 1) (8 + k) 8
 
 -- of the sums from place i to n - 1 none is negative, or over 2^54
 pub record Whole (S : ℕ → ℤ) (i n : ℕ) : Type 0 where

@@ -5,16 +5,18 @@ use Rattle.reference.specs.Output.{unclamped, sample}
 use Rattle.reference.specs.declared.Converter.{Converter}
 use Rattle.reference.specs.declared.ChannelStats.{ChannelStats}
 use Rattle.channel_bytes.specs.inner.Lent.{Lent}
-use Rattle.routes.specs.inner.Routes.{FirstTables, RouteTaps, last_of}
+use Rattle.routes.specs.declared.Route.{Route}
+use Rattle.routes.specs.inner.Routes.{Routed, FirstTables, RouteTaps, last_of}
 use Rattle.gain.specs.Scale.{bounded}
 use Rattle.gain.specs.Tallies.{tally}
 use Rattle.output.specs.inner.Fills.{Layout, Drawn}
 
--- an accepted converter, the slices of a run of `count` frames, and the tables and taps of the converter's route
-pub record Ready (conv : Converter) (count : ℕ) (b f a : List ℕ) (tables taps : List ℤ) : Type 0 where
+-- an accepted converter with its route, the slices of a run of `count` frames, and the route's tables and taps
+pub record Ready (conv : Converter) (route : Route) (count : ℕ) (b f a : List ℕ) (tables taps : List ℤ) : Type 0 where
   pub slices : Lent conv.channels count b f a
-  pub first : FirstTables conv.cutoff tables
-  pub last : RouteTaps conv.rate conv.cutoff (last_of conv) taps
+  pub routed : Routed conv route
+  pub first : FirstTables route tables
+  pub last : RouteTaps route (last_of conv) taps
   pub factor : T (bounded conv.gain.linear)
 
 -- m samples of channel c from sample n on, written to the output, and what they tell. S is any signal that has these

@@ -1,5 +1,5 @@
 -- `albums_in_range`: one album out of range is enough.
-use mathlib.Core.Path.{refl, sym, ◌∙◌}
+use Rattle.std.proofs.Common.{refl, sym, ◌∙◌}
 use Rattle.numbers.specs.Tests.{each_below}
 use Rattle.boards.specs.Boards.{board}
 use Rattle.boards.proofs.Ranges.{each, one_out, one_more}

@@ -1,6 +1,5 @@
 -- So far the albums 0, …, a - 1 are in range.
-use mathlib.Core.Path.{◌≡◌}
-use mathlib.Core.Bool.{true}
+use Rattle.std.proofs.Common.{◌≡◌, true}
 use Rattle.numbers.specs.Tests.{each_below}
 use Rattle.boards.specs.Boards.{board}
 use Rattle.boards.proofs.Ranges.{each}

@@ -1,5 +1,4 @@
-use Rattle.std.proofs.Common.{sym}
-use mathlib.Core.Path.{subst}
+use Rattle.std.proofs.Common.{sym, subst}
 use Rattle.sheet.specs.Promises.{SheetPromise}
 use Rattle.codes.proofs.Known.{some_known}
 use Rattle.codes.proofs.Calls.{done_so}

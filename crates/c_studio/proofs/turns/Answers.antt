@@ -1,6 +1,5 @@
 -- `turns`: what the simulation has done.
-use Rattle.std.proofs.Common.{ap}
-use borrow.Author.Tests.{eq-eqb}
+use Rattle.std.proofs.Common.{ap, eq-eqb}
 use Rattle.codes.specs.declared.Answer.{Answer}
 use Rattle.codes.proofs.Calls.{both_hold, done_so}
 use Rattle.c_studio.proofs.Done.{turns_done}

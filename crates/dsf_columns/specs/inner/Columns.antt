@@ -1,21 +1,9 @@
 -- How a channel of a frame is put together; no part of a promise.
-use Rattle.std.specs.Prelude.{◌≡◌, List, cond, ◌≢◌, ℕ, ◌+◌, ◌-◌, ◌*◌, ◌/◌, ◌≤◌, ◌<◌, ◌^◌, ltb, length, get_or}
+use Rattle.std.specs.Prelude.{◌≡◌, List, cond, ℕ, ◌+◌, ◌-◌, ◌*◌, ◌/◌, ◌≤◌, ◌<◌, ◌^◌, ltb, get_or}
 use Rattle.reference.specs.Frames.{frame_bytes, frame_length, idle}
 use Rattle.dsf.specs.Dsf.{block, blocks, data_place}
 use Rattle.dsf.specs.inner.Orders.{ordered}
 use Rattle.dsf.specs.declared.BitOrder.{BitOrder}
-
--- n places, from `at` on at a stride, hold f 0, …, f (n - 1), and every other what it held
-pub record Strided (f : ℕ → ℕ) (at stride n : ℕ) (old new : List ℕ) : Type 0 where
-  pub same : length new ≡ length old
-  pub done : (i : ℕ) → i < n → get_or new (at + i * stride) 0 ≡ f i
-  pub kept : (j : ℕ) → ((i : ℕ) → i < n → j ≢ at + i * stride) → get_or new j 0 ≡ get_or old j 0
-
--- m bytes of channel c of n are those of f, and the other channels' what they were
-pub record Column (n c m : ℕ) (f : ℕ → ℕ) (old new : List ℕ) : Type 0 where
-  pub same : length new ≡ length old
-  pub done : (k : ℕ) → k < m → get_or new (k * n + c) 0 ≡ f k
-  pub kept : (k d : ℕ) → d < n → d ≢ c → get_or new (k * n + d) 0 ≡ get_or old (k * n + d) 0
 
 -- byte k of channel c from `first` on, with the data up to `end`; each byte through a table
 unfoldable pub column_byte : List ℕ → List ℕ → ℕ → ℕ → ℕ → ℕ → ℕ → ℕ → ℕ

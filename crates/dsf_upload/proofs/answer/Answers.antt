@@ -1,5 +1,4 @@
-use Rattle.std.proofs.Common.{◌≡◌, false, take, ◌+◌, sym, ap, ◌∙◌, add-one, arith}
-use lib.Seq.{length-take-le}
+use Rattle.std.proofs.Common.{◌≡◌, false, take, ◌+◌, sym, ap, ◌∙◌, add-one, arith, length-take-le}
 use Rattle.dsf.specs.Dsf.{stated_length}
 use Rattle.dsf_upload.specs.Deciding.{head_hopeful, hopeful}
 use Rattle.dsf.proofs.Alike.{T_is, T_of, F_of}

@@ -1,5 +1,4 @@
-use Rattle.std.proofs.Common.{◌≡◌, sym, arith}
-use lib.Seq.{length-take-le}
+use Rattle.std.proofs.Common.{◌≡◌, sym, arith, length-take-le}
 use Rattle.dsf_upload.specs.Uploads.{known}
 use Rattle.dsf_upload.proofs.Beginnings.{short_known, long_known}
 use Rattle.dsf_upload.proofs.give_up_header.Goals as goal

@@ -1,8 +1,5 @@
 -- `finish`: the turns are counted album by album.
-use mathlib.Core.Path.{◌≡◌, refl, sym, ◌∙◌, ap}
-use Prim.Native.Nat.{◌+◌}
-use native.Mathlib.Omega.{arith}
-use lib.ListN.{length}
+use Rattle.std.proofs.Common.{◌≡◌, refl, sym, ◌∙◌, ap, ◌+◌, arith, length}
 use Rattle.numbers.specs.Lists.{total}
 use Rattle.boards.specs.Boards.{board}
 use Rattle.finishes.proofs.DueFirst.{counted, passed}

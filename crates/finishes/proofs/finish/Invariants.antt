@@ -1,6 +1,5 @@
 -- So far the turns of the albums 0, …, b - 1 that go no later are counted.
-use Prim.Native.Nat.{◌*◌, ◌≤◌}
-use mathlib.Core.Path.{◌≡◌}
+use Rattle.std.proofs.Common.{◌*◌, ◌≤◌, ◌≡◌}
 use Rattle.numbers.specs.Lists.{total}
 use Rattle.boards.specs.Boards.{board}
 use Rattle.finishes.proofs.DueFirst.{ahead}

@@ -1,14 +1,13 @@
-use Rattle.std.proofs.Common.{arith, ◌≡◌, ◌+◌, ◌*◌, ap, ◌∙◌}
-use lib.ListN.{set, length-set}
+use Rattle.std.proofs.Common.{arith, ◌≡◌, ◌+◌, ◌*◌, ap, ◌∙◌, set, length-set}
 use Rattle.numbers.proofs.Lists.{held_more}
 use Rattle.numbers.proofs.Machine.{t, val}
 use Rattle.first_stage.specs.inner.Windows.{window_sum}
 use Rattle.first_stage.proofs.first_stage.Goals as goal
 
 pub loop-turn-preserved : goal.loop-turn-preserved
-loop-turn-preserved c =
+loop-turn-preserved g c =
     let s = c.args in
-    let sum = window_sum s.tables.now s.half s.bytes.now in
+    let sum = window_sum s.tables.now g.row.H s.bytes.now in
     let k = 4 * c.loop-turn.turn in
     let e2 : k + 1 + 1 ≡ k + 2 = omega arith in
     let e3 : k + 2 + 1 ≡ k + 3 = omega arith in
@@ -25,6 +24,6 @@ loop-turn-preserved c =
     rw e4 at (held_more three (omega (arith, long1, long2, long3)) (val _ _ c.window-d.type_inv (c.window-d.ensures ∙ ap sum (omega arith))))
 
 pub loop-k-preserved : goal.loop-k-preserved
-loop-k-preserved c =
-    let sum = window_sum c.args.tables.now c.args.half c.args.bytes.now in
+loop-k-preserved g c =
+    let sum = window_sum c.args.tables.now g.row.H c.args.bytes.now in
     held_more c.loop-k.invariant (omega arith) (val _ _ c.window.type_inv (c.window.ensures ∙ ap sum (omega arith)))

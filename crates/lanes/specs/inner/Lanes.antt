@@ -1,6 +1,7 @@
 -- L places of the output at a time, the lanes, gain taps over a copy of the block: what they gain, and what they keep.
 use Rattle.std.specs.Prelude.{◌≡◌, List, ℕ, ◌+◌, ◌-◌, ◌*◌, ◌^◌, ◌≤◌, ◌<◌, ℤ, pos, nat_abs, ◌+ℤ◌, ◌*ℤ◌, length, get_or}
 use Rattle.numbers.specs.Sums.{sum_to, at0}
+use Rattle.numbers.specs.inner.Lists.{Written}
 use Rattle.reference.specs.Stages.{tap}
 
 -- no number is over B in size
@@ -8,8 +9,8 @@ pub record Small (B : ℕ) (l : List ℤ) : Type 0 where
   pub size : (i : ℕ) → nat_abs (at0 l i) ≤ B
 
 -- what a place of the copy holds
-unfoldable pub raised : List ℕ → ℕ → ℤ
-raised v k = pos (get_or v k 0)
+unfoldable pub copied : List ℕ → ℕ → ℤ
+copied v k = pos (get_or v k 0)
 
 -- no number of the copy is over 2^30
 pub record Low (v : List ℕ) : Type 0 where
@@ -35,14 +36,6 @@ pub record Lanes (L B : ℕ) (s : List ℤ) : Type 0 where
 pub record Added (L : ℕ) (g : ℕ → ℤ) (old new : List ℤ) : Type 0 where
   pub is : (l : ℕ) → l < L → at0 new l ≡ at0 old l +ℤ g l
 
--- the places from a to b - 1 hold f, the others are as they were
-pub record Written (f : ℕ → ℤ) (a b : ℕ) (old new : List ℤ) : Type 0 where
-  pub same : length new ≡ length old
-  pub done : (k : ℕ) → a ≤ k → k < b → at0 new k ≡ f k
-  pub below : (k : ℕ) → k < a → at0 new k ≡ at0 old k
-  pub above : (k : ℕ) → b ≤ k → at0 new k ≡ at0 old k
-
 -- every place of the output holds f
-pub record Filled (f : ℕ → ℤ) (old new : List ℤ) : Type 0 where
-  pub same : length new ≡ length old
-  pub is : (i : ℕ) → i < length old → at0 new i ≡ f i
+abbrev pub Filled : (ℕ → ℤ) → List ℤ → List ℤ → Type 0
+Filled f old new = Written (pos 0) (λ k. k) f (length old) old new

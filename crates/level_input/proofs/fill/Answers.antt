@@ -1,5 +1,5 @@
 -- `fill`: a read goes on after the bytes that have come.
-use native.Mathlib.Omega.{arith}
+use Rattle.std.proofs.Common.{arith}
 use Rattle.level_input.proofs.Known.{read_past}
 use Rattle.level_input.proofs.fill.Goals as goal
 

@@ -1,5 +1,5 @@
 -- `read_line` meets its contract.
-use native.Mathlib.Omega.{arith}
+use Rattle.std.proofs.Common.{arith}
 use Rattle.level_input.proofs.Coming.{nothing_came, none_came, newline_came, byte_came, full}
 use Rattle.level_input.proofs.read_line.Goals as goal
 

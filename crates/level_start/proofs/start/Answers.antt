@@ -1,5 +1,5 @@
 -- `start`: what the line that came sets, or that none came.
-use native.Mathlib.Omega.{arith}
+use Rattle.std.proofs.Common.{arith}
 use Rattle.std.proofs.lemmas.Result.{IfOk-weaker}
 use Rattle.level_start.proofs.Line.{starts, starts_not}
 use Rattle.level_start.proofs.start.Goals as goal

@@ -1,7 +1,6 @@
 -- `report_frames`: the lines of the frames, and the end after them.
+use Rattle.std.proofs.Common.{◌<◌, arith}
 use Rattle.std.proofs.lemmas.Result.{IfOk-weaker}
-use Rattle.std.proofs.Common.{◌<◌}
-use native.Mathlib.Omega.{arith}
 use Rattle.reference.specs.Frames.{frame_length}
 use Rattle.level_frames.specs.Report.{lines_of, text_by}
 use Rattle.level_frames.proofs.Printing.{wrote_text}

@@ -1,6 +1,5 @@
 -- `turns` meets its contract.
-use Rattle.std.proofs.Common.{refl, sym, ap, ◌∙◌, replicate}
-use native.Mathlib.Omega.{arith}
+use Rattle.std.proofs.Common.{refl, sym, ap, ◌∙◌, replicate, arith}
 use Rattle.level_turns.specs.inner.Turns.{moment}
 use Rattle.level_turns.proofs.Buffer.{first_read, first_end}
 use Rattle.level_turns.proofs.Whole.{begins, goes_on, all_told}

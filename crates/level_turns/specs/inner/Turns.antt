@@ -16,7 +16,7 @@ at_hand number has_after size three =
     run (ltb 0 number) (part 0 size three) (part size (2 * size) three) has_after (part (2 * size) (length three) three)
 
 -- a frame is told: its clips are counted, and what is in progress is carried on
-pub record FrameTold (conv : Converter) (number : ℕ) (r : Run) (clipped : ℕ) (states : List Progress) (clipped' : ℕ) (states' : List Progress) : Type 0 where
+pub record FrameCounted (conv : Converter) (number : ℕ) (r : Run) (clipped : ℕ) (states : List Progress) (clipped' : ℕ) (states' : List Progress) : Type 0 where
   pub counted : clipped' ≡ clipped + frame_clips conv r 0
   pub carried : states' ≡ piece_states conv states r
 
@@ -49,14 +49,14 @@ pub record Turned (conv : Converter) (size : ℕ) (m next : Moment) (from from' 
   pub room : length next.three ≡ 3 * size
   pub kept : part 0 size next.three ≡ part size (2 * size) m.three
   pub frames : next.frames ≡ m.frames + 1
-  pub told : FrameTold conv m.frames (told_frame size m next) m.clipped m.states next.clipped next.states
+  pub told : FrameCounted conv m.frames (told_frame size m next) m.clipped m.states next.clipped next.states
   pub read : Consumes from from' (here size next)
   pub end : next.left < size → IsAtEnd from'
   pub wrote : Appends held held' (piece_lines conv m.frames m.states (told_frame size m next))
 
 -- turns one after the other, from the first frame on: with the end, what they have read is all of the reader's, and
 -- what they have passed on its text; they stop before the end only after so many frames
-pub record AllTold (conv : Converter) (frames clipped left : ℕ) (from from' held held' : Option (List ℕ)) : Type 0 where
+pub record StreamTold (conv : Converter) (frames clipped left : ℕ) (from from' held held' : Option (List ℕ)) : Type 0 where
   pub input : List ℕ
   pub text : List ℕ
   pub few : left ≤ frame_length conv.channels

@@ -8,10 +8,10 @@ use Rattle.narrow.proofs.narrow176.Goals as goal
 pub returns-clause-held : goal.returns-clause-held
 unfolding y_narrow w
 returns-clause-held c =
-    λ β n l bytes margin.
+    λ β n l bytes history.
     let h = c.args.h.now in
     let few = c.requires.low_pass.few in
-    let whole = c.bring_v.ensures.held β (n - M h) (omega arith) (held_at _ (omega arith) bytes) margin in (
+    let whole = c.bring_v.ensures.held β (n - M h) (omega arith) (held_at _ (omega arith) bytes) history in (
       held_some 168 (omega arith) (fir1_gives whole (2 * M h + 168) (omega arith) h n (omega arith) c.fir1.ensures.filled (omega arith)),
       held_at _ (omega arith) (c.move_on.ensures.held (v β) _ whole),
     )

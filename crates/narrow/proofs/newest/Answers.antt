@@ -11,11 +11,11 @@ returns-clause-small_3 c = small_put _ _ c.requires.small_2 (front_small _ c.req
 pub returns-clause-held : goal.returns-clause-held
 unfolding w
 returns-clause-held c =
-    λ β i l margin old.
+    λ β i l history old.
     let f = c.requires.low_pass in
     let h = c.args.h.now in
     let k = c.args.k in
     let kept = c.args.kept.now in
     let part = part_length (184 - k) 184 kept (omega arith) in
-    let new = fir1_gives margin (2 * M h + k) (omega arith) h (i + 184 - k) (omega arith) c.fir1.ensures.filled (omega (arith, part)) in
+    let new = fir1_gives history (2 * M h + k) (omega arith) h (i + 184 - k) (omega arith) c.fir1.ensures.filled (omega (arith, part)) in
     joined_held (184 - k) 184 kept c.fir1.new.y (omega arith) (omega arith) c.fir1.auto.y old new (omega arith) (omega (arith, part))

@@ -10,5 +10,5 @@ abbrev pub odds : (ℕ → ℤ) → ℕ → ℤ
 odds s k = s (2 * k + 1)
 
 -- two arrays in turn
-unfoldable pub woven : List ℤ → List ℤ → ℕ → ℤ
-woven even odd k = cond (eqb (k % 2) 0) (at0 even (k / 2)) (at0 odd (k / 2))
+unfoldable pub interleaved : List ℤ → List ℤ → ℕ → ℤ
+interleaved even odd k = cond (eqb (k % 2) 0) (at0 even (k / 2)) (at0 odd (k / 2))

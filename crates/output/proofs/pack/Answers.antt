@@ -1,5 +1,4 @@
-use Rattle.std.proofs.Common.{ℕ, List, sym, ap, ◌++◌, drop, ◌*◌, arith, length, take, ◌≡◌}
-use lib.Seq.{length-take-le}
+use Rattle.std.proofs.Common.{ℕ, List, sym, ap, ◌++◌, drop, ◌*◌, arith, length, take, ◌≡◌, length-take-le}
 use Rattle.reference.specs.Promises.{packed}
 use Rattle.output.proofs.Boxes.{packed_is}
 use Rattle.output.proofs.pack.Goals as goal

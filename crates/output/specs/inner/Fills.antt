@@ -2,6 +2,7 @@
 -- and columns.
 use Rattle.std.specs.Prelude.{◌≡◌, List, ℕ, ◌+◌, ◌*◌, ◌/◌, ◌%◌, ◌^◌, ◌≤◌, ◌<◌, ℤ, pos, length, get_or}
 use Rattle.numbers.specs.Lists.{tabulate}
+use Rattle.numbers.specs.inner.Lists.{Written}
 use Rattle.reference.specs.Output.{low24}
 
 -- every place of the box holds what the definition D gives, and no place that held it before has lost it
@@ -24,18 +25,16 @@ abbrev pub items : Layout ℤ
 items = record { width = 1; part = λ z b. z; past = pos 0 }
 
 -- byte b of the three of a number, least first
-unfoldable pub third : ℤ → ℕ → ℕ
-third z b = low24 z / 256 ^ b % 256
+unfoldable pub byte_of_three : ℤ → ℕ → ℕ
+byte_of_three z b = low24 z / 256 ^ b % 256
 
 abbrev pub byte_layout : Layout ℕ
-byte_layout = record { width = 3; part = third; past = 0 }
+byte_layout = record { width = 3; part = byte_of_three; past = 0 }
 
 module _ {A : Type 0} (o : Layout A) where
-  -- the places of item k hold the sample z, and the others what they held
-  pub record Put (k : ℕ) (z : ℤ) (old new : List A) : Type 0 where
-    pub same : length new ≡ length old
-    pub here : (b : ℕ) → b < o.width → get_or new (o.width * k + b) o.past ≡ o.part z b
-    pub others : (j : ℕ) → (j / o.width ≡ k → ⊥) → get_or new j o.past ≡ get_or old j o.past
+  -- the places of item k hold the sample z
+  abbrev pub Put : ℕ → ℤ → List A → List A → Type 0
+  Put k z old new = Written o.past (λ b. o.width * k + b) (o.part z) o.width old new
 
   -- place j is part j % width of item j / width; item i is sample i / ch of channel i % ch; S c n is sample n of
   -- channel c
@@ -51,5 +50,5 @@ module _ {A : Type 0} (o : Layout A) where
   Room n out = length out ≡ o.width * n
 
   -- samples in this form
-  unfoldable pub written : List ℤ → List A
-  written zs = tabulate (λ j. o.part (get_or zs (j / o.width) (pos 0)) (j % o.width)) 0 (o.width * length zs)
+  unfoldable pub parts_of : List ℤ → List A
+  parts_of zs = tabulate (λ j. o.part (get_or zs (j / o.width) (pos 0)) (j % o.width)) 0 (o.width * length zs)

@@ -1,6 +1,5 @@
 -- `all_samples` meets its contract: by the settings' numbers.
-use Rattle.std.proofs.Common.{arith}
-use mathlib.Core.Path.{refl}
+use Rattle.std.proofs.Common.{arith, refl}
 use Rattle.reference.proofs.Refusals.{stored_samples}
 use Rattle.run_refusals.proofs.Steps.{few_samples}
 use Rattle.run_refusals.proofs.all_samples.Goals as goal

@@ -1,5 +1,5 @@
 -- `input`: a neighbour of another length.
-use mathlib.Core.Path.{sym}
+use Rattle.std.proofs.Common.{sym}
 use Rattle.run_refusals.proofs.Inputs.{long_before, long_after}
 use Rattle.run_refusals.proofs.input.Goals as goal
 

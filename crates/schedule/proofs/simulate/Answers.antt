@@ -1,13 +1,5 @@
 -- `simulate`: each album's place of the lent lists is written.
-use mathlib.Core.Path.{◌≡◌, sym, ◌∙◌, ap}
-use mathlib.Core.List.{List}
-use Prim.Native.Nat.{ℕ, ◌+◌}
-use native.Mathlib.Nat.{zero-add}
-use native.Mathlib.Omega.{arith}
-use mir.Syntax.{w32}
-use mir.Facts.{to_z-of_z}
-use lib.IntN.{ℤ, pos, ◌-ℤ◌}
-use lib.ListN.{length}
+use Rattle.std.proofs.Common.{◌≡◌, sym, ◌∙◌, ap, List, ℕ, ◌+◌, zero-add, arith, w32, to_z-of_z, ℤ, pos, ◌-ℤ◌, length}
 use Rattle.reference.specs.Refusals.{decide}
 use Rattle.reference.specs.Promises.{by_decision}
 use Rattle.numbers.proofs.Lists.{held_none, held_more, is_tabulate}

@@ -1,6 +1,5 @@
 -- So far the albums 0, …, a - 1 have their finishing turns and latenesses.
-use lib.IntN.{pos}
-use lib.ListN.{length}
+use Rattle.std.proofs.Common.{pos, length}
 use Rattle.numbers.specs.inner.Lists.{Held}
 use Rattle.boards.specs.Boards.{board}
 use Rattle.finishes.specs.Turns.{finish_in, lateness_in, simulated}

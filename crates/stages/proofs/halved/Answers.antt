@@ -3,7 +3,7 @@ use Rattle.std.proofs.Common.{◌≡◌, List, ℕ, ℤ, ◌+◌, ◌-◌, ◌*�
 use Rattle.reference.specs.Rounding.{R}
 use Rattle.reference.specs.Stages.{M}
 use Rattle.filters.specs.inner.Filters.{even_taps, odd_taps, same_rate, half_rate, seconds}
-use Rattle.filters.proofs.Places.{filled_as}
+use Rattle.numbers.proofs.Lists.{written_as}
 use Rattle.filters.proofs.Signals.{split_halves, halves_phases}
 use Rattle.filters.proofs.Seconds.{decimated}
 use Rattle.routes.proofs.Filters.{halves_length, even_half, odd_half}
@@ -32,5 +32,5 @@ pub returns-clause-filled : goal.returns-clause-filled
 returns-clause-filled c =
     λ F halved.
     let long = halves_length F halved in
-    filled_as c.dec2.ensures.filled
+    written_as c.dec2.ensures.filled
     (λ i m. ap (λ (z : ℤ). R z 24) (sum_is F c.args.x.now (even_half F halved) (odd_half F halved) i (omega (arith, c.requires, long)) (omega (arith, c.requires, long))))

@@ -1,5 +1,4 @@
-use Rattle.std.proofs.Common.{◌≡◌, ◌+◌, ap, arith, rules}
-use lib.ListN.{length-set}
+use Rattle.std.proofs.Common.{◌≡◌, ◌+◌, ap, arith, rules, length-set}
 use Rattle.numbers.proofs.Lists.{held_none, held_more, is_tabulate}
 use Rattle.reference.specs.Statistics.{no_samples, joined_channel, joined_stats, channel_of}
 use Rattle.stretches.proofs.join_stats.Goals as goal

@@ -4,7 +4,7 @@ use Rattle.numbers.specs.Lists.{Each}
 use Rattle.reference.specs.Frames.{frame_bytes, frame_length}
 use Rattle.reference.specs.Refusals.{most}
 use Rattle.reference.specs.declared.Limit.TheVariants as limit
-use Rattle.dsf.specs.Dsf.{channels, bits_per_sample, samples}
+use Rattle.dsf.specs.Dsf.{channels, bits_per_sample, sample_count}
 use Rattle.tracks.specs.Tracks.{Head, Track, head_length, all_length, head_at, heads_of}
 use Rattle.tracks.specs.Windows.{read_start, read_bytes, windowed_data, windows_length}
 use Rattle.tracks_open.specs.inner.Open.{TracksArgs}
@@ -16,7 +16,7 @@ use Rattle.tracks_gather.specs.declared.Start.{Start}
 
 -- a buffer for bytes a to b of an album, with a track's put into it
 abbrev pub with_one : ℕ → ℕ → ℕ → ℕ → Track → List ℕ → List ℕ
-with_one n a b o t = with_track t.read n (bits_per_sample t.head.bytes) (samples t.head.bytes) o a b
+with_one n a b o t = with_track t.read n (bits_per_sample t.head.bytes) (sample_count t.head.bytes) o a b
 
 -- with those of all tracks, the first of which begins at byte o
 unfoldable pub with_tracks : ℕ → ℕ → ℕ → ℕ → List Track → List ℕ → List ℕ

@@ -1,5 +1,5 @@
 use Rattle.std.proofs.Common.{◌≡◌, ◌-◌, ◌+◌, refl, arith}
-use Rattle.dsf_columns.proofs.Strides.{strided_none}
+use Rattle.numbers.proofs.Lists.{written_none}
 use Rattle.tracks_put.proofs.Channels.{above, within, cells, piece_fits, next_piece, next_place, two_parts}
 use Rattle.tracks_put.proofs.channel.Goals as goal
 
@@ -7,7 +7,7 @@ pub loop-q-init : goal.loop-q-init
 loop-q-init c =
     let a = c.args.channel in
     let z : a.first - a.first ≡ 0 = omega arith in
-    (omega arith, c.requires.order, rw z (omega arith), rw z strided_none)
+    (omega arith, c.requires.order, rw z (omega arith), rw z written_none)
 
 pub slice_bounds-spread-end : goal.slice_bounds-spread-end
 slice_bounds-spread-end c =

@@ -1,5 +1,4 @@
-use Rattle.std.proofs.Common.{◌/◌, ap, ◌∙◌}
-use Rattle.std.specs.Prelude.{ℕ, min}
+use Rattle.std.proofs.Common.{◌/◌, ap, ◌∙◌, ℕ, min}
 use Rattle.dsf_frames.specs.Reading.{window_data}
 use Rattle.tracks_put.specs.inner.Placing.{with_track}
 use Rattle.tracks_put.proofs.Pieces.{put_args, untouched}

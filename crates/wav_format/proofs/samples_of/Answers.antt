@@ -1,6 +1,4 @@
-use Rattle.std.proofs.Common.{◌-◌, ◌≤◌, length, drop, ◌∙◌, arith}
-use lib.ListN.{length-drop}
-use lib.Seq.{take_all}
+use Rattle.std.proofs.Common.{◌-◌, ◌≤◌, length, drop, ◌∙◌, arith, length-drop, take_all}
 use Rattle.wav_format.proofs.Reading.{long}
 use Rattle.wav_format.proofs.Writing.{told_takes, samples_there, samples_none}
 use Rattle.wav_format.proofs.samples_of.Goals as goal

@@ -1,4 +1,4 @@
-use native.Mathlib.Omega.{arith}
+use Rattle.std.proofs.Common.{arith}
 use Rattle.std.proofs.lemmas.Result.{err_from_is_err_and}
 use Rattle.wav_heading.proofs.Headed.{head_refused, head_wrong, head_written, head_fits}
 use Rattle.wav_heading.proofs.header.Goals as goal

@@ -23,8 +23,8 @@ halved-requires-clause-small c = small_front 400 c.bring_u.new.self.x_small
 pub returns-clause-held : goal.returns-clause-held
 unfolding y_wide
 returns-clause-held c =
-    λ β n l bytes margin.
-    let whole = c.bring_u.ensures.held β (2 * n - 116) (omega arith) (held_at _ (omega arith) bytes) margin in (
+    λ β n l bytes history.
+    let whole = c.bring_u.ensures.held β (2 * n - 116) (omega arith) (held_at _ (omega arith) bytes) history in (
       held_some 84 (omega arith) (halved_gives whole 400 (omega arith) F80 n (omega (arith, F80_last)) (c.halved.ensures.filled F80 c.requires.h_value) (omega (arith, F80_last))),
       held_at _ (omega arith) (c.move_on.ensures.held (u S1_WIDE β) _ whole),
     )

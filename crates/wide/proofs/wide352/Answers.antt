@@ -26,8 +26,8 @@ fir1-requires-clause-fit c = front_fit 456 _ (lent_F40 c.requires.h_value) c.bri
 pub returns-clause-held : goal.returns-clause-held
 unfolding y_wide
 returns-clause-held c =
-    λ β n l bytes margin.
-    let whole = c.bring_u.ensures.held β (n - 60) (omega arith) (held_at _ (omega arith) bytes) margin in (
+    λ β n l bytes history.
+    let whole = c.bring_u.ensures.held β (n - 60) (omega arith) (held_at _ (omega arith) bytes) history in (
       held_some 336 (omega arith) (fir1_gives whole 456 (omega arith) F40 n (omega (arith, F40_last)) (rw c.requires.h_value at c.fir1.ensures.filled) (omega (arith, F40_last))),
       held_at _ (omega arith) (c.move_on.ensures.held (u S1_WIDE β) _ whole),
     )

@@ -1,5 +1,4 @@
-use Rattle.std.proofs.Common.{arith, rules}
-use lib.Seq.{length-take-le}
+use Rattle.std.proofs.Common.{arith, rules, length-take-le}
 use Rattle.workspace.proofs.Bound.{halves_bound}
 use Rattle.workspace.proofs.halves.Goals as goal
 

@@ -1,6 +1,4 @@
-use Rattle.std.proofs.Common.{sym, rules, refl}
-use mathlib.Core.Path.{subst}
-use borrow.Author.Tests.{ne_eqb}
+use Rattle.std.proofs.Common.{sym, rules, refl, ne_eqb}
 use Rattle.codes.proofs.Known.{some_known}
 use Rattle.codes.proofs.Calls.{both_hold, done_so}
 use Rattle.reference.specs.Frames.{Run}

@@ -1,4 +1,4 @@
-use mathlib.Core.Path.{refl, sym, ◌∙◌}
+use Rattle.std.proofs.Common.{refl, sym, ◌∙◌}
 use Rattle.codes.specs.inner.Codes.{if_known}
 use Rattle.codes.proofs.Known.{some_known}
 use Rattle.c_converter.specs.Blocks.{settings_of}

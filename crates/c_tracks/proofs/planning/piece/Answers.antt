@@ -1,5 +1,4 @@
-use Rattle.std.proofs.Common.{◌≡◌, ◌*◌, length, eqb, true, sym}
-use borrow.Author.Tests.{eq-eqb}
+use Rattle.std.proofs.Common.{◌≡◌, ◌*◌, length, eqb, true, sym, eq-eqb}
 use Rattle.codes.proofs.Calls.{done_so, both_hold}
 use Rattle.codes.proofs.Known.{some_known}
 use Rattle.c_tracks.specs.Asked.{asked_heads}

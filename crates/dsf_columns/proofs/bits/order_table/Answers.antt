@@ -1,5 +1,4 @@
-use Rattle.std.proofs.Common.{◌≡◌, ◌+◌, arith, refl, ap, sym, ◌∙◌}
-use lib.ListN.{length-set}
+use Rattle.std.proofs.Common.{◌≡◌, ◌+◌, arith, refl, ap, sym, ◌∙◌, length-set}
 use Rattle.numbers.proofs.Lists.{held_none, held_more}
 use Rattle.dsf.specs.inner.Orders.{ordered}
 use Rattle.dsf_columns.proofs.bits.order_table.Goals as goal

@@ -1,13 +1,13 @@
-use Rattle.std.proofs.Common.{◌≡◌, arith, refl}
-use native.Mathlib.Nat.{mul-le-mul_right}
-use Rattle.dsf_columns.proofs.Strides.{strided_none, strided_more}
+use Rattle.std.proofs.Common.{◌≡◌, arith, refl, mul-le-mul_right}
+use Rattle.numbers.proofs.Lists.{written_none}
+use Rattle.dsf_columns.proofs.Strides.{strided_more}
 use Rattle.dsf_columns.proofs.columns.idle_at.Goals as goal
 
 pub loop-k-init : goal.loop-k-init
-loop-k-init c = strided_none
+loop-k-init c = written_none
 
 pub loop-k-preserved : goal.loop-k-preserved
-loop-k-preserved c = strided_more c.requires.0 c.loop-k.invariant refl (omega (arith, mul-le-mul_right c.args.stride c.loop-k-test.true, c.requires)) refl
+loop-k-preserved c = strided_more c.args.at c.args.stride c.requires.0 c.loop-k.invariant (omega (arith, mul-le-mul_right c.args.stride c.loop-k-test.true, c.requires)) refl
 
 pub returns : goal.returns
 returns c = let e : c.loop-k.k ≡ c.args.count = omega arith in rw e at c.loop-k.invariant

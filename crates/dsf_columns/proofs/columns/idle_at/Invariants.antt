@@ -1,6 +1,7 @@
+use Rattle.std.proofs.Common.{◌+◌, ◌*◌}
 use Rattle.reference.specs.Frames.{idle}
-use Rattle.dsf_columns.specs.inner.Columns.{Strided}
+use Rattle.numbers.specs.inner.Lists.{Written}
 use Rattle.dsf_columns.proofs.columns.idle_at.Given as goal
 
 abbrev pub invariant-loop-k : goal.invariant-loop-k
-invariant-loop-k l = Strided (λ i. idle) l.at l.stride l.k l.initial.out l.out
+invariant-loop-k l = Written 0 (λ i. l.at + i * l.stride) (λ i. idle) l.k l.initial.out l.out

@@ -1,5 +1,5 @@
 use Rattle.std.proofs.Common.{◌+◌, ◌*◌, ◌-◌, [], arith}
-use Rattle.dsf_write.proofs.Writing.{in_frames, start_small, block_wrote, piece_long, gathered, zeroed}
+use Rattle.dsf_write.proofs.Writing.{in_frames, start_small, block_written, piece_long, gathered, zeroed}
 use Rattle.dsf_write.proofs.laid.put_block.Goals as goal
 
 pub overflow_mul-from : goal.overflow_mul-from
@@ -20,5 +20,5 @@ returns c =
     let at = c.args.block * 4096 in
     let live = c.min-live.result in
     let data' = gathered at live _ c.args.out.now _ (omega (arith, c.requires.1.lent)) (omega arith) c.gather.ensures in
-    block_wrote c.requires.1 c.requires.0 (λ i. (c.type_inv.frames i).fits) (omega (arith, c.min-live.ensures)) data'
+    block_written c.requires.1 c.requires.0 (λ i. (c.type_inv.frames i).fits) (omega (arith, c.min-live.ensures)) data'
     (zeroed (at + live) (4096 - live) _ _ _ (omega (arith, data'.same, c.requires.1.lent)) (omega arith) (c.fill.ensures.after (λ y e. e)))

@@ -1,12 +1,10 @@
-use Rattle.std.proofs.Common.{◌≡◌, ◌+◌, ◌*◌, length, arith, refl, subst}
-use Rattle.numbers.specs.inner.Lists.{Wrote}
-use Rattle.dsf_write.specs.Written.{written_byte}
-use Rattle.numbers.proofs.Lists.{wrote_none}
-use Rattle.dsf_write.proofs.Writing.{wrote_then, whole_blocks, block_args}
+use Rattle.std.proofs.Common.{◌≡◌, ◌+◌, ◌*◌, length, arith, refl}
+use Rattle.numbers.proofs.Lists.{written_none, written_then}
+use Rattle.dsf_write.proofs.Writing.{whole_blocks, block_args}
 use Rattle.dsf_write.proofs.laid.put_data.Goals as goal
 
 pub loop-k-init : goal.loop-k-init
-loop-k-init c = wrote_none
+loop-k-init c = written_none
 
 pub put_block-requires : goal.put_block-requires
 put_block-requires c = let l = c.loop-k in (c.order_table-table.ensures, rw l.invariant.same (block_args c.requires l.k c.loop-k-test.true))
@@ -15,9 +13,7 @@ pub loop-k-preserved : goal.loop-k-preserved
 loop-k-preserved c =
     let l = c.loop-k in
     let e : l.k * 4096 + 4096 ≡ (l.k + 1) * 4096 = omega arith in
-    let z : l.k * 4096 ≡ 0 + l.k * 4096 = omega arith in
-    rw e at (wrote_then l.invariant
-    (subst (λ at. Wrote 0 (λ i. written_byte c.args.channels c.args.frames.now (l.k * 4096 + i)) at 4096 l.out c.put_block.new.out) z c.put_block.ensures) (λ i h. refl))
+    rw e at (written_then l.invariant c.put_block.ensures (λ i h. refl) (λ i j h m. omega arith) (λ i h. refl))
 
 pub returns : goal.returns
 returns c =

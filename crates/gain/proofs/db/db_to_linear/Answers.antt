@@ -1,6 +1,6 @@
 -- `db_to_linear`: one square more.
-use Rattle.std.proofs.Common.{◌≡◌, ℕ, suc, ◌+◌, ◌-◌, ◌<◌, sym, ◌∙◌, arith}
-use lib.Ieee.{Float, binary64, mul, of_int, of_bits}
+use Rattle.std.proofs.Common.{◌≡◌, ℕ, suc, ◌+◌, ◌-◌, ◌<◌, sym, ◌∙◌, arith, Float}
+use lib.Ieee.{binary64, mul, of_int, of_bits}
 use Rattle.reference.specs.Scaling.{squared, db_to_linear, exponent, LN_10}
 use Rattle.gain.proofs.db.db_to_linear.Goals as goal
 

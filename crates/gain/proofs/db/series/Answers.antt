@@ -1,6 +1,6 @@
 -- `series`: one term more.
-use Rattle.std.proofs.Common.{◌≡◌, ℕ, suc, ◌+◌, ◌-◌, ◌<◌, refl, sym, ◌∙◌, add-one, arith}
-use lib.Ieee.{Float, binary64, add, mul, div, of_int, of_bits}
+use Rattle.std.proofs.Common.{◌≡◌, ℕ, suc, ◌+◌, ◌-◌, ◌<◌, refl, sym, ◌∙◌, add-one, arith, Float}
+use lib.Ieee.{binary64, add, mul, div, of_int, of_bits}
 use Rattle.reference.specs.Scaling.{whole, series}
 use Rattle.gain.proofs.db.series.Goals as goal
 

@@ -1,8 +1,6 @@
 -- `before_clamp`: the number goes through a float unchanged.
-use Rattle.std.proofs.Common.{◌<◌, ◌^◌, arith}
-use lib.IntN.{nat_abs}
+use Rattle.std.proofs.Common.{◌<◌, ◌^◌, arith, nat_abs, to_z-of_z}
 use lib.Signed.{nat_abs-le}
-use mir.Facts.{to_z-of_z}
 use Rattle.numbers.proofs.Machine.{wide_is}
 use Rattle.gain.proofs.Scaling.{unrounded_reach, unrounded_is, scaled_back, scaled_fits}
 use Rattle.gain.proofs.scale.before_clamp.Goals as goal

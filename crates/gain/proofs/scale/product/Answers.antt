@@ -1,6 +1,5 @@
 -- `product`: below 2^32, so as a float it is what it is.
-use Rattle.std.proofs.Common.{refl}
-use mir.Syntax.{w64}
+use Rattle.std.proofs.Common.{refl, w64}
 use mir.ValLaws.{to_z-of_z}
 use Rattle.gain.specs.inner.Scale.{unrounded}
 use Rattle.gain.proofs.scale.product.Goals as goal

@@ -1,7 +1,4 @@
-use Rattle.std.proofs.Common.{◌≡◌, refl, ◌∙◌, ap}
-use mir.Syntax.{w32, w64}
-use mir.Val.{to_z, of_z}
-use mir.Facts.{to_z-of_z}
+use Rattle.std.proofs.Common.{◌≡◌, refl, ◌∙◌, ap, w32, w64, to_z, of_z, to_z-of_z}
 use Rattle.reference.specs.Scaling.{scaled, clamp, clips}
 use Rattle.gain.proofs.Scaling.{clamp_fits}
 use Rattle.gain.proofs.scale.scale.Goals as goal

@@ -1,13 +1,7 @@
-use Rattle.std.proofs.Common.{◌≡◌, ℕ, suc, ◌+◌, ◌<◌, ◌^◌, Bool, true, false, cond, List, ℤ, pos, negsuc, length, refl, ap, ◌∙◌, arith, rules}
-use native.Mathlib.Nat.{ne_of_lt, not-suc-le-zero, zero-add}
-use borrow.Author.Count.{below_more}
-use lib.Seq.{get_or-set_same, get_or-set_other}
-use mir.Syntax.{w32, w64}
-use mir.Val.{to_z, of_z, bool_byte}
-use lib.IntN.{nat_abs}
-use lib.ListN.{set}
+use Rattle.std.proofs.Common.{◌≡◌, ℕ, suc, ◌+◌, ◌<◌, ◌^◌, Bool, true, false, cond, List, ℤ, pos, negsuc, length, refl, ap, ◌∙◌, arith, rules, ne_of_lt}
+use Rattle.std.proofs.Common.{not-suc-le-zero, zero-add, below_more, get_or-set_same, get_or-set_other, w32, w64, to_z, of_z, nat_abs, set, to_z-of_z}
+use mir.Val.{bool_byte}
 use Rattle.std.specs.Int.{int_min, int_max}
-use mir.Facts.{to_z-of_z}
 use Rattle.numbers.specs.Sums.{at0}
 use Rattle.numbers.specs.Lists.{count, total}
 use Rattle.numbers.specs.Extremes.{lesser, greater, picked}

@@ -1,8 +1,8 @@
 use Rattle.std.proofs.Common.{rules, arith, ◌≡◌, ◌+◌, ◌-◌, ◌*◌, ◌^◌, to_z, of_z, w64}
 use Rattle.numbers.specs.Sums.{at0}
 use Rattle.reference.specs.Stages.{tap}
-use Rattle.lanes.specs.inner.Lanes.{raised}
-use Rattle.lanes.proofs.Pairs.{raised_size, fourths_size, fourths_none, fourths_more}
+use Rattle.lanes.specs.inner.Lanes.{copied}
+use Rattle.lanes.proofs.Pairs.{copied_size, fourths_size, fourths_none, fourths_more}
 use Rattle.lanes.proofs.Places.{added_none, added_then, lanes_then}
 use Rattle.lanes.proofs.Arms.fourths.Goals as goal
 
@@ -22,7 +22,7 @@ two-s-requires g c =
         (
           a.low,
           lanes_then (2 * k * 2 ^ 56) (125 * 2 ^ 56) c.loop-k.invariant c.requires.lanes
-              (λ i. fourths_size a.h.now (raised a.v.now) c.args.from (a.end + i - 1) (a.up + i) k a.small (raised_size a.low))
+              (λ i. fourths_size a.h.now (copied a.v.now) c.args.from (a.end + i - 1) (a.up + i) k a.small (copied_size a.low))
               (omega arith),
         ),
       ),
@@ -35,7 +35,7 @@ loop-k-preserved g c =
     let j = c.args.from + 4 * k in
     let first : to_z w64 (of_z w64 (at0 a.h.now j)) ≡ tap a.h.now j = search rules in
     let second : to_z w64 (of_z w64 (at0 a.h.now (j + 2))) ≡ tap a.h.now (j + 2) = search rules in
-    added_then c.loop-k.invariant c.two-s.ensures (λ i. rw (first, second) (fourths_more a.h.now (raised a.v.now) c.args.from a.end a.up k i (omega arith)))
+    added_then c.loop-k.invariant c.two-s.ensures (λ i. rw (first, second) (fourths_more a.h.now (copied a.v.now) c.args.from a.end a.up k i (omega arith)))
 
 pub returns : goal.returns
 returns g c =

@@ -1,8 +1,8 @@
 use Rattle.std.proofs.Common.{rules, arith, ◌≡◌, ◌+◌, ◌-◌, ◌*◌, ◌^◌, length, to_z, of_z, w64}
 use Rattle.numbers.specs.Sums.{at0}
 use Rattle.reference.specs.Stages.{tap}
-use Rattle.lanes.specs.inner.Lanes.{raised}
-use Rattle.lanes.proofs.Pairs.{raised_size, arms_size, arms_none, arms_more}
+use Rattle.lanes.specs.inner.Lanes.{copied}
+use Rattle.lanes.proofs.Pairs.{copied_size, arms_size, arms_none, arms_more}
 use Rattle.lanes.proofs.Places.{added_none, added_then, lanes_then}
 use Rattle.lanes.proofs.Arms.singly.Goals as goal
 
@@ -20,7 +20,7 @@ one-s-requires g c =
         (
           a.low,
           lanes_then ((length a.h.now - c.args.from - 1) * 2 ^ 56) (126 * 2 ^ 56) c.loop-j.invariant c.requires.lanes
-              (λ i. omega (arith, arms_size a.h.now (raised a.v.now) c.args.from (a.end + i - 1) (a.up + i) n a.small (raised_size a.low)))
+              (λ i. omega (arith, arms_size a.h.now (copied a.v.now) c.args.from (a.end + i - 1) (a.up + i) n a.small (copied_size a.low)))
               (omega arith),
         ),
       ),
@@ -31,7 +31,7 @@ loop-j-preserved g c =
     let a = c.args.self in
     let j = c.loop-j.j in
     let e : to_z w64 (of_z w64 (at0 a.h.now j)) ≡ tap a.h.now j = search rules in
-    added_then c.loop-j.invariant c.one-s.ensures (λ i. rw e (arms_more a.h.now (raised a.v.now) c.args.from a.end a.up j i (omega arith) (omega arith)))
+    added_then c.loop-j.invariant c.one-s.ensures (λ i. rw e (arms_more a.h.now (copied a.v.now) c.args.from a.end a.up j i (omega arith) (omega arith)))
 
 pub returns : goal.returns
 returns g c =

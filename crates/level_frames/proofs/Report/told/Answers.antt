@@ -1,7 +1,5 @@
 -- `told`: the frame is accepted, so it is not refused.
-use Rattle.std.proofs.Common.{◌∙◌}
-use native.Mathlib.Omega.{arith}
-use lib.Seq.{length-take-le}
+use Rattle.std.proofs.Common.{◌∙◌, arith, length-take-le}
 use Rattle.level_frames.proofs.Accepted.{accepts, added, not_refused}
 use Rattle.level_frames.proofs.Report.told.Goals as goal
 

@@ -1,6 +1,5 @@
 -- `below`: the size after a minus sign.
-use Rattle.std.proofs.Common.{◌≡◌, arith}
-use mathlib.Core.Logic.{⊎_elim}
+use Rattle.std.proofs.Common.{◌≡◌, arith, ⊎_elim}
 use Rattle.text.proofs.Options.{no_some, some_is}
 use Rattle.level_settings.proofs.Gains.{no_minus, minus}
 use Rattle.level_settings.proofs.Negated.{negated_is}

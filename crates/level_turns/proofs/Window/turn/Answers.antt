@@ -1,6 +1,5 @@
 -- `turn` meets its contract.
-use Rattle.std.proofs.Common.{◌*◌, length, refl}
-use native.Mathlib.Omega.{arith}
+use Rattle.std.proofs.Common.{◌*◌, length, refl, arith}
 use borrow.Rule.Slice.PartMut.{mid_len}
 use Rattle.level_turns.proofs.Buffer.{one_long, turned}
 use Rattle.level_turns.proofs.Window.turn.Goals as goal

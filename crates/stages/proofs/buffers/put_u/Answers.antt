@@ -11,10 +11,10 @@ returns-clause-small_2 c =
 
 pub returns-clause-held : goal.returns-clause-held
 returns-clause-held c =
-    λ β i low bytes margin.
+    λ β i low bytes history.
     let m = c.args.m in
     let e = m + c.args.n in
     let part = part_length m e c.args.x.now (omega arith) in
     let fresh = wide_held c.args.bytes.now c.requires.byte_tables (λ j. (c.type_inv.bytes j).fits)
     (omega arith) c.first_stage.ensures β (i + m - 6) (i + m) (omega arith) (held_some _ (omega arith) bytes) in
-    joined_held m e c.args.x.now c.first_stage.new.out (omega arith) (omega arith) c.first_stage.auto.out margin fresh (omega arith) (omega (arith, part))
+    joined_held m e c.args.x.now c.first_stage.new.out (omega arith) (omega arith) c.first_stage.auto.out history fresh (omega arith) (omega (arith, part))

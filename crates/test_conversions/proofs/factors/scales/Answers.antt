@@ -1,6 +1,5 @@
 -- `scales` is safe: the factor of a made record is bounded, and the number is below 2^31 in size.
-use Rattle.std.proofs.Common.{ℕ, zero, suc, ◌<◌, ◌^◌, [], ◌∷◌, get_or, refl, sym, subst, arith}
-use lib.IntN.{ℤ, pos, nat_abs}
+use Rattle.std.proofs.Common.{ℕ, zero, suc, ◌<◌, ◌^◌, [], ◌∷◌, get_or, refl, sym, subst, arith, ℤ, pos, nat_abs}
 use Rattle.numbers.proofs.Machine.{val}
 use Rattle.gain.proofs.Records.{made_bounded}
 use Rattle.test_conversions.proofs.factors.scales.Goals as goal

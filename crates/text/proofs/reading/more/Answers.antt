@@ -1,6 +1,5 @@
 -- `more`: a number's digits before the last are a number's.
-use Rattle.std.proofs.Common.{◌≡◌, ◌<◌, arith, refl, sym}
-use mathlib.Core.Bool.{true≢false}
+use Rattle.std.proofs.Common.{◌≡◌, ◌<◌, arith, refl, sym, true≢false}
 use Rattle.text.proofs.Digits as digits
 use Rattle.text.proofs.Options.{no_some, some_is}
 use Rattle.text.proofs.Digits.{digit_is}

@@ -1,5 +1,4 @@
-use Rattle.std.proofs.Common.{◌≡◌, ◌+◌, length, arith, refl}
-use lib.ListN.{length-set}
+use Rattle.std.proofs.Common.{◌≡◌, ◌+◌, length, arith, refl, length-set}
 use Rattle.numbers.proofs.Lists.{held_none, held_more, is_tabulate}
 use Rattle.tracks.specs.Tracks.{heads_of, offset, all_length, data_start}
 use Rattle.tracks_plan.proofs.Offsets.{offset_next, offset_most}

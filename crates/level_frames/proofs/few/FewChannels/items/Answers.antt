@@ -1,8 +1,5 @@
 -- `items` meets its contract: the samples of a frame of one or two channels have room.
-use mathlib.Core.Path.{◌≡◌}
-use Rattle.std.proofs.Common.{ℕ, ◌*◌, ◌≤◌}
-use native.Mathlib.Nat.{mul-le-mul}
-use native.Mathlib.Omega.{arith}
+use Rattle.std.proofs.Common.{◌≡◌, ℕ, ◌*◌, ◌≤◌, mul-le-mul, arith}
 use Rattle.reference.specs.Output.{samples_per_frame}
 use Rattle.reference.specs.declared.PcmRate.{PcmRate}
 use Rattle.reference.proofs.Frames.{frame_samples}

@@ -1,7 +1,5 @@
 -- `labelled_signed`: a number of 32 bits has at most eleven characters.
-use Rattle.std.proofs.Common.{◌≡◌, ◌∙◌, ℤ, w32, w64, to_z, of_z, arith}
-use mir.Facts.{to_z-of_z}
-use mir.Val.{SFits}
+use Rattle.std.proofs.Common.{◌≡◌, ◌∙◌, ℤ, w32, w64, to_z, of_z, arith, to_z-of_z, SFits}
 use Rattle.text.proofs.Signs.{short}
 use Rattle.text.proofs.Writing.{both}
 use Rattle.text.proofs.putting.Text.labelled_signed.Goals as goal
