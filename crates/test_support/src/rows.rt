@@ -1,9 +1,16 @@
 // Stored cases: files of hexadecimal numbers, each with one byte behind it.
+ghost use Rattle.std.specs.Prelude.{◌≡◌, IfOk, IfSome, ◌*◌, ◌<◌};
+ghost use Rattle.test_support.specs.inner.Answers as answers;
+ghost use Rattle.test_support.specs.inner.Answers.{numbers_behind};
+
 use std::alloc::{AllocError, Global};
 use std::rt::Files;
 use std::{fs, io};
 
-fn digit(b: u8) -> Option<u64> {
+#[tactic(auto, using(std::proofs::lemmas::Bool::Decides::nat_tests), unfolding(crate::specs::inner::Answers::digit))]
+fn digit(b: u8) -> Option<u64>
+    ensures { (result ≡ answers.digit b) × IfSome result (λ d. d < 16) }
+{
     match b {
         b'0'..=b'9' => Some(u64::from(b - 48)),
         b'a'..=b'f' => Some(u64::from(b - 87)),
@@ -11,12 +18,14 @@ fn digit(b: u8) -> Option<u64> {
     }
 }
 
-fn numbers_of(alloc: Global, text: &[u8]) -> Result<Vec<u64>, AllocError> {
+fn numbers_of(alloc: Global, text: &[u8]) -> Result<Vec<u64>, AllocError>
+    ensures { IfOk result (λ all. all.items ≡ numbers_behind 0 text.now) }
+{
     let mut all = Vec::new(alloc);
     let mut n = 0u64;
     for b in text {
         match digit(*b) {
-            Some(d) => n = n.wrapping_mul(16) | d,
+            Some(d) => n = n % 0x1000_0000_0000_0000 * 16 + d,
             None => {
                 all.push(n)?;
                 n = 0;
