@@ -1,5 +1,6 @@
 // Stored cases: files of hexadecimal numbers, each with one byte behind it.
-ghost use Rattle.std.specs.Prelude.{◌≡◌, IfOk, IfSome, ◌*◌, ◌<◌};
+ghost use Rattle.std.specs.Prelude.{◌≡◌, IfOk, IfSome, is_some, ◌*◌, ◌-◌, ◌/◌, ◌<◌, length, get_or};
+ghost use Rattle.std.specs.Simd.{first_chunks};
 ghost use Rattle.test_support.specs.inner.Answers as answers;
 ghost use Rattle.test_support.specs.inner.Answers.{numbers_behind};
 
@@ -35,10 +36,37 @@ fn numbers_of(alloc: Global, text: &[u8]) -> Result<Vec<u64>, AllocError>
     Ok(all)
 }
 
-// The numbers of a file.
-pub fn numbers<R: Files + AllocGlobal>(rt: &R, path: &str) -> io::Result<Vec<u64>> {
+// Whether no byte stands behind a text's last number.
+fn ends_within_a_number(text: &[u8]) -> bool
+    ensures { result ≡ is_some (answers.digit (get_or text.now (length text.now - 1) 0)) }
+{
+    let last = text.len().saturating_sub(1);
+    digit(*text.get(last).unwrap_or(&0)).is_some()
+}
+
+// The numbers of a file. That one is not there is said, and that it ends within a number.
+pub fn numbers<R: Files + Print + AllocGlobal>(rt: &R, path: &str) -> io::Result<Vec<u64>> {
+    if !fs::exists(rt, path)? {
+        println!(rt; "{path} is missing")?;
+        return Ok(Vec::new(rt.alloc()));
+    }
     let text = fs::read(rt, path)?;
+    if ends_within_a_number(&text) {
+        println!(rt; "{path} has half a number")?;
+    }
     Ok(numbers_of(rt.alloc(), &text)?)
+}
+
+// The numbers as rows of so many. That a row is not whole is said.
+pub fn rows_of<'a, const N: usize>(rt: &impl Print, name: &str, numbers: &'a [u64]) -> io::Result<&'a [[u64; N]]>
+    requires { 0 < N }
+    ensures { IfOk result (λ rows. rows.now ≡ first_chunks N (length numbers.now / N) numbers.now) }
+{
+    let (rows, rest) = numbers.as_chunks::<N>();
+    if !rest.is_empty() {
+        println!(rt; "{name} has another number of numbers")?;
+    }
+    Ok(rows)
 }
 
 // How many cases there are, and how many are right.

@@ -3,7 +3,7 @@
 use c_tracks::Asked;
 use std::rt::Files;
 use std::{fs, io};
-use test_support::{behind, float, numbers, print_right, put, rate_of_hertz, up_to};
+use test_support::{behind, float, numbers, print_right, put, rate_of_hertz, rows_of, up_to};
 use tracks_open::Tracks;
 use wave_headers::Format;
 
@@ -75,14 +75,17 @@ fn part_right(&[frames, jobs, j, first, end]: &[u64; 5]) -> bool {
 pub fn all<R: Files + Print + AllocGlobal>(rt: &R) -> io::Result<()> {
     let bytes = fs::read(rt, "single_bytes")?;
     let rows = numbers(rt, "singles")?;
-    print_right(rt, "albums of one file", rows.as_chunks::<24>().0, |row| {
-        Ok(single_right(row, &bytes))
-    })?;
+    print_right(
+        rt,
+        "albums of one file",
+        rows_of::<24>(rt, "singles", &rows)?,
+        |row| { Ok(single_right(row, &bytes)) },
+    )?;
     let rows = numbers(rt, "shares")?;
     print_right(
         rt,
         "parts",
-        rows.as_chunks::<5>().0,
+        rows_of::<5>(rt, "shares", &rows)?,
         |row| Ok(part_right(row)),
     )
 }
