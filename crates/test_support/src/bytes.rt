@@ -1,6 +1,6 @@
 // Bytes out of a seed, parts of lists, digests.
 ghost use Rattle.std.specs.Prelude.{◌≡◌, ◌/◌, ◌%◌, min, length, take, drop};
-ghost use Rattle.test_support.specs.inner.Answers.{following};
+ghost use Rattle.test_support.specs.inner.Answers.{following, digest_on};
 
 // The next number of a sequence below 2^32, and the byte that it stands for.
 pub fn next(x: u64) -> u64
@@ -38,7 +38,9 @@ pub fn words(bytes: &mut [u8], numbers: &[u64]) {
     }
 }
 
-pub fn digest(bytes: &[u8]) -> u64 {
+pub fn digest(bytes: &[u8]) -> u64
+    ensures { result ≡ digest_on 0 bytes.now }
+{
     let mut h = 0u64;
     for b in bytes {
         h = (h % 4294967291 * 1664525 + u64::from(*b) + 1) % 4294967291;

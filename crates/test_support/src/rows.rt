@@ -58,7 +58,11 @@ pub fn numbers<R: Files + Print + AllocGlobal>(rt: &R, path: &str) -> io::Result
 }
 
 // The numbers as rows of so many. That a row is not whole is said.
-pub fn rows_of<'a, const N: usize>(rt: &impl Print, name: &str, numbers: &'a [u64]) -> io::Result<&'a [[u64; N]]>
+pub fn rows_of<'a, const N: usize>(
+    rt: &impl Print,
+    name: &str,
+    numbers: &'a [u64],
+) -> io::Result<&'a [[u64; N]]>
     requires { 0 < N }
     ensures { IfOk result (λ rows. rows.now ≡ first_chunks N (length numbers.now / N) numbers.now) }
 {

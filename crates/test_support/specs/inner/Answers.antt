@@ -49,3 +49,8 @@ numbers_behind n (b ∷ bs) = by_digit (digit b) (λ d. numbers_behind (n % 2 ^ 
 -- the number of the sequence below 2^32 that follows x
 abbrev pub following : ℕ → ℕ
 following x = (x % 4294967296 * 1664525 + 1013904223) % 4294967296
+
+-- what a digest makes of bytes, from h on
+unfoldable pub digest_on : ℕ → List ℕ → ℕ
+digest_on h [] = h
+digest_on h (b ∷ bs) = digest_on ((h % 4294967291 * 1664525 + b + 1) % 4294967291) bs
