@@ -44,13 +44,18 @@ fn ends_within_a_number(text: &[u8]) -> bool
     digit(*text.get(last).unwrap_or(&0)).is_some()
 }
 
-// The numbers of a file. That one is not there is said, and that it ends within a number.
-pub fn numbers<R: Files + Print + AllocGlobal>(rt: &R, path: &str) -> io::Result<Vec<u64>> {
-    if !fs::exists(rt, path)? {
-        println!(rt; "{path} is missing")?;
-        return Ok(Vec::new(rt.alloc()));
+// The bytes of a stored file. That it is not there is said, and it has none then.
+pub fn bytes_of<R: Files + Print + AllocGlobal>(rt: &R, path: &str) -> io::Result<Vec<u8>> {
+    if fs::exists(rt, path)? {
+        return fs::read(rt, path);
     }
-    let text = fs::read(rt, path)?;
+    println!(rt; "{path} is missing")?;
+    Ok(Vec::new(rt.alloc()))
+}
+
+// The numbers of a stored file. That it ends within one is said.
+pub fn numbers<R: Files + Print + AllocGlobal>(rt: &R, path: &str) -> io::Result<Vec<u64>> {
+    let text = bytes_of(rt, path)?;
     if ends_within_a_number(&text) {
         println!(rt; "{path} has half a number")?;
     }

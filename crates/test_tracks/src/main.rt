@@ -11,7 +11,7 @@ mod steps;
 use case::{Case, Files, Row, Tables};
 use std::io;
 use std::rt::Files as HasFiles;
-use test_support::{print_right, rows_of};
+use test_support::{bytes_of, print_right, rows_of};
 
 // An album's numbers, headers, plan and samples; of a refused one the answer alone.
 fn case_right(alloc: std::alloc::Global, row: &Row, tables: Tables<'_>) -> io::Result<bool> {
@@ -31,7 +31,7 @@ fn case_right(alloc: std::alloc::Global, row: &Row, tables: Tables<'_>) -> io::R
 
 fn main(rt: HostRuntime) -> io::Result<()> {
     let alloc = rt.alloc();
-    let bytes = std::fs::read(&rt, "bytes")?;
+    let bytes = bytes_of(&rt, "bytes")?;
     let albums = test_support::numbers(&rt, "albums")?;
     let tracks = test_support::numbers(&rt, "tracks")?;
     let steps = test_support::numbers(&rt, "steps")?;

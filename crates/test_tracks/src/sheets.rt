@@ -1,8 +1,9 @@
 // Statistics printed as a sheet, or refused; two statistics joined.
+use std::io;
 use std::rt::Files;
-use std::{fs, io};
 use test_support::{
-    answered, behind, numbers, print_right, refusal, rows_of, stats_are, stats_of_row, up_to,
+    answered, behind, bytes_of, numbers, print_right, refusal, rows_of, stats_are, stats_of_row,
+    up_to,
 };
 
 // Channels, the output's length, the statistics, the answer, and where the sheet stands, with its length. Nothing is
@@ -32,7 +33,7 @@ fn join_right(row: &[u64; 72]) -> bool {
 }
 
 pub fn all<R: Files + Print + AllocGlobal>(rt: &R) -> io::Result<()> {
-    let sheets = fs::read(rt, "sheets")?;
+    let sheets = bytes_of(rt, "sheets")?;
     let rows = numbers(rt, "statistics")?;
     print_right(
         rt,

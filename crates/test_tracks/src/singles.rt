@@ -1,9 +1,11 @@
 // Albums of one file: how each opens, and the header of its plain WAV file; parts of jobs. compare/albums.py says what
 // stands where. Their samples and sentences are command/stored.py's to compare.
 use c_tracks::Asked;
+use std::io;
 use std::rt::Files;
-use std::{fs, io};
-use test_support::{behind, float, numbers, print_right, put, rate_of_hertz, rows_of, up_to};
+use test_support::{
+    behind, bytes_of, float, numbers, print_right, put, rate_of_hertz, rows_of, up_to,
+};
 use tracks_open::Tracks;
 use wave_headers::Format;
 
@@ -73,7 +75,7 @@ fn part_right(&[frames, jobs, j, first, end]: &[u64; 5]) -> bool {
 }
 
 pub fn all<R: Files + Print + AllocGlobal>(rt: &R) -> io::Result<()> {
-    let bytes = fs::read(rt, "single_bytes")?;
+    let bytes = bytes_of(rt, "single_bytes")?;
     let rows = numbers(rt, "singles")?;
     print_right(
         rt,
