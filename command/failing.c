@@ -8,7 +8,8 @@
  *       wrong                    a write gives another first byte
  *       came                     at an open that may make a file, another one has made it just before
  *       hold                     a word is written to the pipe FAILING_HOLD.at, and one is read from FAILING_HOLD.go
- *     FAILING_MARK             a file that is made where something happened at one call alone */
+ *     FAILING_MARK             a file that is made where something happened at one call alone
+ *     FAILING_LATER=N          the steady clock goes N milliseconds on at each reading, beside its own going */
 #define _GNU_SOURCE
 #include <dlfcn.h>
 #include <errno.h>
@@ -25,6 +26,7 @@
 #include <sys/syscall.h>
 #include <sys/types.h>
 #include <sys/wait.h>
+#include <time.h>
 #include <unistd.h>
 
 static int raw_open(const char *path, int flags) {
@@ -169,3 +171,14 @@ FAILS(int, "kill", kill, (pid_t process, int signal), (process, signal))
 FAILS(int, "prctl", prctl, (int what, unsigned long with), (what, with))
 FAILS(int, "sigaction", sigaction, (int n, const struct sigaction *to, struct sigaction *was), (n, to, was))
 FAILS(int, "sigprocmask", sigprocmask, (int how, const sigset_t *to, sigset_t *was), (how, to, was))
+
+int clock_gettime(clockid_t clock, struct timespec *at) {
+    static long readings;
+    const char *later = getenv("FAILING_LATER");
+    int status = (int)syscall(SYS_clock_gettime, clock, at);
+    if (status || !later || clock != CLOCK_MONOTONIC) return status;
+    long long ns = at->tv_nsec + ++readings * atoll(later) * 1000000;
+    at->tv_sec += ns / 1000000000;
+    at->tv_nsec = ns % 1000000000;
+    return 0;
+}

@@ -67,12 +67,37 @@ fn number(channel: ChannelStats, k: usize) -> u64
 }
 
 // Statistics are written.
-#[tactic(auto, unfolding(crate::specs::Stats::stat_numbers))]
+#[tactic(auto, unfolding(crate::specs::Stats::stat_numbers, reference::specs::Statistics::channel_of, reference::specs::Statistics::no_samples, numbers::specs::Lists::tabulate))]
 pub fn put_stats(stats: ConvertStats, block: &mut [u64; 24])
     ensures { block.new ≡ stat_numbers stats }
 {
-    let numbers = array::from_fn(|k| number(stats.channels[k % 6], k / 6));
-    *block = numbers;
+    let [a, b, c, d, e, f] = stats.channels;
+    *block = [
+        number(a, 0),
+        number(b, 0),
+        number(c, 0),
+        number(d, 0),
+        number(e, 0),
+        number(f, 0),
+        number(a, 1),
+        number(b, 1),
+        number(c, 1),
+        number(d, 1),
+        number(e, 1),
+        number(f, 1),
+        number(a, 2),
+        number(b, 2),
+        number(c, 2),
+        number(d, 2),
+        number(e, 2),
+        number(f, 2),
+        number(a, 3),
+        number(b, 3),
+        number(c, 3),
+        number(d, 3),
+        number(e, 3),
+        number(f, 3),
+    ];
 }
 
 // A conversion's decision is told, and its statistics are written where it was accepted.

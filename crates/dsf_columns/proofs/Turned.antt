@@ -1,5 +1,5 @@
 -- A byte turned twice is the byte, by a test over all 256.
-use Rattle.std.proofs.Common.{◌≡◌, refl, Bool, true, false, cond, ◌&&◌, ℕ, ◌<◌, T, eqb, ltb, eqb→eq}
+use Rattle.std.proofs.Common.{◌≡◌, refl, Bool, true, false, cond, ◌&&◌, ℕ, ◌<◌, T, eqb, ltb, eqb→eq, ltb→lt}
 use Rattle.numbers.specs.Lists.{total}
 use Rattle.numbers.specs.Tests.{each_below}
 use Rattle.numbers.proofs.Tests.{each_below_at}
@@ -7,7 +7,7 @@ use Rattle.std.specs.Int.{w8, reverse_bits, reverse_bits_onto}
 use Rattle.dsf.specs.Dsf.{turned, our_byte}
 use Rattle.dsf.specs.inner.Orders.{bit_order, ordered}
 use Rattle.dsf.specs.declared.BitOrder.TheVariants.{LowestFirst, HighestFirst}
-use Rattle.dsf.proofs.Alike.{left}
+use Rattle.dsf.proofs.Alike.{left, right}
 
 test : ℕ → Bool
 test x = eqb (turned (turned x)) x && ltb (turned x) 256
@@ -19,6 +19,10 @@ all_turned = tt
 pub turned_twice : (x : ℕ) → x < 256 → turned (turned x) ≡ x
 unfolding test
 turned_twice x h = eqb→eq _ _ (left (eqb (turned (turned x)) x) (ltb (turned x) 256) (each_below_at test 256 x all_turned h))
+
+pub turned_byte : (x : ℕ) → x < 256 → turned x < 256
+unfolding test
+turned_byte x h = ltb→lt _ _ (right (eqb (turned (turned x)) x) (ltb (turned x) 256) (each_below_at test 256 x all_turned h))
 
 -- as the machine turns it
 same : ℕ → Bool

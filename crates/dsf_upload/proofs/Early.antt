@@ -38,6 +38,10 @@ unfolding hopeful head_hopeful all fits any alike layout pairs orders frequency 
 empty_hopeful = tt
 
 module _ (file : List ℕ) (b : Bytes file) where
+  pub shorter_hopeful : (m n : ℕ) → m ≤ n → T (hopeful (take n file)) → T (hopeful (take m file))
+  shorter_hopeful m n h t =
+      (decides (take m file) (each_take m file b)).1 (shorter_continued m n file h b (continues (take n file) (each_take n file b) t))
+
   pub shortest : (n : ℕ) → n < length file → T (hopeful (take n file)) → T (not (hopeful (take (suc n) file))) → ShortestHopeless file (suc n)
   shortest n l h k =
       record {
@@ -45,6 +49,12 @@ module _ (file : List ℕ) (b : Bytes file) where
         hopeless = hopeless (take (suc n) file) (each_take (suc n) file b) k;
         shorter = λ m s. shorter_continued m n file (omega arith) b (continues (take n file) (each_take n file b) h);
       }
+
+  -- a file with a hopeless beginning is not accepted
+  pub not_accepted : {n : ℕ} → ShortestHopeless file n → T (not (accepts file))
+  not_accepted {n} s =
+      not_T (accepts file)
+      (λ a. s.hopeless (record { rest = drop n file; are_bytes = each_drop n b; accepted = rw (take-append-drop n file) a }))
 
   -- past the header only the stated length counts
   module _ (n : ℕ) (h : 92 ≤ n) (l : n ≤ length file) where

@@ -95,6 +95,14 @@ module _ {R : ℤ → ℤ → Type 0} {pick : ℤ → ℤ → ℤ} (b : Best R p
   from_start s f a zero = b.same s
   from_start s f a (suc n) = b.next _ _ _ (b.left _ _) (from_start s f a n)
 
+  pub picked_join : (s : ℤ) (f : ℕ → ℤ) (a m n : ℕ) → pick (picked pick s f a m) (picked pick s f (a + m) n) ≡ picked pick s f a (m + n)
+  unfolding picked
+  picked_join s f a m zero = rw (add-zero m) (kept _ _ (from_start s f a m))
+  picked_join s f a m (suc n) =
+      let e : m + suc n ≡ suc (m + n) = omega arith in
+      let i : a + m + n ≡ a + (m + n) = omega arith in
+      rw e (assoc _ _ _ ∙ rw (picked_join s f a m n, i) refl)
+
   -- one the other betters
   pub bettered : (x y : ℤ) → R y x → pick x y ≡ y
   bettered x y h = b.anti _ _ (b.right x y) (b.best _ _ _ h (b.same y))

@@ -79,6 +79,10 @@ pub F40_last : M F40 ≡ 60
 unfolding F40
 F40_last = refl
 
+pub F30_last : M F30 ≡ 80
+unfolding F30
+F30_last = refl
+
 pub F80_last : M F80 ≡ 116
 unfolding F80
 F80_last = refl

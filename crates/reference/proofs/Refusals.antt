@@ -149,6 +149,9 @@ module _ (conv : Converter) (opens : decide (held_places conv) ≡ accepted) whe
   unfolding true_numbers
   later_true = and_right (eqb conv.samples_per_frame (samples_per_frame conv.rate)) _ numbers_true
 
+  pub stored_reach : conv.reach ≡ reach_of conv
+  stored_reach = eqb-true _ _ (and_left _ _ later_true)
+
   pub stored_frame : conv.frame_length ≡ frame_length conv.channels
   stored_frame = eqb-true _ _ (and_right (eqb conv.reach (reach_of conv)) _ later_true)
 

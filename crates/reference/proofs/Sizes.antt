@@ -73,6 +73,9 @@ module _ (F : List ℤ) (small : absolute_sum F ≤ 40000000) (β : ℕ → ℕ)
   w_sum_at_most : (i : ℕ) → nat_abs (fir F (v β) i) ≤ 40000000 * 2 ^ 27
   w_sum_at_most i = omega (arith, fir_size F (v β) i (2 ^ 27) (λ k. omega (arith, v_size β k)), mul-le-mul_right (2 ^ 27) small)
 
+  pub w_sum_size : (i : ℕ) → nat_abs (fir F (v β) i) < 2 ^ 53
+  w_sum_size i = omega (arith, w_sum_at_most i)
+
   pub w_size : (i : ℕ) → nat_abs (w F β i) < 2 ^ 29
   unfolding w
   w_size i = omega (arith, R_size (fir F (v β) i) 24, w_sum_at_most i)

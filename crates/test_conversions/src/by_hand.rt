@@ -5,7 +5,7 @@ use reference::{Converter, Filter, Length, Run};
 use std::alloc::Global;
 use std::io;
 use std::rt::Files;
-use test_support::{Told, cutoff, gain, numbers, print_right, rate, refusal, up_to};
+use test_support::{Told, cutoff, gain, numbers, print_right, rate, refusal, rows_of, up_to};
 
 // A record: route, channels, decibels, factor, the filter's count and two taps, the numbers that it stores. A change:
 // route, decibels, factor, the answer, the record's six numbers after it. A conversion: bytes of the frame, samples of
@@ -79,7 +79,7 @@ pub fn all<R: Files + Print + AllocGlobal>(rt: &R) -> io::Result<()> {
     let records = numbers(rt, "records")?;
     let mut noise = [0u8; 9408];
     test_support::fill(70, &mut noise);
-    let rows = records.as_chunks::<27>().0;
+    let rows = rows_of::<27>(rt, "records", &records)?;
     print_right(rt, "records changed", rows, |row| Ok(change_right(row)))?;
     print_right(rt, "records converted with", rows, |row| {
         conversions_right(alloc, row, &noise)

@@ -6,7 +6,8 @@ use std::alloc::{AllocError, Global};
 use std::io;
 use std::rt::Files;
 use test_support::{
-    Told, answered, bits, clipped, cutoff, gain, numbers, print_right, rate, refusal, route, up_to,
+    Told, answered, bits, clipped, cutoff, gain, numbers, print_right, rate, refusal, route,
+    rows_of, up_to,
 };
 
 // Route, channels, decibels, factor, whether the filter is the row's own, its count and two taps; the opening's answer
@@ -125,7 +126,7 @@ pub fn all<R: Files + Print + AllocGlobal>(rt: &R) -> io::Result<()> {
     print_right(
         rt,
         "lists of six changes",
-        changes.as_chunks::<86>().0,
+        rows_of::<86>(rt, "changes", &changes)?,
         |row| { row_right(alloc, row, &noise) },
     )
 }

@@ -6,7 +6,7 @@ use crate::input::biased;
 use reference::PcmError;
 use std::io;
 use std::rt::Files;
-use test_support::{bits, float, numbers, print_right};
+use test_support::{bits, float, numbers, print_right, rows_of};
 
 // Decibels and their factor, by their bits.
 fn is_factor(&[db, factor]: &[u64; 2]) -> bool {
@@ -97,14 +97,14 @@ pub fn all<R: Files + Print + AllocGlobal>(rt: &R) -> io::Result<()> {
     print_right(
         rt,
         "factors",
-        rows.as_chunks::<2>().0,
+        rows_of::<2>(rt, "factors", &rows)?,
         |row| Ok(is_factor(row)),
     )?;
     let rows = numbers(rt, "scalings")?;
     print_right(
         rt,
         "scalings",
-        rows.as_chunks::<4>().0,
+        rows_of::<4>(rt, "scalings", &rows)?,
         |row| Ok(scales(row)),
     )?;
     print_right(rt, "edges of the gain", &EDGES, |row| Ok(edge_right(row)))?;

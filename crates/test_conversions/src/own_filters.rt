@@ -7,7 +7,9 @@ use reference::{Converter, Filter, Settings};
 use std::alloc::Global;
 use std::rt::Files;
 use std::{array, io};
-use test_support::{Told, answered, channel_numbers, gain, numbers, print_right, refusal, stats};
+use test_support::{
+    Told, answered, channel_numbers, gain, numbers, print_right, refusal, rows_of, stats,
+};
 
 type Row = [u64; 80];
 
@@ -97,7 +99,10 @@ fn is_right(call: Call, made: &Made, conv: Converter, row: &Row) -> bool {
 pub fn all<R: Files + Print + AllocGlobal>(rt: &R) -> io::Result<()> {
     let alloc = rt.alloc();
     let rows = numbers(rt, "filters")?;
-    print_right(rt, "own filters", rows.as_chunks::<80>().0, |row| {
-        row_right(alloc, row)
-    })
+    print_right(
+        rt,
+        "own filters",
+        rows_of::<80>(rt, "filters", &rows)?,
+        |row| { row_right(alloc, row) },
+    )
 }

@@ -4,9 +4,11 @@ use crate::input::{Input, of_bytes, of_samples};
 use crate::{calls, input};
 use reference::{Converter, Length, Run};
 use std::alloc::{AllocError, Global};
+use std::io;
 use std::rt::Files;
-use std::{fs, io};
-use test_support::{Told, behind, clipped, float, numbers, print_right, refusal};
+use test_support::{
+    Told, behind, bytes_of, clipped, float, numbers, print_right, refusal, rows_of,
+};
 
 // Route, channels, decibels as bits, frames, neighbours, pattern, seed; two digests of the samples, two of the bytes,
 // the clips of six channels and of two frames.
@@ -111,10 +113,13 @@ fn row_right(alloc: Global, headers: &[[u8; 44]], row: &Row) -> io::Result<bool>
 
 pub fn all<R: Files + Print + AllocGlobal>(rt: &R) -> io::Result<()> {
     let alloc = rt.alloc();
-    let text = fs::read(rt, "wav_headers")?;
+    let text = bytes_of(rt, "wav_headers")?;
     let headers = text.as_chunks::<44>().0;
     let rows = numbers(rt, "conversions")?;
-    print_right(rt, "conversions", rows.as_chunks::<19>().0, |row| {
-        row_right(alloc, headers, row)
-    })
+    print_right(
+        rt,
+        "conversions",
+        rows_of::<19>(rt, "conversions", &rows)?,
+        |row| { row_right(alloc, headers, row) },
+    )
 }

@@ -5,7 +5,7 @@ use reference::PcmError;
 use std::alloc::{AllocError, Global};
 use std::io;
 use std::rt::Files;
-use test_support::{answered, digest, numbers, print_right, put, refusal, up_to, words};
+use test_support::{answered, digest, numbers, print_right, put, refusal, rows_of, up_to, words};
 
 // What stands in a buffer before a call.
 const JUNK: u8 = 0x5a;
@@ -65,10 +65,10 @@ fn frame_right(alloc: Global, files: &[File], row: &[u64; 7]) -> io::Result<bool
 pub fn files<R: Files + Print + AllocGlobal>(rt: &R) -> io::Result<()> {
     let alloc = rt.alloc();
     let list = numbers(rt, "files")?;
-    let files = list.as_chunks::<20>().0;
+    let files = rows_of::<20>(rt, "files", &list)?;
     print_right(rt, "files", files, |row| file_right(alloc, row))?;
     let frames = numbers(rt, "frames")?;
-    print_right(rt, "frames", frames.as_chunks::<7>().0, |row| {
+    print_right(rt, "frames", rows_of::<7>(rt, "frames", &frames)?, |row| {
         frame_right(alloc, files, row)
     })
 }
@@ -115,11 +115,17 @@ fn out_of_window(alloc: Global, row: &[u64; 25]) -> io::Result<bool> {
 pub fn parts<R: Files + Print + AllocGlobal>(rt: &R) -> io::Result<()> {
     let alloc = rt.alloc();
     let headers = numbers(rt, "headers")?;
-    print_right(rt, "headers", headers.as_chunks::<20>().0, |row| {
-        Ok(header_right(row))
-    })?;
+    print_right(
+        rt,
+        "headers",
+        rows_of::<20>(rt, "headers", &headers)?,
+        |row| { Ok(header_right(row)) },
+    )?;
     let windows = numbers(rt, "windows")?;
-    print_right(rt, "windows", windows.as_chunks::<25>().0, |row| {
-        out_of_window(alloc, row)
-    })
+    print_right(
+        rt,
+        "windows",
+        rows_of::<25>(rt, "windows", &windows)?,
+        |row| { out_of_window(alloc, row) },
+    )
 }

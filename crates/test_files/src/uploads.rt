@@ -4,7 +4,7 @@ use dsf_upload::Upload;
 use std::alloc::Global;
 use std::io;
 use std::rt::Files;
-use test_support::{numbers, print_right, put, up_to, words};
+use test_support::{numbers, print_right, put, rows_of, up_to, words};
 
 const WHOLE: u64 = 65536;
 
@@ -40,9 +40,12 @@ fn upload_right(alloc: Global, heads: &[[u64; 12]], row: &[u64; 7]) -> io::Resul
 pub fn all<R: Files + Print + AllocGlobal>(rt: &R) -> io::Result<()> {
     let alloc = rt.alloc();
     let heads = numbers(rt, "heads")?;
-    let heads = heads.as_chunks::<12>().0;
+    let heads = rows_of::<12>(rt, "heads", &heads)?;
     let uploads = numbers(rt, "uploads")?;
-    print_right(rt, "uploads", uploads.as_chunks::<7>().0, |row| {
-        upload_right(alloc, heads, row)
-    })
+    print_right(
+        rt,
+        "uploads",
+        rows_of::<7>(rt, "uploads", &uploads)?,
+        |row| { upload_right(alloc, heads, row) },
+    )
 }

@@ -3,8 +3,8 @@
 use reference::PcmRate;
 use std::alloc::{AllocError, Global};
 use std::rt::Files;
-use std::{array, fs, io};
-use test_support::{answered, print_right, refusal};
+use std::{array, io};
+use test_support::{answered, bytes_of, print_right, refusal};
 
 #[derive(Clone, Copy)]
 pub struct Case {
@@ -94,7 +94,7 @@ fn is_refused(alloc: Global, row: &[u64; 6]) -> io::Result<bool> {
 
 pub fn all<R: Files + Print + AllocGlobal>(rt: &R) -> io::Result<()> {
     let alloc = rt.alloc();
-    let text = fs::read(rt, "wav_headers")?;
+    let text = bytes_of(rt, "wav_headers")?;
     let headers = text.as_chunks::<44>().0;
     print_right(rt, "WAV files", &cases(), |case| {
         file_right(alloc, headers, *case)

@@ -4,7 +4,7 @@ ghost use Rattle.std.specs.Prelude.{◌<◌};
 use std::alloc::Global;
 use std::io;
 use std::rt::Files;
-use test_support::{answered, digest, numbers, print_right, refusal};
+use test_support::{answered, digest, numbers, print_right, refusal, rows_of};
 
 // Whether a file holds these frames, each of so many bytes.
 fn holds(alloc: Global, file: &[u8], frames: &[u8], size: usize) -> io::Result<bool>
@@ -50,11 +50,17 @@ fn length_right(&[channels, bytes, number, first, second, length]: &[u64; 6]) ->
 pub fn all<R: Files + Print + AllocGlobal>(rt: &R) -> io::Result<()> {
     let alloc = rt.alloc();
     let files = numbers(rt, "written")?;
-    print_right(rt, "files written", files.as_chunks::<8>().0, |row| {
-        written_right(alloc, row)
-    })?;
+    print_right(
+        rt,
+        "files written",
+        rows_of::<8>(rt, "written", &files)?,
+        |row| { written_right(alloc, row) },
+    )?;
     let lengths = numbers(rt, "lengths")?;
-    print_right(rt, "lengths", lengths.as_chunks::<6>().0, |row| {
-        Ok(length_right(row))
-    })
+    print_right(
+        rt,
+        "lengths",
+        rows_of::<6>(rt, "lengths", &lengths)?,
+        |row| { Ok(length_right(row)) },
+    )
 }

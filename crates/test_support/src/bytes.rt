@@ -1,11 +1,17 @@
 // Bytes out of a seed, parts of lists, digests.
+ghost use Rattle.std.specs.Prelude.{◌≡◌, ◌/◌, ◌%◌, min, length, take, drop};
+ghost use Rattle.test_support.specs.inner.Answers.{following, digest_on};
 
 // The next number of a sequence below 2^32, and the byte that it stands for.
-pub fn next(x: u64) -> u64 {
+pub fn next(x: u64) -> u64
+    ensures { result ≡ following x }
+{
     (x % 0x1_0000_0000 * 1664525 + 1013904223) % 0x1_0000_0000
 }
 
-pub fn top(x: u64) -> u8 {
+pub fn top(x: u64) -> u8
+    ensures { result ≡ x / 16777216 % 256 }
+{
     (x / 0x100_0000 % 256) as u8
 }
 
@@ -32,7 +38,9 @@ pub fn words(bytes: &mut [u8], numbers: &[u64]) {
     }
 }
 
-pub fn digest(bytes: &[u8]) -> u64 {
+pub fn digest(bytes: &[u8]) -> u64
+    ensures { result ≡ digest_on 0 bytes.now }
+{
     let mut h = 0u64;
     for b in bytes {
         h = (h % 4294967291 * 1664525 + u64::from(*b) + 1) % 4294967291;
@@ -41,7 +49,9 @@ pub fn digest(bytes: &[u8]) -> u64 {
 }
 
 // The first n of a list, or all.
-pub fn up_to<T>(s: &[T], n: u64) -> &[T] {
+pub fn up_to<T>(s: &[T], n: u64) -> &[T]
+    ensures { result.now ≡ take n s.now }
+{
     &s[..s.len().min(n as usize)]
 }
 

@@ -1,13 +1,21 @@
 // Records out of numbers, floats by their bits.
+ghost use Rattle.std.specs.Prelude.{◌≡◌};
+ghost use Rattle.std.specs.Float.{binary64};
+ghost use Rattle.std.specs.Float.Ieee.{of_bits, to_bits};
+
 use reference::{ChannelStats, ConvertStats, Cutoff, Extremes, Filter, Gain, PcmRate, Settings};
 use std::num::{f64_from_bits_with_nan, f64_to_bits_with_nan};
 
 // Every NaN is one.
-pub fn float(n: u64) -> f64 {
+pub fn float(n: u64) -> f64
+    ensures { result ≡ of_bits binary64 n }
+{
     f64_from_bits_with_nan(n)
 }
 
-pub fn bits(x: f64) -> u64 {
+pub fn bits(x: f64) -> u64
+    ensures { result ≡ to_bits binary64 x }
+{
     f64_to_bits_with_nan(x)
 }
 

@@ -11,7 +11,7 @@ mod steps;
 use case::{Case, Files, Row, Tables};
 use std::io;
 use std::rt::Files as HasFiles;
-use test_support::print_right;
+use test_support::{bytes_of, print_right, rows_of};
 
 // An album's numbers, headers, plan and samples; of a refused one the answer alone.
 fn case_right(alloc: std::alloc::Global, row: &Row, tables: Tables<'_>) -> io::Result<bool> {
@@ -31,21 +31,21 @@ fn case_right(alloc: std::alloc::Global, row: &Row, tables: Tables<'_>) -> io::R
 
 fn main(rt: HostRuntime) -> io::Result<()> {
     let alloc = rt.alloc();
-    let bytes = std::fs::read(&rt, "bytes")?;
+    let bytes = bytes_of(&rt, "bytes")?;
     let albums = test_support::numbers(&rt, "albums")?;
     let tracks = test_support::numbers(&rt, "tracks")?;
     let steps = test_support::numbers(&rt, "steps")?;
     let parts = test_support::numbers(&rt, "parts")?;
     let tables = Tables {
-        tracks: tracks.as_chunks::<6>().0,
-        steps: steps.as_chunks::<7>().0,
-        parts: parts.as_chunks::<5>().0,
+        tracks: rows_of::<6>(&rt, "tracks", &tracks)?,
+        steps: rows_of::<7>(&rt, "steps", &steps)?,
+        parts: rows_of::<5>(&rt, "parts", &parts)?,
         bytes: &bytes,
     };
     print_right(
         &rt,
         "albums of tracks",
-        albums.as_chunks::<45>().0,
+        rows_of::<45>(&rt, "albums", &albums)?,
         |row| case_right(alloc, row, tables),
     )?;
     singles::all(&rt)?;

@@ -1,8 +1,9 @@
 // Statistics printed as a sheet, or refused; two statistics joined.
+use std::io;
 use std::rt::Files;
-use std::{fs, io};
 use test_support::{
-    answered, behind, numbers, print_right, refusal, stats_are, stats_of_row, up_to,
+    answered, behind, bytes_of, numbers, print_right, refusal, rows_of, stats_are, stats_of_row,
+    up_to,
 };
 
 // Channels, the output's length, the statistics, the answer, and where the sheet stands, with its length. Nothing is
@@ -32,13 +33,19 @@ fn join_right(row: &[u64; 72]) -> bool {
 }
 
 pub fn all<R: Files + Print + AllocGlobal>(rt: &R) -> io::Result<()> {
-    let sheets = fs::read(rt, "sheets")?;
+    let sheets = bytes_of(rt, "sheets")?;
     let rows = numbers(rt, "statistics")?;
-    print_right(rt, "sheets", rows.as_chunks::<31>().0, |row| {
-        Ok(sheet_right(row, &sheets))
-    })?;
+    print_right(
+        rt,
+        "sheets",
+        rows_of::<31>(rt, "statistics", &rows)?,
+        |row| { Ok(sheet_right(row, &sheets)) },
+    )?;
     let rows = numbers(rt, "joins")?;
-    print_right(rt, "joined statistics", rows.as_chunks::<72>().0, |row| {
-        Ok(join_right(row))
-    })
+    print_right(
+        rt,
+        "joined statistics",
+        rows_of::<72>(rt, "joins", &rows)?,
+        |row| { Ok(join_right(row)) },
+    )
 }

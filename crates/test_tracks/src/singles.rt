@@ -1,9 +1,11 @@
 // Albums of one file: how each opens, and the header of its plain WAV file; parts of jobs. compare/albums.py says what
 // stands where. Their samples and sentences are command/stored.py's to compare.
 use c_tracks::Asked;
+use std::io;
 use std::rt::Files;
-use std::{fs, io};
-use test_support::{behind, float, numbers, print_right, put, rate_of_hertz, up_to};
+use test_support::{
+    behind, bytes_of, float, numbers, print_right, put, rate_of_hertz, rows_of, up_to,
+};
 use tracks_open::Tracks;
 use wave_headers::Format;
 
@@ -73,16 +75,19 @@ fn part_right(&[frames, jobs, j, first, end]: &[u64; 5]) -> bool {
 }
 
 pub fn all<R: Files + Print + AllocGlobal>(rt: &R) -> io::Result<()> {
-    let bytes = fs::read(rt, "single_bytes")?;
+    let bytes = bytes_of(rt, "single_bytes")?;
     let rows = numbers(rt, "singles")?;
-    print_right(rt, "albums of one file", rows.as_chunks::<24>().0, |row| {
-        Ok(single_right(row, &bytes))
-    })?;
+    print_right(
+        rt,
+        "albums of one file",
+        rows_of::<24>(rt, "singles", &rows)?,
+        |row| { Ok(single_right(row, &bytes)) },
+    )?;
     let rows = numbers(rt, "shares")?;
     print_right(
         rt,
         "parts",
-        rows.as_chunks::<5>().0,
+        rows_of::<5>(rt, "shares", &rows)?,
         |row| Ok(part_right(row)),
     )
 }

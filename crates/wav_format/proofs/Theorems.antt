@@ -1,6 +1,6 @@
 -- Files written and read: the reader takes exactly the files of the definition, what is written is read back, what is
 -- read is written back; and a promise leaves nothing free.
-use Rattle.std.proofs.Common.{◌≡◌, refl, sym, ap, subst, ◌∙◌, List, true, ℕ, ◌+◌, length, drop, Result, Ok, Err}
+use Rattle.std.proofs.Common.{◌≡◌, refl, sym, ap, subst, ◌∙◌, List, true, ℕ, ◌+◌, T, length, drop, Result, Ok, Err, is_err}
 use Rattle.reference.specs.Refusals.{accepted, decide}
 use Rattle.reference.specs.declared.PcmRate.{PcmRate}
 use Rattle.reference.specs.declared.PcmError.{PcmError}
@@ -22,6 +22,9 @@ takes_exactly file =
 -- so a file of the definition is never refused, and any other always
 pub answered_taken : (file : List ℕ) (f : WavFormat) → ReadPromise file (Ok f) → Taken file
 answered_taken file f p = (takes_exactly file).0 (sym p.decided)
+
+pub answered_not : (file : List ℕ) (x : PcmError) → ReadPromise file (Err x) → Taken file → ⊥
+answered_not file x p t = subst (λ (r : Result WavFormat PcmError). T (is_err r)) (p.told t) tt
 
 -- ---- written, then read
 
