@@ -66,7 +66,7 @@ fn number(channel: ChannelStats, k: usize) -> u64
     }
 }
 
-// Statistics are written.
+// Statistics are written, number by number: a place of 24 would be divided for its channel and its kind.
 #[tactic(auto, unfolding(crate::specs::Stats::stat_numbers, reference::specs::Statistics::channel_of, reference::specs::Statistics::no_samples, numbers::specs::Lists::tabulate))]
 pub fn put_stats(stats: ConvertStats, block: &mut [u64; 24])
     ensures { block.new ≡ stat_numbers stats }

@@ -1,7 +1,8 @@
 // What a call answers, by numbers.
 ghost use Rattle.std.specs.Prelude.{◌≡◌, [], ◌∷◌, ◌&&◌, eqb};
 ghost use Rattle.reference.specs.Refusals.{decision, error_decision};
-ghost use Rattle.test_support.specs.inner.Answers.{told, stats_of, clips_of};
+ghost use Rattle.reference.specs.Promises.{stats_told};
+ghost use Rattle.test_support.specs.inner.Answers.{told, clips_of};
 
 use crate::{Converted, Told, bits};
 use reference::{ConvertStats, PcmError};
@@ -39,8 +40,9 @@ pub fn answered<T: Drop>(made: Result<T, PcmError>) -> Told
 }
 
 // A conversion's statistics; where it is refused, those of no samples.
+#[tactic(auto, unfolding(reference::specs::Promises::stats_told))]
 pub fn stats(done: Converted) -> ConvertStats
-    ensures { result ≡ stats_of done }
+    ensures { result ≡ stats_told done }
 {
     done.unwrap_or(reference::no_stats())
 }

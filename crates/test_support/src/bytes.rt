@@ -1,5 +1,5 @@
 // Bytes out of a seed, parts of lists, digests.
-ghost use Rattle.std.specs.Prelude.{◌≡◌, ◌/◌, ◌%◌, min, length, take, drop};
+ghost use Rattle.std.specs.Prelude.{◌≡◌, ◌/◌, ◌%◌, take};
 ghost use Rattle.test_support.specs.inner.Answers.{following, digest_on};
 
 // The next number of a sequence below 2^32, and the byte that it stands for.

@@ -1,35 +1,30 @@
 -- What the programs that compare go by: a decision as numbers, stored numbers, a sequence of bytes.
-use Rattle.std.specs.Prelude.{Result, Ok, Err, List, [], ◌∷◌, map, cond, Option, Some, None, ℕ, ◌+◌, ◌-◌, ◌*◌, ◌%◌, ◌^◌, ltb, get_or}
+use Rattle.std.specs.Prelude.{Result, List, [], ◌∷◌, map, cond, Option, Some, None, ℕ, ◌+◌, ◌-◌, ◌*◌, ◌%◌, ◌^◌, ltb, get_or}
 use Rattle.std.specs.Float.{binary64}
 use Rattle.std.specs.Float.Ieee.{to_bits}
-use Rattle.reference.specs.Refusals.{Decision, accepted, refused, Datum, number, rate, cutoff, decibels}
-use Rattle.reference.specs.Statistics.{channel_of, no_stats}
+use Rattle.reference.specs.Refusals.{Decision, refusal_number, Datum, decibels}
+use Rattle.reference.specs.Promises.{stats_told}
+use Rattle.reference.specs.Statistics.{channel_of}
 use Rattle.reference.specs.declared.ConvertStats.{ConvertStats}
 use Rattle.reference.specs.declared.PcmError.{PcmError}
-use Rattle.reference.specs.Codes.{hertz, cutoff_number}
+use Rattle.codes.specs.Codes as codes
+use Rattle.codes.specs.Codes.{carried}
 use Rattle.test_support.specs.declared.Told.{Told}
 
--- a datum as a number; decibels by their bits
+-- a datum as a number, as C is told it; but decibels by their bits
 abbrev pub datum_number : Datum → ℕ
-datum_number (number n) = n
-datum_number (rate r) = hertz r
-datum_number (cutoff c) = cutoff_number c
 datum_number (decibels db) = to_bits binary64 db
+datum_number d = codes.datum_number d
 
 -- number and data of a decision; what is missing is 0
 abbrev pub told : Decision → Told
-told accepted = record { number = 0; first = 0; second = 0 }
-told (refused n ds) =
-    let ns = map datum_number ds in
-    record { number = n; first = get_or ns 0 0; second = get_or ns 1 0 }
+told d =
+    let ns = map datum_number (carried d) in
+    record { number = refusal_number d; first = get_or ns 0 0; second = get_or ns 1 0 }
 
--- the statistics of a conversion, and where it is refused those of no samples; and the clips of channel c
-abbrev pub stats_of : Result ConvertStats PcmError → ConvertStats
-stats_of (Ok s) = s
-stats_of (Err e) = no_stats
-
+-- the clips of channel c, none where a conversion is refused
 abbrev pub clips_of : Result ConvertStats PcmError → ℕ → ℕ
-clips_of done c = (channel_of (stats_of done) c).clipped
+clips_of done c = (channel_of (stats_told done) c).clipped
 
 -- what a hexadecimal digit stands for, in small letters
 unfoldable pub digit : ℕ → Option ℕ
