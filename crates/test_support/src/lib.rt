@@ -14,7 +14,7 @@ pub use records::{
     bits, channel_numbers, cutoff, float, gain, rate, rate_of_hertz, route, settings, stats_are,
     stats_of_row,
 };
-pub use rows::{bytes_of, numbers, print_right, rows_of};
+pub use rows::{bytes_of, numbers, print_right, rows_of, stored_numbers};
 
 // What a conversion answers.
 pub type Converted = Result<reference::ConvertStats, reference::PcmError>;
