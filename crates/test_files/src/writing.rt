@@ -1,6 +1,7 @@
 // DSF files written and read back, and their lengths.
 ghost use Rattle.std.specs.Prelude.{◌<◌};
 
+use crate::said::read_alike;
 use std::alloc::Global;
 use std::io;
 use std::rt::Files;
@@ -57,6 +58,9 @@ pub fn all<R: Files + Print + AllocGlobal>(rt: &R) -> io::Result<()> {
         |row| { written_right(alloc, row) },
     )?;
     let lengths = stored_numbers(rt, "lengths")?;
+    if !read_alike(rt, "lengths", &lengths) {
+        println!(rt; "lengths is read otherwise by numbers")?;
+    }
     print_right(
         rt,
         "lengths",
