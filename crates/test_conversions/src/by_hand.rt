@@ -5,7 +5,9 @@ use reference::{Converter, Filter, Length, Run};
 use std::alloc::Global;
 use std::io;
 use std::rt::Files;
-use test_support::{Told, cutoff, gain, numbers, print_right, rate, refusal, rows_of, up_to};
+use test_support::{
+    Told, cutoff, gain, print_right, rate, refusal, rows_of, stored_numbers, up_to,
+};
 
 // A record: route, channels, decibels, factor, the filter's count and two taps, the numbers that it stores. A change:
 // route, decibels, factor, the answer, the record's six numbers after it. A conversion: bytes of the frame, samples of
@@ -76,7 +78,7 @@ fn conversions_right(alloc: Global, row: &Row, noise: &[u8]) -> io::Result<bool>
 
 pub fn all<R: Files + Print + AllocGlobal>(rt: &R) -> io::Result<()> {
     let alloc = rt.alloc();
-    let records = numbers(rt, "records")?;
+    let records = stored_numbers(rt, "records")?;
     let mut noise = [0u8; 9408];
     test_support::fill(70, &mut noise);
     let rows = rows_of::<27>(rt, "records", &records)?;

@@ -6,8 +6,8 @@ use std::alloc::{AllocError, Global};
 use std::io;
 use std::rt::Files;
 use test_support::{
-    Told, answered, bits, clipped, cutoff, gain, numbers, print_right, rate, refusal, route,
-    rows_of, up_to,
+    Told, answered, bits, clipped, cutoff, gain, print_right, rate, refusal, route, rows_of,
+    stored_numbers, up_to,
 };
 
 // Route, channels, decibels, factor, whether the filter is the row's own, its count and two taps; the opening's answer
@@ -120,7 +120,7 @@ fn row_right(alloc: Global, row: &Row, noise: &[u8]) -> io::Result<bool> {
 
 pub fn all<R: Files + Print + AllocGlobal>(rt: &R) -> io::Result<()> {
     let alloc = rt.alloc();
-    let changes = numbers(rt, "changes")?;
+    let changes = stored_numbers(rt, "changes")?;
     let mut noise = [0u8; 28224];
     test_support::fill(7, &mut noise);
     print_right(

@@ -6,7 +6,7 @@ use crate::input::biased;
 use reference::PcmError;
 use std::io;
 use std::rt::Files;
-use test_support::{bits, float, numbers, print_right, rows_of};
+use test_support::{bits, float, print_right, rows_of, stored_numbers};
 
 // Decibels and their factor, by their bits.
 fn is_factor(&[db, factor]: &[u64; 2]) -> bool {
@@ -93,14 +93,14 @@ fn figures() -> [[u64; 4]; 6] {
 }
 
 pub fn all<R: Files + Print + AllocGlobal>(rt: &R) -> io::Result<()> {
-    let rows = numbers(rt, "factors")?;
+    let rows = stored_numbers(rt, "factors")?;
     print_right(
         rt,
         "factors",
         rows_of::<2>(rt, "factors", &rows)?,
         |row| Ok(is_factor(row)),
     )?;
-    let rows = numbers(rt, "scalings")?;
+    let rows = stored_numbers(rt, "scalings")?;
     print_right(
         rt,
         "scalings",

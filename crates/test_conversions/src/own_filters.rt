@@ -8,7 +8,7 @@ use std::alloc::Global;
 use std::rt::Files;
 use std::{array, io};
 use test_support::{
-    Told, answered, channel_numbers, gain, numbers, print_right, refusal, rows_of, stats,
+    Told, answered, channel_numbers, gain, print_right, refusal, rows_of, stats, stored_numbers,
 };
 
 type Row = [u64; 80];
@@ -98,7 +98,7 @@ fn is_right(call: Call, made: &Made, conv: Converter, row: &Row) -> bool {
 
 pub fn all<R: Files + Print + AllocGlobal>(rt: &R) -> io::Result<()> {
     let alloc = rt.alloc();
-    let rows = numbers(rt, "filters")?;
+    let rows = stored_numbers(rt, "filters")?;
     print_right(
         rt,
         "own filters",

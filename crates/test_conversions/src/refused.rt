@@ -6,7 +6,7 @@ use reference::{Converter, Length, Run, Settings};
 use std::alloc::Global;
 use std::io;
 use std::rt::Files;
-use test_support::{Told, answered, gain, numbers, print_right, refusal, rows_of, up_to};
+use test_support::{Told, answered, gain, print_right, refusal, rows_of, stored_numbers, up_to};
 
 // A call (1 `convert_run`, 2 `convert_frame`, 3 `convert`, 4 `convert_desk`), lengths of before, run, after, output and
 // counts; number and data. Or settings: route, channels, decibels and factor as bits, and two zeros; number and data.
@@ -112,7 +112,7 @@ pub fn all<R: Files + Print + AllocGlobal>(rt: &R) -> io::Result<()> {
     let alloc = rt.alloc();
     let wrong = |row: &Row| settings_refused(alloc, row);
     let lengths = |row: &Row| lengths_refused(alloc, row);
-    let rows = numbers(rt, "refused_settings")?;
+    let rows = stored_numbers(rt, "refused_settings")?;
     print_right(
         rt,
         "refused settings",
@@ -120,7 +120,7 @@ pub fn all<R: Files + Print + AllocGlobal>(rt: &R) -> io::Result<()> {
         &wrong,
     )?;
     print_right(rt, "another factor refused", &[FACTOR], &wrong)?;
-    let rows = numbers(rt, "refused_lengths")?;
+    let rows = stored_numbers(rt, "refused_lengths")?;
     print_right(
         rt,
         "refused lengths",

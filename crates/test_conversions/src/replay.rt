@@ -7,7 +7,7 @@ use std::alloc::{AllocError, Global};
 use std::io;
 use std::rt::Files;
 use test_support::{
-    Told, behind, bytes_of, clipped, float, numbers, print_right, refusal, rows_of,
+    Told, behind, bytes_of, clipped, float, print_right, refusal, rows_of, stored_numbers,
 };
 
 // Route, channels, decibels as bits, frames, neighbours, pattern, seed; two digests of the samples, two of the bytes,
@@ -115,7 +115,7 @@ pub fn all<R: Files + Print + AllocGlobal>(rt: &R) -> io::Result<()> {
     let alloc = rt.alloc();
     let text = bytes_of(rt, "wav_headers")?;
     let headers = text.as_chunks::<44>().0;
-    let rows = numbers(rt, "conversions")?;
+    let rows = stored_numbers(rt, "conversions")?;
     print_right(
         rt,
         "conversions",

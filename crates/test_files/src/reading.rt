@@ -5,7 +5,9 @@ use reference::PcmError;
 use std::alloc::{AllocError, Global};
 use std::io;
 use std::rt::Files;
-use test_support::{answered, digest, numbers, print_right, put, refusal, rows_of, up_to, words};
+use test_support::{
+    answered, digest, print_right, put, refusal, rows_of, stored_numbers, up_to, words,
+};
 
 // What stands in a buffer before a call.
 const JUNK: u8 = 0x5a;
@@ -64,10 +66,10 @@ fn frame_right(alloc: Global, files: &[File], row: &[u64; 7]) -> io::Result<bool
 
 pub fn files<R: Files + Print + AllocGlobal>(rt: &R) -> io::Result<()> {
     let alloc = rt.alloc();
-    let list = numbers(rt, "files")?;
+    let list = stored_numbers(rt, "files")?;
     let files = rows_of::<20>(rt, "files", &list)?;
     print_right(rt, "files", files, |row| file_right(alloc, row))?;
-    let frames = numbers(rt, "frames")?;
+    let frames = stored_numbers(rt, "frames")?;
     print_right(rt, "frames", rows_of::<7>(rt, "frames", &frames)?, |row| {
         frame_right(alloc, files, row)
     })
@@ -114,14 +116,14 @@ fn out_of_window(alloc: Global, row: &[u64; 25]) -> io::Result<bool> {
 
 pub fn parts<R: Files + Print + AllocGlobal>(rt: &R) -> io::Result<()> {
     let alloc = rt.alloc();
-    let headers = numbers(rt, "headers")?;
+    let headers = stored_numbers(rt, "headers")?;
     print_right(
         rt,
         "headers",
         rows_of::<20>(rt, "headers", &headers)?,
         |row| { Ok(header_right(row)) },
     )?;
-    let windows = numbers(rt, "windows")?;
+    let windows = stored_numbers(rt, "windows")?;
     print_right(
         rt,
         "windows",

@@ -4,7 +4,7 @@ use dsf_upload::Upload;
 use std::alloc::Global;
 use std::io;
 use std::rt::Files;
-use test_support::{numbers, print_right, put, rows_of, up_to, words};
+use test_support::{print_right, put, rows_of, stored_numbers, up_to, words};
 
 const WHOLE: u64 = 65536;
 
@@ -39,9 +39,9 @@ fn upload_right(alloc: Global, heads: &[[u64; 12]], row: &[u64; 7]) -> io::Resul
 
 pub fn all<R: Files + Print + AllocGlobal>(rt: &R) -> io::Result<()> {
     let alloc = rt.alloc();
-    let heads = numbers(rt, "heads")?;
+    let heads = stored_numbers(rt, "heads")?;
     let heads = rows_of::<12>(rt, "heads", &heads)?;
-    let uploads = numbers(rt, "uploads")?;
+    let uploads = stored_numbers(rt, "uploads")?;
     print_right(
         rt,
         "uploads",

@@ -1,10 +1,11 @@
 // DSF files written and read back, and their lengths.
 ghost use Rattle.std.specs.Prelude.{◌<◌};
 
+use crate::said::read_alike;
 use std::alloc::Global;
 use std::io;
 use std::rt::Files;
-use test_support::{answered, digest, numbers, print_right, refusal, rows_of};
+use test_support::{answered, digest, print_right, refusal, rows_of, stored_numbers};
 
 // Whether a file holds these frames, each of so many bytes.
 fn holds(alloc: Global, file: &[u8], frames: &[u8], size: usize) -> io::Result<bool>
@@ -49,14 +50,17 @@ fn length_right(&[channels, bytes, number, first, second, length]: &[u64; 6]) ->
 
 pub fn all<R: Files + Print + AllocGlobal>(rt: &R) -> io::Result<()> {
     let alloc = rt.alloc();
-    let files = numbers(rt, "written")?;
+    let files = stored_numbers(rt, "written")?;
     print_right(
         rt,
         "files written",
         rows_of::<8>(rt, "written", &files)?,
         |row| { written_right(alloc, row) },
     )?;
-    let lengths = numbers(rt, "lengths")?;
+    let lengths = stored_numbers(rt, "lengths")?;
+    if !read_alike(rt, "lengths", &lengths) {
+        println!(rt; "lengths is read otherwise by numbers")?;
+    }
     print_right(
         rt,
         "lengths",

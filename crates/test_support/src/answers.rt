@@ -4,8 +4,31 @@ ghost use Rattle.reference.specs.Refusals.{decision, error_decision};
 ghost use Rattle.reference.specs.Promises.{stats_told};
 ghost use Rattle.test_support.specs.inner.Answers.{told, clips_of};
 
-use crate::{Converted, Told, bits};
+use crate::{Converted, bits};
 use reference::{ConvertStats, PcmError};
+
+// A refusal's number and data as the stored rows have them: number 0, with zeros behind it, is no refusal. An `Option`
+// would say so too, but each row has the three numbers, and what a call answers is only compared with them.
+#[derive(Clone, Copy, PartialEq, Eq, Debug)]
+pub struct Told {
+    pub number: u64,
+    pub first: u64,
+    pub second: u64,
+}
+
+impl Told {
+    pub const ACCEPTED: Told = Told {
+        number: 0,
+        first: 0,
+        second: 0,
+    };
+
+    pub fn is_accepted(&self) -> bool
+        ensures { result ≡ eqb self.now.number 0 }
+    {
+        self.number == 0
+    }
+}
 
 pub fn refusal(number: u64, first: u64, second: u64) -> Told
     ensures { result ≡ record { number = number; first = first; second = second } }

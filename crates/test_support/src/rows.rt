@@ -53,8 +53,14 @@ pub fn bytes_of<R: Files + Print + AllocGlobal>(rt: &R, path: &str) -> io::Resul
     Ok(Vec::new(rt.alloc()))
 }
 
-// The numbers of a stored file. That it ends within one is said.
-pub fn numbers<R: Files + Print + AllocGlobal>(rt: &R, path: &str) -> io::Result<Vec<u64>> {
+// The numbers of a file. Nothing is said of it, and one that is missing is an error.
+pub fn numbers<R: Files + AllocGlobal>(rt: &R, path: &str) -> io::Result<Vec<u64>> {
+    let text = fs::read(rt, path)?;
+    Ok(numbers_of(rt.alloc(), &text)?)
+}
+
+// The numbers of a stored file. That it is missing, or ends within one, is said.
+pub fn stored_numbers<R: Files + Print + AllocGlobal>(rt: &R, path: &str) -> io::Result<Vec<u64>> {
     let text = bytes_of(rt, path)?;
     if ends_within_a_number(&text) {
         println!(rt; "{path} has half a number")?;

@@ -32,10 +32,10 @@ fn case_right(alloc: std::alloc::Global, row: &Row, tables: Tables<'_>) -> io::R
 fn main(rt: HostRuntime) -> io::Result<()> {
     let alloc = rt.alloc();
     let bytes = bytes_of(&rt, "bytes")?;
-    let albums = test_support::numbers(&rt, "albums")?;
-    let tracks = test_support::numbers(&rt, "tracks")?;
-    let steps = test_support::numbers(&rt, "steps")?;
-    let parts = test_support::numbers(&rt, "parts")?;
+    let albums = test_support::stored_numbers(&rt, "albums")?;
+    let tracks = test_support::stored_numbers(&rt, "tracks")?;
+    let steps = test_support::stored_numbers(&rt, "steps")?;
+    let parts = test_support::stored_numbers(&rt, "parts")?;
     let tables = Tables {
         tracks: rows_of::<6>(&rt, "tracks", &tracks)?,
         steps: rows_of::<7>(&rt, "steps", &steps)?,

@@ -2,8 +2,8 @@
 use std::io;
 use std::rt::Files;
 use test_support::{
-    answered, behind, bytes_of, numbers, print_right, refusal, rows_of, stats_are, stats_of_row,
-    up_to,
+    answered, behind, bytes_of, print_right, refusal, rows_of, stats_are, stats_of_row,
+    stored_numbers, up_to,
 };
 
 // Channels, the output's length, the statistics, the answer, and where the sheet stands, with its length. Nothing is
@@ -34,14 +34,14 @@ fn join_right(row: &[u64; 72]) -> bool {
 
 pub fn all<R: Files + Print + AllocGlobal>(rt: &R) -> io::Result<()> {
     let sheets = bytes_of(rt, "sheets")?;
-    let rows = numbers(rt, "statistics")?;
+    let rows = stored_numbers(rt, "statistics")?;
     print_right(
         rt,
         "sheets",
         rows_of::<31>(rt, "statistics", &rows)?,
         |row| { Ok(sheet_right(row, &sheets)) },
     )?;
-    let rows = numbers(rt, "joins")?;
+    let rows = stored_numbers(rt, "joins")?;
     print_right(
         rt,
         "joined statistics",

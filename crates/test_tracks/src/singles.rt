@@ -4,7 +4,7 @@ use c_tracks::Asked;
 use std::io;
 use std::rt::Files;
 use test_support::{
-    behind, bytes_of, float, numbers, print_right, put, rate_of_hertz, rows_of, up_to,
+    behind, bytes_of, float, print_right, put, rate_of_hertz, rows_of, stored_numbers, up_to,
 };
 use tracks_open::Tracks;
 use wave_headers::Format;
@@ -76,14 +76,14 @@ fn part_right(&[frames, jobs, j, first, end]: &[u64; 5]) -> bool {
 
 pub fn all<R: Files + Print + AllocGlobal>(rt: &R) -> io::Result<()> {
     let bytes = bytes_of(rt, "single_bytes")?;
-    let rows = numbers(rt, "singles")?;
+    let rows = stored_numbers(rt, "singles")?;
     print_right(
         rt,
         "albums of one file",
         rows_of::<24>(rt, "singles", &rows)?,
         |row| { Ok(single_right(row, &bytes)) },
     )?;
-    let rows = numbers(rt, "shares")?;
+    let rows = stored_numbers(rt, "shares")?;
     print_right(
         rt,
         "parts",

@@ -9,7 +9,7 @@ use Rattle.reference.specs.declared.ConvertStats.{ConvertStats}
 use Rattle.reference.specs.declared.PcmError.{PcmError}
 use Rattle.codes.specs.Codes as codes
 use Rattle.codes.specs.Codes.{carried}
-use Rattle.test_support.specs.declared.Told.{Told}
+use Rattle.test_support.specs.declared.answers.Told.{Told}
 
 -- a datum as a number, as C is told it; but decibels by their bits
 abbrev pub datum_number : Datum → ℕ
